@@ -1,0 +1,53 @@
+-- When a stash is whole (document 01, settings and a whole record): as the test that the code makes, and as a statement.
+-- Assumes nothing.
+use Prim.Native.Nat.{ℕ, _+_, _-_, _≤_, _<_}
+use mathlib.Core.Path.{_≡_}
+use mathlib.Core.List.{List, [], _∷_, _++_}
+use mathlib.Core.Bool.{Bool, true, _&&_}
+use lib.ListN.{length, drop, replicate}
+use lib.Dec.{eqb}
+use Rattle.words.specs.Bytes.{zeros}
+use Rattle.cookiestash.specs.declared.Slot.{Slot}
+use Rattle.cookiestash.specs.declared.CookieStash.{CookieStash}
+use Rattle.cookiestash.specs.Stash.{stored, emptySlot, slotAt, wrap, inRange}
+use Rattle.cookiestash.specs.Queue.{walk}
+
+-- the bytes past the stored ones are zero
+unfoldable pub tidy : Slot → Bool
+tidy x = zeros (drop (stored (x .len)) (x .bytes))
+
+abbrev pub allTidy : List Slot → Bool
+allTidy [] = true
+allTidy (x ∷ xs) = tidy x && allTidy xs
+
+abbrev pub allFree : List Slot → Bool
+allFree [] = true
+allFree (x ∷ xs) = eqb (x .len) 0 && allFree xs
+
+-- the slots that hold no cookie: the rest of the round behind the newest, and those past the capacity
+unfoldable pub freeSlots : ℕ → CookieStash → List Slot
+freeSlots cap s = walk cap (s .slots) (wrap cap (s .read + s .held)) (cap - s .held) ++ drop cap (s .slots)
+
+-- the test: in range, tidy, and free slots have length 0
+unfoldable pub wholeOf : ℕ → CookieStash → Bool
+wholeOf cap s = inRange cap s && (allTidy (s .slots) && allFree (freeSlots cap s))
+
+-- the statement, of a slot
+pub record WholeSlot (x : Slot) : Type 0 where
+  pub short : x .len ≤ 65535
+  pub sized : length (x .bytes) ≡ 724
+  pub tidied : drop (stored (x .len)) (x .bytes) ≡ replicate (724 - stored (x .len)) 0
+
+-- and of a stash
+pub record Whole (cap : ℕ) (s : CookieStash) : Type 0 where
+  pub reads : s .read < cap
+  pub holds : s .held ≤ cap
+  pub room : cap ≤ length (s .slots)
+  pub each : (k : ℕ) → k < length (s .slots) → WholeSlot (slotAt (s .slots) k)
+  pub free : (k : ℕ) → s .held ≤ k → k < cap → slotAt (s .slots) (wrap cap (s .read + k)) ≡ emptySlot
+  pub past : (k : ℕ) → cap ≤ k → k < length (s .slots) → slotAt (s .slots) k ≡ emptySlot
+
+-- what the types alone say of a stash
+pub record Typed (s : CookieStash) : Type 0 where
+  pub eight : length (s .slots) ≡ 8
+  pub each : (k : ℕ) → k < 8 → (length (slotAt (s .slots) k .bytes) ≡ 724) × (slotAt (s .slots) k .len ≤ 65535)
