@@ -1,0 +1,44 @@
+-- Document 01, part 12: acceptance, in order 32, 40, 41, 42, 0.
+-- Assumes nothing.
+use mathlib.Core.Bool.{Bool, true, false, not, _&&_, _||_, cond}
+use mathlib.Core.List.{List, [], _∷_}
+use Prim.Native.Nat.{ℕ}
+use lib.Dec.{leb, eqb}
+use Rattle.reach.specs.Register.{reachableOf}
+use Rattle.association.specs.declared.Association.{Association}
+use Rattle.association.specs.Record.{wholeOf}
+use Rattle.accept.specs.declared.Bloom.{Bloom}
+use Rattle.accept.specs.declared.Bloom.the-variants.{NoFilter, Absent, Present}
+use Rattle.accept.specs.declared.AcceptAnswer.{AcceptAnswer}
+use Rattle.accept.specs.declared.AcceptAnswer.the-variants.{Accepted, Stratum, Loop, Unreachable, NotWhole}
+
+-- 0 accepted; 40 stratum; 41 loop; 42 unreachable; 32 record not whole
+abbrev pub numberOf : AcceptAnswer → ℕ
+numberOf Accepted = 0
+numberOf Stratum = 40
+numberOf Loop = 41
+numberOf Unreachable = 42
+numberOf NotWhole = 32
+
+-- an identifier is among those of a list
+abbrev pub among : ℕ → List ℕ → Bool
+among id [] = false
+among id (x ∷ xs) = eqb x id || among id xs
+
+abbrev pub isPresent : Bloom → Bool
+isPresent NoFilter = false
+isPresent Absent = false
+isPresent Present = true
+
+-- stratum ≠ 1 and the source's own identifier is among the local ones (as the crate compares it), or Bloom says present
+abbrev pub loops : ℕ → ℕ → List ℕ → Bloom → Bool
+loops stratum id local bloom = (not (eqb stratum 1) && among id local) || isPresent bloom
+
+-- 40 if stratum ≥ local stratum; 41 for a loop; 42 if reach is 0
+unfoldable pub acceptOf : Association → ℕ → List ℕ → Bloom → AcceptAnswer
+acceptOf a stratum local bloom =
+    cond (wholeOf a)
+    (cond (leb stratum (a .source .stratum)) Stratum
+    (cond (loops (a .source .stratum) (a .settings .source .0) local bloom) Loop
+    (cond (reachableOf (a .effort .reach)) Accepted Unreachable)))
+    NotWhole

@@ -1,0 +1,2 @@
+-- The definitions that the contracts of `accept` cite.
+pub mod Accept

@@ -1,0 +1,5 @@
+-- The definitions that the contracts of `association` cite.
+pub mod Settings
+pub mod Record
+pub mod New
+pub mod Whole

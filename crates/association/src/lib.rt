@@ -1,0 +1,301 @@
+// The association's settings and record, when a record is whole, and how a new one is made (document 01, "Settings and a whole record").
+use cookiestash::CookieStash;
+use identifiers::ReferenceId;
+use reach::Reach;
+use time_types::PollInterval;
+use version::ProtocolVersion;
+use version::Version;
+ghost use mathlib.Core.Path.{_≡_};
+ghost use Rattle.association.specs.Settings.{within, limitsHold, settingsHold};
+ghost use Rattle.association.specs.Record.{requestHolds, idleHolds, wholeOf, noRequest, blankOf, freshOf};
+ghost use Rattle.association.specs.New.{numberOf, newOf};
+
+// The largest poll exponent that a limit may be.
+pub const MAX_POLL: i8 = 17;
+
+// The longest time that a reply may take, in nanoseconds.
+pub const MAX_WINDOW: u64 = 60000000000;
+
+pub struct Settings {
+    // The limits of the poll exponent.
+    pub min: PollInterval,
+    pub max: PollInterval,
+    // After so many polls with no answer the association gives up.
+    pub startup: u8,
+    // How long a request stays live, in nanoseconds.
+    pub window: u64,
+    // The reference timestamp of an upgrade request and of an upgrade reply.
+    pub mark: u64,
+    pub start: Version,
+    pub nts: bool,
+    // The source's own identifier.
+    pub source: ReferenceId,
+}
+
+// How the polls went: the reach register, and how many were sent.
+pub struct Effort {
+    pub reach: Reach,
+    pub tries: u8,
+}
+
+// The poll exponent last used, and the least that the source asks for.
+pub struct Polls {
+    pub last: PollInterval,
+    pub remote: PollInterval,
+}
+
+// What the source last said of itself, and whether it denied service since.
+pub struct Source {
+    pub stratum: u8,
+    pub reference: ReferenceId,
+    pub denial: bool,
+}
+
+// The pending request; where none is, all is zero.
+pub struct Request {
+    pub present: bool,
+    pub id: u64,
+    pub uid: [u8; 32],
+    pub deadline: u64,
+}
+
+pub struct Association {
+    pub settings: Settings,
+    pub stash: CookieStash,
+    pub effort: Effort,
+    pub version: Version,
+    pub polls: Polls,
+    pub source: Source,
+    pub request: Request,
+}
+
+// Whether a number is neither below one bound nor above the other.
+fn between(low: u64, x: u64, high: u64) -> bool
+    ensures { λ r. ⌜ r ≡ within low x high ⌝ }
+{
+    if low <= x { x <= high } else { false }
+}
+
+// Whether poll limits stand in their order, from 0 to the largest.
+fn limits_hold(min: i8, max: i8) -> bool
+    ensures { λ r. ⌜ r ≡ limitsHold min max ⌝ }
+{
+    if 0 <= min {
+        if min <= max { max <= MAX_POLL } else { false }
+    } else {
+        false
+    }
+}
+
+impl Settings {
+    // Whether the settings are within their ranges.
+    pub fn hold(self) -> bool
+        ensures { λ r. ⌜ r ≡ settingsHold self ⌝ }
+    {
+        let min = self.min;
+        let max = self.max;
+        if !limits_hold(min.0, max.0) {
+            return false;
+        }
+        if !between(1, self.startup as u64, 8) {
+            return false;
+        }
+        between(1, self.window, MAX_WINDOW)
+    }
+}
+
+impl Request {
+    // No request is pending.
+    pub fn none() -> Request
+        ensures { λ r. ⌜ r ≡ noRequest ⌝ }
+    {
+        Request {
+            present: false,
+            id: 0,
+            uid: [0u8; 32],
+            deadline: 0,
+        }
+    }
+
+    // Whether an absent request is zero.
+    pub fn holds(self) -> bool
+        ensures { λ r. ⌜ r ≡ requestHolds self ⌝ }
+    {
+        if self.present {
+            return true;
+        }
+        if self.id != 0 {
+            return false;
+        }
+        if self.deadline != 0 {
+            return false;
+        }
+        let uid = self.uid;
+        words::zeros_from(&uid, 0)
+    }
+}
+
+// Whether what only NTS uses is zero where there is no NTS.
+fn idle_holds(nts: bool, read: usize, held: usize, uid: [u8; 32]) -> bool
+    ensures { λ r. ⌜ r ≡ idleHolds nts read held uid ⌝ }
+{
+    if nts {
+        return true;
+    }
+    if read != 0 {
+        return false;
+    }
+    if held != 0 {
+        return false;
+    }
+    words::zeros_from(&uid, 0)
+}
+
+impl Association {
+    // The blank record: all zero, V4.
+    pub fn blank() -> Association
+        ensures { λ r. ⌜ r ≡ blankOf ⌝ }
+    {
+        let zero = PollInterval(0);
+        let version = Version {
+            kind: ProtocolVersion::V4,
+        };
+        let stash = CookieStash::new();
+        let request = Request::none();
+        Association {
+            settings: Settings {
+                min: zero,
+                max: zero,
+                startup: 0,
+                window: 0,
+                mark: 0,
+                start: version,
+                nts: false,
+                source: ReferenceId(0),
+            },
+            stash,
+            effort: Effort {
+                reach: Reach(0),
+                tries: 0,
+            },
+            version,
+            polls: Polls {
+                last: zero,
+                remote: zero,
+            },
+            source: Source {
+                stratum: 0,
+                reference: ReferenceId(0),
+                denial: false,
+            },
+            request,
+        }
+    }
+
+    // Whether the record is whole.
+    pub fn whole(self) -> bool
+        ensures { λ r. ⌜ r ≡ wholeOf self ⌝ }
+    {
+        let settings = self.settings;
+        if !settings.hold() {
+            return false;
+        }
+        let stash = self.stash;
+        if !stash.whole() {
+            return false;
+        }
+        let request = self.request;
+        if !request.holds() {
+            return false;
+        }
+        let uid = request.uid;
+        idle_holds(settings.nts, stash.read, stash.held, uid)
+    }
+
+    // A new association with its settings, before it has a cookie.
+    fn fresh(settings: Settings) -> Association
+        ensures { λ r. ⌜ r ≡ freshOf settings ⌝ }
+    {
+        let stash = CookieStash::new();
+        let version = settings.start;
+        let min = settings.min;
+        let request = Request::none();
+        Association {
+            settings,
+            stash,
+            effort: Effort {
+                reach: Reach::never(),
+                tries: 0,
+            },
+            version,
+            polls: Polls {
+                last: min,
+                remote: min,
+            },
+            source: Source {
+                stratum: 16,
+                reference: ReferenceId::NONE,
+                denial: false,
+            },
+            request,
+        }
+    }
+
+    // Makes an association; with NTS it takes a first cookie list.
+    pub fn new(settings: Settings, list: &[u8]) -> NewOut
+        ensures { λ r. ⌜ r ≡ newOf settings (now (list .entry)) ⌝ }
+    {
+        if !settings.hold() {
+            let blank = Association::blank();
+            return NewOut {
+                answer: NewAnswer::BadSettings,
+                association: blank,
+            };
+        }
+        let mut made = Association::fresh(settings);
+        if settings.nts {
+            if !cookiestash::list_whole(list) {
+                let blank = Association::blank();
+                return NewOut {
+                    answer: NewAnswer::BrokenList,
+                    association: blank,
+                };
+            }
+            let empty = made.stash;
+            let stash = empty.store_list(list);
+            made.stash = stash;
+            return NewOut {
+                answer: NewAnswer::Made,
+                association: made,
+            };
+        }
+        NewOut {
+            answer: NewAnswer::Made,
+            association: made,
+        }
+    }
+}
+
+pub enum NewAnswer {
+    Made,
+    BadSettings,
+    BrokenList,
+}
+
+impl NewAnswer {
+    pub fn number(self) -> u8
+        ensures { λ r. ⌜ r ≡ numberOf self ⌝ }
+    {
+        match self {
+            NewAnswer::Made => 0,
+            NewAnswer::BadSettings => 30,
+            NewAnswer::BrokenList => 33,
+        }
+    }
+}
+
+// What `new` gives: its answer, and the association, blank where it was refused.
+pub struct NewOut {
+    pub answer: NewAnswer,
+    pub association: Association,
+}

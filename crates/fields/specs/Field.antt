@@ -1,0 +1,42 @@
+-- What stands at an offset of a run of extension fields (document 01, part 7; RFC 7822, section 3).
+-- Assumes nothing.
+use Prim.Native.Nat.{ℕ, _+_, _-_, _%_}
+use mathlib.Core.List.{List, []}
+use mathlib.Core.Bool.{Bool, _&&_, cond}
+use lib.ListN.{length}
+use lib.Dec.{ltb, leb, eqb}
+use Rattle.words.specs.Bytes.{be, part}
+use Rattle.fields.specs.declared.Step.{Step}
+use Rattle.fields.specs.declared.Step.the-variants.{Field, End, Broken}
+
+-- a field starts with its type and its length, two bytes each
+unfoldable pub kindAt : List ℕ → ℕ → ℕ
+kindAt p at = be (part p at 2)
+
+unfoldable pub lengthAt : List ℕ → ℕ → ℕ
+lengthAt p at = be (part p (at + 2) 2)
+
+-- a field is whole: its head is there, and its length, head counted, is a multiple of 4, at least the least and within the rest
+unfoldable pub fieldIs : List ℕ → ℕ → ℕ → Bool
+fieldIs p at least =
+    leb 4 (length p - at)
+    && (eqb (lengthAt p at % 4) 0 && (leb least (lengthAt p at) && leb (lengthAt p at) (length p - at)))
+
+-- an offset past the bytes is broken; a tail is not walked; a field, with its type, its body's start and length, and its end; else broken
+unfoldable pub stepAt : List ℕ → ℕ → ℕ → ℕ → Step
+stepAt p at least tail =
+    cond (ltb (length p) at) Broken
+    (cond (leb (length p - at) tail) End
+    (cond (fieldIs p at least) (Field (kindAt p at) (at + 4) (lengthAt p at - 4) (at + lengthAt p at)) Broken))
+
+-- a V4 packet: at least 16, and a tail of at most 24 bytes
+abbrev pub packetStep : List ℕ → ℕ → Step
+packetStep p at = stepAt p at 16 24
+
+-- decrypted fields: at least 4, and no tail
+abbrev pub plainStep : List ℕ → ℕ → Step
+plainStep p at = stepAt p at 4 0
+
+-- the len bytes from start on, or none where they run past the end
+unfoldable pub bodyOf : List ℕ → ℕ → ℕ → List ℕ
+bodyOf p start len = cond (leb start (length p) && leb len (length p - start)) (part p start len) []

@@ -1,0 +1,7 @@
+-- The definitions that the contracts of `fields` cite.
+pub mod Field
+pub mod Walk
+pub mod Matching
+pub mod Sound
+pub mod Walker
+pub mod Collector

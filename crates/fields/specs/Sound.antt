@@ -1,0 +1,52 @@
+-- Statements on the walk and on the groups that the theorems of proofs/Sound.antt and proofs/Uids.antt prove (document 01, parts 7 and 8).
+-- Assumes nothing.
+use Prim.Native.Nat.{ℕ, _+_, _-_, _%_, _≤_}
+use mathlib.Core.Path.{_≡_}
+use mathlib.Core.List.{List, [], _∷_, _++_}
+use mathlib.Core.Logic.{_⊎_}
+use lib.ListN.{length}
+use Rattle.fields.specs.Walk.{Found, fieldsOf, packetWalk, walkedOf}
+use Rattle.fields.specs.declared.Walked.the-variants.{Ends}
+
+-- each, and one, of a list
+abbrev pub Each : {A : Type 0} → (A → Type 0) → List A → Type 0
+Each P [] = Unit
+Each P (x ∷ xs) = P x × Each P xs
+
+abbrev pub One : {A : Type 0} → (A → Type 0) → List A → Type 0
+One P [] = ⊥
+One P (x ∷ xs) = P x ⊎ One P xs
+
+-- fields that lie one behind the other from an offset to an end: each starts with its head of four bytes, and where its body ends the next one starts
+abbrev pub InLine : ℕ → List Found → ℕ → Type 0
+InLine at [] end = at ≡ end
+InLine at (f ∷ fs) end = (f .at ≡ at) × (f .start ≡ at + 4) × InLine (f .start + f .len) fs end
+
+-- the lengths of fields, heads counted, together
+abbrev pub lengths : List Found → ℕ
+lengths [] = 0
+lengths (f ∷ fs) = (f .len + 4) + lengths fs
+
+-- a field within the bytes, of a length that is legal
+pub record Legal (p : List ℕ) (least : ℕ) (f : Found) : Type 0 where
+  pub within : f .start + f .len ≤ length p
+  pub multiple : (f .len + 4) % 4 ≡ 0
+  pub enough : least ≤ f .len + 4
+
+-- what the fields are of a walk that ends
+pub record Sound (p : List ℕ) (at least tail end : ℕ) (fs : List Found) : Type 0 where
+  pub line : InLine at fs end
+  pub legal : Each (Legal p least) fs
+  pub total : at + lengths fs ≡ end
+  pub within : end ≤ length p
+  pub left : length p - end ≤ tail
+
+-- a place of a packet's walk, which ends: the first, 48; one where a field starts; or the end
+pub record Place (p : List ℕ) (n : ℕ) : Type 0 where
+  pub end : ℕ
+  pub walked : walkedOf (packetWalk p) ≡ Ends end
+  pub place : (n ≡ 48) ⊎ (One (λ f. f .at ≡ n) (fieldsOf (packetWalk p)) ⊎ (n ≡ end))
+
+-- the bytes b are u and then others
+abbrev pub Begins : List ℕ → List ℕ → Type 0
+Begins u b = (r : List ℕ) × (b ≡ u ++ r)

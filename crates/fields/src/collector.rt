@@ -1,0 +1,99 @@
+// The cookies among decrypted fields, collected as a cookie list in a lent buffer.
+ghost use mathlib.Core.Path.{_≡_};
+ghost use mathlib.Core.List.{_++_};
+ghost use Prim.Native.Nat.{_+_, _≤_, _<_};
+ghost use lib.ListN.{length, take, drop};
+ghost use Rattle.cookiestash.specs.List.{recordOf};
+ghost use Rattle.fields.specs.Collector.{listIn, collectOf, bufferOf, numberOf};
+use crate::Step;
+use crate::Walked;
+
+// The type of a field that carries a cookie.
+const COOKIE: u16 = 0x0204;
+
+// The list's length where it is in the buffer, or why nothing was written.
+pub enum Collected {
+    Done(usize),
+    Broken,
+    TooLong,
+}
+
+impl Collected {
+    pub fn number(self) -> u8
+        ensures { λ r. ⌜ r ≡ numberOf self ⌝ }
+    {
+        match self {
+            Collected::Done(_) => 0,
+            Collected::Broken => 1,
+            Collected::TooLong => 31,
+        }
+    }
+}
+
+// How long the list is.
+fn list_length(plain: &[u8]) -> usize
+    ensures { λ r. ⌜ r ≡ length (listIn (now (plain .entry))) ⌝ }
+{
+    let mut at = 0;
+    let mut n = 0;
+    loop {
+        let Step::Field {
+            kind,
+            start: _,
+            len,
+            next,
+        } = crate::plain_field_at(plain, at)
+        else {
+            return n;
+        };
+        if kind == COOKIE {
+            n = n + 4 + len;
+        }
+        at = next;
+    }
+}
+
+// Writes a record of the list at an offset, and gives the offset behind it.
+fn put_record(out: &mut [u8], to: usize, body: &[u8]) -> usize
+    requires { ⌜ (to + 4 + length (now body) ≤ length (now out)) × (length (now body) < 65536) ⌝ }
+    ensures { λ r. ⌜ (r ≡ to + 4 + length (now (body .entry))) × (now (out .exit) ≡ take to (now (out .entry)) ++ recordOf (now (body .entry)) ++ drop (to + 4 + length (now (body .entry))) (now (out .entry))) ⌝ }
+{
+    let n = body.len();
+    out[to] = 0xC0;
+    out[to + 1] = 0x0E;
+    out[to + 2] = (n / 256) as u8;
+    out[to + 3] = (n % 256) as u8;
+    let from = to + 4;
+    bytes::copy(body, &mut out[from..]);
+    from + n
+}
+
+// Writes the list of the cookies from the buffer's start on; broken fields are refused first, then a list longer than the buffer.
+pub fn collect(plain: &[u8], out: &mut [u8]) -> Collected
+    ensures { λ r. ⌜ (r ≡ collectOf (now (plain .entry)) (length (now (out .entry)))) × (now (out .exit) ≡ bufferOf (now (plain .entry)) (now (out .entry))) ⌝ }
+{
+    let Walked::Ends(_) = crate::plain_walk(plain) else {
+        return Collected::Broken;
+    };
+    if out.len() < list_length(plain) {
+        return Collected::TooLong;
+    }
+    let mut at = 0;
+    let mut to = 0;
+    loop {
+        let Step::Field {
+            kind,
+            start,
+            len,
+            next,
+        } = crate::plain_field_at(plain, at)
+        else {
+            return Collected::Done(to);
+        };
+        if kind == COOKIE {
+            let end = start + len;
+            to = put_record(out, to, &plain[start..end]);
+        }
+        at = next;
+    }
+}

@@ -1,0 +1,162 @@
+// Extension fields (RFC 7822): what stands at an offset, the walk over them, and its places.
+ghost use mathlib.Core.Path.{_≡_};
+ghost use Prim.Native.Nat.{_≤_};
+ghost use Rattle.fields.specs.Field.{stepAt, packetStep, plainStep};
+ghost use Rattle.fields.specs.Walk.{broken, onStep, walkOf, packetWalk, plainWalk, walkedOf, isPlace};
+
+pub mod collector;
+pub mod matching;
+pub mod walker;
+
+// A packet's fields start behind its header.
+const HEADER: usize = 48;
+
+// The length that a field of a packet has at least, and that a tail has at most.
+const PACKET_LEAST: usize = 16;
+
+const PACKET_TAIL: usize = 24;
+
+// Decrypted fields have a head at least, and no tail.
+const PLAIN_LEAST: usize = 4;
+
+const PLAIN_TAIL: usize = 0;
+
+// What stands at an offset: a field, whose body is `len` bytes from `start` and which ends at `next`; the end of the walk; or neither.
+pub enum Step {
+    Field {
+        kind: u16,
+        start: usize,
+        len: usize,
+        next: usize,
+    },
+    End,
+    Broken,
+}
+
+// A field is type, length and body; the length counts the head's four bytes.
+fn field_at(p: &[u8], at: usize, least: usize, tail: usize) -> Step
+    requires { ⌜ 4 ≤ least ⌝ }
+    ensures { λ r. ⌜ r ≡ stepAt (now (p .entry)) at least tail ⌝ }
+{
+    if p.len() < at {
+        return Step::Broken; // past the bytes
+    }
+    let rest = p.len() - at;
+    if rest <= tail {
+        return Step::End; // only a tail is left
+    }
+    if rest < 4 {
+        return Step::Broken; // no room for a head
+    }
+    let kind = words::be16_at(p, at);
+    let long = words::be16_at(p, at + 2) as usize;
+    if long % 4 != 0 {
+        return Step::Broken; // not a multiple of 4
+    }
+    if long < least {
+        return Step::Broken; // shorter than a field may be
+    }
+    if rest < long {
+        return Step::Broken; // runs past the end
+    }
+    Step::Field {
+        kind,
+        start: at + 4,
+        len: long - 4,
+        next: at + long,
+    }
+}
+
+// What stands at an offset of a V4 packet.
+pub fn packet_field_at(p: &[u8], at: usize) -> Step
+    ensures { λ r. ⌜ r ≡ packetStep (now (p .entry)) at ⌝ }
+{
+    field_at(p, at, PACKET_LEAST, PACKET_TAIL)
+}
+
+// What stands at an offset of decrypted fields.
+pub fn plain_field_at(p: &[u8], at: usize) -> Step
+    ensures { λ r. ⌜ r ≡ plainStep (now (p .entry)) at ⌝ }
+{
+    field_at(p, at, PLAIN_LEAST, PLAIN_TAIL)
+}
+
+// Where a walk ends, or that it is broken.
+pub enum Walked {
+    Ends(usize),
+    Broken,
+}
+
+// What a walk says that stops at an offset.
+fn stopped(step: Step, at: usize) -> Walked
+    ensures { λ r. ⌜ r ≡ walkedOf (onStep (λ next. broken) at step) ⌝ }
+{
+    match step {
+        Step::Field {
+            kind: _,
+            start: _,
+            len: _,
+            next: _,
+        } => Walked::Broken,
+        Step::End => Walked::Ends(at),
+        Step::Broken => Walked::Broken,
+    }
+}
+
+// The walk from an offset on stops at the first answer that is not a field.
+fn walk_from(p: &[u8], first: usize, least: usize, tail: usize) -> Walked
+    requires { ⌜ 4 ≤ least ⌝ }
+    ensures { λ r. ⌜ r ≡ walkedOf (walkOf (now (p .entry)) first least tail) ⌝ }
+{
+    let mut at = first;
+    loop {
+        let step = field_at(p, at, least, tail);
+        let Step::Field {
+            kind: _,
+            start: _,
+            len: _,
+            next,
+        } = step
+        else {
+            return stopped(step, at);
+        };
+        at = next;
+    }
+}
+
+// The walk over the fields of a V4 packet.
+pub fn packet_walk(p: &[u8]) -> Walked
+    ensures { λ r. ⌜ r ≡ walkedOf (packetWalk (now (p .entry))) ⌝ }
+{
+    walk_from(p, HEADER, PACKET_LEAST, PACKET_TAIL)
+}
+
+// The walk over decrypted fields.
+pub fn plain_walk(p: &[u8]) -> Walked
+    ensures { λ r. ⌜ r ≡ walkedOf (plainWalk (now (p .entry))) ⌝ }
+{
+    walk_from(p, 0, PLAIN_LEAST, PLAIN_TAIL)
+}
+
+// Whether `end` is the packet's first place, a place where a field starts, or the place where the walk ends; a broken walk has none.
+pub fn is_place(p: &[u8], end: usize) -> bool
+    ensures { λ r. ⌜ r ≡ isPlace (now (p .entry)) end ⌝ }
+{
+    let Walked::Ends(_) = packet_walk(p) else {
+        return false;
+    };
+    let mut at = HEADER;
+    while at != end {
+        let Step::Field {
+            kind: _,
+            start: _,
+            len: _,
+            next,
+        } = packet_field_at(p, at)
+        else {
+            return false;
+        };
+        at = next;
+    }
+    true
+}

@@ -1,0 +1,5 @@
+-- Laws that belong to no one function.
+pub mod Fit
+pub mod Codes
+pub mod RoundTrip
+pub mod Determined

@@ -1,0 +1,82 @@
+-- The byte form of a reply is refused exactly where its header, its authenticated end or, with NTS, its decrypted fields do not hold.
+-- Assumes nothing.
+use mathlib.Core.Path.{_≡_, refl}
+use mathlib.Core.Bool.{Bool, true, false, _&&_, cond}
+use mathlib.Core.List.{List}
+use mathlib.Core.Logic.{_↔_, _⊎_, inl, inr, ⊎-elim}
+use Prim.Native.Nat.{ℕ}
+use native.Mathlib.Omega.{arith}
+use borrow.Author.Tests.{ne-eqb, eqb-false}
+use Rattle.header.specs.declared.HeaderVersion.{HeaderVersion}
+use Rattle.header.specs.declared.HeaderVersion.the-variants.{V3, V4}
+use Rattle.header.specs.declared.HeaderRead.{HeaderRead}
+use Rattle.header.specs.declared.HeaderRead.the-variants as H
+use Rattle.header.specs.Header.{versionCode, versionBits, fields, headerOf}
+use Rattle.header.proofs.RoundTrip.{Read, short, other, read, view}
+use Rattle.fields.specs.declared.Walked.the-variants as W
+use Rattle.fields.specs.Walk.{Walk, field, ends, broken, plainWalk, walkedOf, whole, isPlace}
+use Rattle.fields.proofs.Sound.{not-whole, place-iff}
+use Rattle.incoming.specs.declared.Reply.{Reply}
+use Rattle.incoming.specs.declared.ReplyRead.the-variants.{Decoded, Undecodable}
+use Rattle.incoming.specs.Incoming.{endHolds, plainHolds, bytesRead, onHeader, readOf}
+use Rattle.incoming.specs.Refused.{Refused}
+
+-- a test is not both true and false
+not-both : (t : Bool) → t ≡ true → t ≡ false → ⊥
+not-both t e f = let z : _≡_ {A = ℕ} 0 1 = cc in omega arith
+
+-- of two tests that both must hold, one fails
+one-fails : (a b : Bool) (r : Reply) → cond (a && b) (Decoded r) Undecodable ≡ Undecodable → (a ≡ false) ⊎ (b ≡ false)
+one-fails true true r e = let z : _≡_ {A = ℕ} 0 1 = cc in absurd (omega arith)
+one-fails true false r e = inr refl
+one-fails false b r e = inl refl
+
+then-refused : (a b : Bool) (r : Reply) → (a ≡ false) ⊎ (b ≡ false) → cond (a && b) (Decoded r) Undecodable ≡ Undecodable
+then-refused true true r e = absurd (⊎-elim (not-both true refl) (not-both true refl) e)
+then-refused true false r e = refl
+then-refused false b r e = refl
+
+is-broken : (w : Walk) → whole w ≡ false → walkedOf w ≡ W.Broken
+is-broken (field f w) e = is-broken w e
+is-broken (ends at) e = absurd (not-both true refl e)
+is-broken broken e = refl
+
+module _ (nts : Bool) (p : List ℕ) (end : ℕ) (plain : List ℕ) where
+  end-refused : (v : HeaderVersion) → versionBits p ≡ versionCode v → endHolds v p end ≡ false → Refused nts p end plain
+  end-refused V3 e f = inr (inl (e, eqb-false end 48 f))
+  end-refused V4 e f = inr (inr (inl (e, λ q. not-both (isPlace p end) (place-iff p end .1 q) f)))
+
+  plain-refused : plainHolds nts plain ≡ false → Refused nts p end plain
+  plain-refused f = by nts refl f
+    where
+      by : (b : Bool) → nts ≡ b → plainHolds b plain ≡ false → Refused nts p end plain
+      by true e f = inr (inr (inr (e, is-broken (plainWalk plain) f)))
+      by false e f = absurd (not-both true refl f)
+
+  -- of what is refused and has a header that is read, the end or the decrypted fields do not hold
+  which-fails : (v : HeaderVersion) → versionBits p ≡ versionCode v → (headerOf p ≡ H.Undecodable → ⊥) → Refused nts p end plain
+      → (endHolds v p end ≡ false) ⊎ (plainHolds nts plain ≡ false)
+  which-fails v e n (inl h) = absurd (n h)
+  which-fails V3 e n (inr (inl f)) = inl (ne-eqb end 48 (f .1))
+  which-fails V4 e n (inr (inl f)) = absurd (omega arith)
+  which-fails V3 e n (inr (inr (inl f))) = absurd (omega arith)
+  which-fails V4 e n (inr (inr (inl f))) = inl (no-place (isPlace p end) refl)
+    where
+      no-place : (t : Bool) → isPlace p end ≡ t → t ≡ false
+      no-place true q = absurd (f .1 (place-iff p end .0 q))
+      no-place false q = refl
+  which-fails v e n (inr (inr (inr f))) = inr (rw (f .0) (not-whole (plainWalk plain) (f .1)))
+
+  pub undecodable : (uid : List ℕ) (mark : ℕ) → (readOf nts uid mark p end plain ≡ Undecodable) ↔ Refused nts p end plain
+  unfolding readOf bytesRead fields
+  undecodable uid mark = (there (headerOf p) (view p) refl, back (headerOf p) (view p) refl)
+    where
+      there : (r : HeaderRead) → Read p r → headerOf p ≡ r → onHeader (bytesRead nts uid mark p end plain) r ≡ Undecodable → Refused nts p end plain
+      there _ (short l) e q = inl e
+      there _ (other a b) e q = inl e
+      there _ (read v l b) e q = ⊎-elim (end-refused v b) plain-refused (one-fails (endHolds v p end) (plainHolds nts plain) _ q)
+
+      back : (r : HeaderRead) → Read p r → headerOf p ≡ r → Refused nts p end plain → onHeader (bytesRead nts uid mark p end plain) r ≡ Undecodable
+      back _ (short l) e q = refl
+      back _ (other a b) e q = refl
+      back _ (read v l b) e q = then-refused (endHolds v p end) (plainHolds nts plain) _ (which-fails v b (λ u. let z : _≡_ {A = ℕ} 0 1 = cc in omega arith) q)

@@ -1,0 +1,32 @@
+-- Without NTS neither the unique identifier nor the decrypted fields decide anything: every group is absent.
+-- Assumes nothing.
+use mathlib.Core.Path.{_≡_, refl}
+use mathlib.Core.Bool.{false}
+use mathlib.Core.List.{List}
+use Prim.Native.Nat.{ℕ}
+use lib.ListN.{length}
+use Rattle.header.specs.declared.HeaderVersion.{HeaderVersion}
+use Rattle.header.specs.declared.HeaderVersion.the-variants.{V3, V4}
+use Rattle.header.specs.declared.HeaderRead.{HeaderRead}
+use Rattle.header.specs.declared.HeaderRead.the-variants.{Decoded, Undecodable}
+use Rattle.header.specs.Header.{headerOf}
+use Rattle.fields.specs.declared.matching.Uid.the-variants.{Absent}
+use Rattle.incoming.specs.Incoming.{groupOf, bytesRead, onHeader, readOf}
+
+pub no-group : (v : HeaderVersion) (p : List ℕ) (from to : ℕ) (uid : List ℕ) → groupOf false v p from to uid ≡ Absent
+no-group V3 p from to uid = refl
+no-group V4 p from to uid = refl
+
+pub without-nts : (uid uid′ : List ℕ) (mark : ℕ) (p : List ℕ) (end : ℕ) (plain plain′ : List ℕ) → readOf false uid mark p end plain ≡ readOf false uid′ mark p end plain′
+unfolding readOf bytesRead
+without-nts uid uid′ mark p end plain plain′ = by (headerOf p)
+  where
+    by : (r : HeaderRead) → onHeader (bytesRead false uid mark p end plain) r ≡ onHeader (bytesRead false uid′ mark p end plain′) r
+    by (Decoded h) =
+        rw (
+          no-group (h .version) p 48 end uid,
+          no-group (h .version) p 48 end uid′,
+          no-group (h .version) p end (length p) uid,
+          no-group (h .version) p end (length p) uid′,
+        )
+    by Undecodable = refl

@@ -1,0 +1,58 @@
+-- `value` meets its contract: field by field, what each call ensures.
+-- Assumes nothing.
+use borrow.Author.Needs.{needs}
+use mir.Facts.{toZ-ofZ}
+use Rattle.header.proofs.Fit.{types-fit}
+use Rattle.incoming.specs.Incoming.{valueOf}
+use Rattle.incoming.proofs.value.Statement.{statement}
+use Rattle.incoming.proofs.value.Tie as tie
+
+number-requires : tie.Need-number-requires
+number-requires c κs = search needs
+
+leap-of-requires : tie.Need-leap-of-requires
+leap-of-requires c κs = search needs
+
+is-server-requires : tie.Need-is-server-requires
+is-server-requires c κs = search needs
+
+from-short-requires : tie.Need-from-short-requires
+from-short-requires c κs = search needs
+
+from-short-requires-2 : tie.Need-from-short-requires-2
+from-short-requires-2 c κs = search needs
+
+is-upgrade-reply-requires : tie.Need-is-upgrade-reply-requires
+is-upgrade-reply-requires c κs = search needs
+
+kisses-requires : tie.Need-kisses-requires
+kisses-requires c κs = search needs
+
+returns : tie.Need-returns
+unfolding valueOf
+returns c =
+    let k = c .before .before .before .before .before .before in
+    let start = k .before .before .before .before .before .before in
+    rw (
+      c .before .kisses .ensures,
+      c .before .before .is-upgrade-reply .ensures,
+      k .from-short2 .ensures,
+      k .before .from-short .ensures,
+      k .before .before .before .is-server .ensures,
+      k .before .before .before .before .leap-of .ensures,
+      k .before .before .before .before .before .number .ensures,
+      toZ-ofZ (types-fit (start .args .h) _ (start .good .0) .precision),
+    )
+
+pub value-spec : {M : Type 1} → statement M
+value-spec =
+    tie.close
+    (tie.spec
+    number-requires
+    leap-of-requires
+    is-server-requires
+    from-short-requires
+    from-short-requires-2
+    is-upgrade-reply-requires
+    kisses-requires
+    returns)

@@ -1,0 +1,145 @@
+-- Both forms of a reply as one value (document 01, part 11): the byte form through its header, its walk and its groups, and V5's decoded form.
+-- Assumes nothing.
+use mathlib.Core.Bool.{Bool, true, false, not, _&&_, _||_, cond}
+use mathlib.Core.List.{List}
+use Prim.Native.Nat.{ℕ}
+use lib.Dec.{eqb}
+use lib.ListN.{length}
+use Rattle.identifiers.specs.Names.{named, xnon}
+use Rattle.version.specs.Upgrade.{upgradeReply}
+use Rattle.time_types.specs.Time.{duration, shortOf}
+use Rattle.header.specs.declared.Header.{Header}
+use Rattle.header.specs.declared.HeaderVersion.{HeaderVersion}
+use Rattle.header.specs.declared.HeaderVersion.the-variants.{V3, V4}
+use Rattle.header.specs.declared.HeaderRead.{HeaderRead}
+use Rattle.header.specs.declared.HeaderRead.the-variants as H
+use Rattle.header.specs.declared.Leap.{Leap}
+use Rattle.header.specs.declared.Leap.the-variants as L
+use Rattle.header.specs.declared.Mode.{Mode}
+use Rattle.header.specs.declared.Mode.the-variants as M
+use Rattle.header.specs.Header.{headerOf, versionCode}
+use Rattle.header.specs.Kiss.{kissesOf}
+use Rattle.fields.specs.declared.matching.Uid.{Uid}
+use Rattle.fields.specs.declared.matching.Uid.the-variants.{Absent}
+use Rattle.fields.specs.Walk.{isPlace, plainWalk, whole}
+use Rattle.fields.specs.Matching.{packetUid, plainUid}
+use Rattle.incoming.specs.declared.NtpLeapIndicator.{NtpLeapIndicator}
+use Rattle.incoming.specs.declared.NtpLeapIndicator.the-variants as I
+use Rattle.incoming.specs.declared.Reply.{Reply}
+use Rattle.incoming.specs.declared.ReplyRead.{ReplyRead}
+use Rattle.incoming.specs.declared.ReplyRead.the-variants.{Decoded, Undecodable}
+use Rattle.incoming.specs.declared.DecodedMode.{DecodedMode}
+use Rattle.incoming.specs.declared.DecodedMode.the-variants.{Request, Response}
+use Rattle.incoming.specs.declared.DecodedReply.{DecodedReply}
+
+-- the leap kinds as a program prints them
+abbrev pub leapCode : NtpLeapIndicator → ℕ
+leapCode I.NoWarning = 0
+leapCode I.Leap61 = 1
+leapCode I.Leap59 = 2
+leapCode I.Unknown = 3
+leapCode I.Unsynchronized = 4
+
+-- a header's leap kinds among those of a measurement
+abbrev pub leapOf : Leap → NtpLeapIndicator
+leapOf L.NoWarning = I.NoWarning
+leapOf L.Leap61 = I.Leap61
+leapOf L.Leap59 = I.Leap59
+leapOf L.Unsynchronized = I.Unsynchronized
+
+abbrev pub isServer : Mode → Bool
+isServer M.Reserved = false
+isServer M.SymmetricActive = false
+isServer M.SymmetricPassive = false
+isServer M.Client = false
+isServer M.Server = true
+isServer M.Broadcast = false
+isServer M.Control = false
+isServer M.Private = false
+
+-- the authenticated end: V3 has only tail, so that 48 is its walk's only place; V4's is a place of a walk that is not broken
+abbrev pub endHolds : HeaderVersion → List ℕ → ℕ → Bool
+endHolds V3 p end = eqb end 48
+endHolds V4 p end = isPlace p end
+
+-- decrypted field bytes are read only with NTS; broken: 1
+abbrev pub plainHolds : Bool → List ℕ → Bool
+plainHolds nts plain = not nts || whole (plainWalk plain)
+
+-- the groups, which only NTS looks at: fields before the authenticated end are authenticated, after it untrusted; V3 has none
+abbrev pub groupOf : Bool → HeaderVersion → List ℕ → ℕ → ℕ → List ℕ → Uid
+groupOf nts V3 p from to uid = Absent
+groupOf nts V4 p from to uid = cond nts (packetUid p from to uid) Absent
+
+abbrev pub encryptedOf : Bool → List ℕ → List ℕ → Uid
+encryptedOf nts plain uid = cond nts (plainUid plain uid) Absent
+
+-- the value of a header and its groups; root values are in the short format
+unfoldable pub valueOf : Header → ℕ → Uid → Uid → Uid → Reply
+valueOf h mark authenticated encrypted untrusted =
+    record {
+      version = versionCode (h .version);
+      leap = leapOf (h .leap);
+      server = isServer (h .mode);
+      stratum = h .stratum;
+      poll = h .poll;
+      precision = h .precision;
+      delay = duration (shortOf (h .delay));
+      dispersion = duration (shortOf (h .dispersion));
+      reference = h .refid;
+      origin = h .origin .0;
+      receive = h .receive;
+      transmit = h .transmit;
+      upgrade = upgradeReply (versionCode (h .version)) (h .reference .0) mark;
+      kisses = kissesOf h;
+      authenticated = authenticated;
+      encrypted = encrypted;
+      untrusted = untrusted;
+    }
+
+-- the byte form of a header that is read
+unfoldable pub bytesRead : Bool → List ℕ → ℕ → List ℕ → ℕ → List ℕ → Header → ReplyRead
+bytesRead nts uid mark p end plain h =
+    cond (endHolds (h .version) p end && plainHolds nts plain)
+    (Decoded (valueOf h mark (groupOf nts (h .version) p 48 end uid) (encryptedOf nts plain uid) (groupOf nts (h .version) p end (length p) uid)))
+    Undecodable
+
+abbrev pub onHeader : (Header → ReplyRead) → HeaderRead → ReplyRead
+onHeader f (H.Decoded h) = f h
+onHeader f H.Undecodable = Undecodable
+
+-- the byte form: undecodable header, authenticated end that is no place, and broken decrypted fields are refused
+unfoldable pub readOf : Bool → List ℕ → ℕ → List ℕ → ℕ → List ℕ → ReplyRead
+readOf nts uid mark p end plain = onHeader (bytesRead nts uid mark p end plain) (headerOf p)
+
+-- document 01's number: 1 for packet bytes that are not decodable, 0 for a reply that is read, which is no refusal
+abbrev pub numberOf : ReplyRead → ℕ
+numberOf (Decoded r) = 0
+numberOf Undecodable = 1
+
+abbrev pub isResponse : DecodedMode → Bool
+isResponse Request = false
+isResponse Response = true
+
+-- the decoded form: version 5, the client cookie as the 64 bits, no upgrade reply; it reports no reference identifier, as in the crate
+unfoldable pub decodedOf : DecodedReply → Reply
+decodedOf d =
+    record {
+      version = 5;
+      leap = d .leap;
+      server = isResponse (d .mode);
+      stratum = d .stratum;
+      poll = d .poll;
+      precision = d .precision;
+      delay = d .delay;
+      dispersion = d .dispersion;
+      reference = named xnon;
+      origin = d .cookie;
+      receive = d .receive;
+      transmit = d .transmit;
+      upgrade = false;
+      kisses = d .kisses;
+      authenticated = d .authenticated;
+      encrypted = d .encrypted;
+      untrusted = d .untrusted;
+    }

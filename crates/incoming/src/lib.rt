@@ -1,0 +1,299 @@
+// What a reply says, as one value, and how both of its forms come down to it (document 01, parts 6 to 9 and 11).
+use fields::Walked;
+use fields::matching::Uid;
+use header::Header;
+use header::HeaderRead;
+use header::HeaderVersion;
+use header::Kisses;
+use header::Leap;
+use header::Mode;
+use identifiers::ReferenceId;
+use time_types::NtpDuration;
+use time_types::NtpTimestamp;
+use time_types::PollInterval;
+ghost use mathlib.Core.Path.{_≡_};
+ghost use Rattle.incoming.specs.Incoming.{leapCode, leapOf, isServer, isResponse, endHolds, plainHolds, groupOf, encryptedOf, valueOf, readOf, numberOf, decodedOf};
+
+// A packet's fields start behind its header.
+const HEADER: usize = 48;
+
+// The leap kinds of a measurement: a header's four, and Unknown, which only the decoded form can carry.
+pub enum NtpLeapIndicator {
+    NoWarning,
+    Leap61,
+    Leap59,
+    Unknown,
+    Unsynchronized,
+}
+
+// What a reply says, in the terms in which it is judged.
+pub struct Reply {
+    pub version: u8,
+    pub leap: NtpLeapIndicator,
+    // Whether its mode is that of a server's answer.
+    pub server: bool,
+    pub stratum: u8,
+    pub poll: PollInterval,
+    pub precision: i8,
+    // Root delay and root dispersion.
+    pub delay: NtpDuration,
+    pub dispersion: NtpDuration,
+    pub reference: ReferenceId,
+    // The 64 bits that answer the request's: the origin timestamp, or V5's client cookie.
+    pub origin: u64,
+    pub receive: NtpTimestamp,
+    pub transmit: NtpTimestamp,
+    pub upgrade: bool,
+    pub kisses: Kisses,
+    // What each group of its fields says of the unique identifier.
+    pub authenticated: Uid,
+    pub encrypted: Uid,
+    pub untrusted: Uid,
+}
+
+pub enum ReplyRead {
+    Decoded(Reply),
+    Undecodable,
+}
+
+// The mode of a V5 packet.
+pub enum DecodedMode {
+    Request,
+    Response,
+}
+
+// The decoded form of a reply, V5 only: what the caller draws from the packet.
+pub struct DecodedReply {
+    pub leap: NtpLeapIndicator,
+    pub mode: DecodedMode,
+    pub stratum: u8,
+    pub poll: PollInterval,
+    pub precision: i8,
+    pub delay: NtpDuration,
+    pub dispersion: NtpDuration,
+    pub receive: NtpTimestamp,
+    pub transmit: NtpTimestamp,
+    // The client cookie.
+    pub cookie: u64,
+    pub kisses: Kisses,
+    pub authenticated: Uid,
+    pub encrypted: Uid,
+    pub untrusted: Uid,
+}
+
+impl NtpLeapIndicator {
+    // The kind as a number, for a program to print.
+    pub fn code(self) -> u8
+        ensures { λ r. ⌜ r ≡ leapCode self ⌝ }
+    {
+        match self {
+            NtpLeapIndicator::NoWarning => 0,
+            NtpLeapIndicator::Leap61 => 1,
+            NtpLeapIndicator::Leap59 => 2,
+            NtpLeapIndicator::Unknown => 3,
+            NtpLeapIndicator::Unsynchronized => 4,
+        }
+    }
+}
+
+fn leap_of(leap: Leap) -> NtpLeapIndicator
+    ensures { λ r. ⌜ r ≡ leapOf leap ⌝ }
+{
+    match leap {
+        Leap::NoWarning => NtpLeapIndicator::NoWarning,
+        Leap::Leap61 => NtpLeapIndicator::Leap61,
+        Leap::Leap59 => NtpLeapIndicator::Leap59,
+        Leap::Unsynchronized => NtpLeapIndicator::Unsynchronized,
+    }
+}
+
+fn is_server(mode: Mode) -> bool
+    ensures { λ r. ⌜ r ≡ isServer mode ⌝ }
+{
+    match mode {
+        Mode::Reserved => false,
+        Mode::SymmetricActive => false,
+        Mode::SymmetricPassive => false,
+        Mode::Client => false,
+        Mode::Server => true,
+        Mode::Broadcast => false,
+        Mode::Control => false,
+        Mode::Private => false,
+    }
+}
+
+// Whether the caller's authenticated end is a place of the packet's walk.
+fn end_holds(version: HeaderVersion, p: &[u8], end: usize) -> bool
+    ensures { λ r. ⌜ r ≡ endHolds version (now (p .entry)) end ⌝ }
+{
+    match version {
+        HeaderVersion::V3 => end == HEADER,
+        HeaderVersion::V4 => fields::is_place(p, end),
+    }
+}
+
+// Whether the decrypted fields are whole, which only NTS asks.
+fn plain_holds(nts: bool, plain: &[u8]) -> bool
+    ensures { λ r. ⌜ r ≡ plainHolds nts (now (plain .entry)) ⌝ }
+{
+    if !nts {
+        return true;
+    }
+    match fields::plain_walk(plain) {
+        Walked::Ends(_) => true,
+        Walked::Broken => false,
+    }
+}
+
+// What the packet's fields that start at `from` or later and before `to` say of the identifier, which only NTS asks.
+fn group(nts: bool, version: HeaderVersion, p: &[u8], from: usize, to: usize, uid: [u8; 32]) -> Uid
+    ensures { λ r. ⌜ r ≡ groupOf nts version (now (p .entry)) from to uid ⌝ }
+{
+    match version {
+        HeaderVersion::V3 => Uid::Absent,
+        HeaderVersion::V4 => {
+            if nts {
+                fields::matching::packet_uid(p, from, to, uid)
+            } else {
+                Uid::Absent
+            }
+        }
+    }
+}
+
+// What the decrypted fields say of the identifier, which only NTS asks.
+fn encrypted(nts: bool, plain: &[u8], uid: [u8; 32]) -> Uid
+    ensures { λ r. ⌜ r ≡ encryptedOf nts (now (plain .entry)) uid ⌝ }
+{
+    if nts {
+        fields::matching::plain_uid(plain, uid)
+    } else {
+        Uid::Absent
+    }
+}
+
+// The value of a header and its groups.
+fn value(h: Header, mark: u64, authenticated: Uid, encrypted: Uid, untrusted: Uid) -> Reply
+    ensures { λ r. ⌜ r ≡ valueOf h mark authenticated encrypted untrusted ⌝ }
+{
+    let header_version = h.version;
+    let version = header_version.number();
+    let header_leap = h.leap;
+    let leap = leap_of(header_leap);
+    let mode = h.mode;
+    let server = is_server(mode);
+    let poll = h.poll;
+    let delay = NtpDuration::from_short(h.delay);
+    let dispersion = NtpDuration::from_short(h.dispersion);
+    let reference = h.refid;
+    let receive = h.receive;
+    let transmit = h.transmit;
+    let upgrade = version::is_upgrade_reply(version, h.reference.0, mark);
+    let kisses = h.kisses();
+    Reply {
+        version,
+        leap,
+        server,
+        stratum: h.stratum,
+        poll,
+        precision: h.precision,
+        delay,
+        dispersion,
+        reference,
+        origin: h.origin.0,
+        receive,
+        transmit,
+        upgrade,
+        kisses,
+        authenticated,
+        encrypted,
+        untrusted,
+    }
+}
+
+// The byte form of a reply: the packet, its authenticated end, and the decrypted fields.
+pub fn read_reply(
+    nts: bool,
+    uid: [u8; 32],
+    mark: u64,
+    packet: &[u8],
+    end: usize,
+    plain: &[u8],
+) -> ReplyRead
+    ensures { λ r. ⌜ r ≡ readOf nts uid mark (now (packet .entry)) end (now (plain .entry)) ⌝ }
+{
+    let HeaderRead::Decoded(h) = header::read_header(packet) else {
+        return ReplyRead::Undecodable;
+    };
+    let version = h.version;
+    if !end_holds(version, packet, end) {
+        return ReplyRead::Undecodable;
+    }
+    if !plain_holds(nts, plain) {
+        return ReplyRead::Undecodable;
+    }
+    let authenticated = group(nts, version, packet, HEADER, end, uid);
+    let encrypted = encrypted(nts, plain, uid);
+    let untrusted = group(nts, version, packet, end, packet.len(), uid);
+    ReplyRead::Decoded(value(h, mark, authenticated, encrypted, untrusted))
+}
+
+impl ReplyRead {
+    // Document 01's number of the answer.
+    pub fn number(self) -> u8
+        ensures { λ r. ⌜ r ≡ numberOf self ⌝ }
+    {
+        match self {
+            ReplyRead::Decoded(_) => 0,
+            ReplyRead::Undecodable => 1,
+        }
+    }
+}
+
+fn is_response(mode: DecodedMode) -> bool
+    ensures { λ r. ⌜ r ≡ isResponse mode ⌝ }
+{
+    match mode {
+        DecodedMode::Request => false,
+        DecodedMode::Response => true,
+    }
+}
+
+impl DecodedReply {
+    // The value of a decoded reply, which is V5's.
+    pub fn value(self) -> Reply
+        ensures { λ r. ⌜ r ≡ decodedOf self ⌝ }
+    {
+        let leap = self.leap;
+        let mode = self.mode;
+        let server = is_response(mode);
+        let poll = self.poll;
+        let delay = self.delay;
+        let dispersion = self.dispersion;
+        let receive = self.receive;
+        let transmit = self.transmit;
+        let kisses = self.kisses;
+        let authenticated = self.authenticated;
+        let encrypted = self.encrypted;
+        let untrusted = self.untrusted;
+        Reply {
+            version: 5,
+            leap,
+            server,
+            stratum: self.stratum,
+            poll,
+            precision: self.precision,
+            delay,
+            dispersion,
+            reference: ReferenceId::none(),
+            origin: self.cookie,
+            receive,
+            transmit,
+            upgrade: false,
+            kisses,
+            authenticated,
+            encrypted,
+            untrusted,
+        }
+    }
+}
