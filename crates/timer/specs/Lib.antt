@@ -1,0 +1,5 @@
+-- The definitions that the contracts of `timer` cite, and the statements that its laws are of.
+pub mod Answer
+pub mod Poll
+pub mod Timer
+pub mod Rules
