@@ -4,6 +4,7 @@ use mathlib.Core.Bool.{_||_, cond}
 use mathlib.Core.List.{List, [], _∷_}
 use Prim.Native.Nat.{ℕ}
 use lib.Dec.{eqb}
+use Rattle.association.specs.Actions.{Action, send, updateSystem, setTimer, demobilize, reset}
 use Rattle.timer.specs.declared.TimerAnswer.{TimerAnswer}
 use Rattle.timer.specs.declared.TimerAnswer.the-variants.{Sent, Reset, Demobilize, NoCookie, CookieTooLarge, ShortBuffer, NotWhole}
 
@@ -16,10 +17,6 @@ numberOf NoCookie = 23
 numberOf CookieTooLarge = 24
 numberOf ShortBuffer = 31
 numberOf NotWhole = 32
-
--- what the caller then does
-pub data Action : Type 0 where
-  send updateSystem setTimer demobilize reset : Action
 
 -- 20 is send, system update, timer; 22 demobilize; 21, 23 and 24 reset; others none
 abbrev pub actionsOf : ℕ → List Action

@@ -1,0 +1,5 @@
+-- The definitions that the contracts of `reply` cite.
+pub mod Answer
+pub mod Judge
+pub mod Reply
+pub mod Numbers
