@@ -26,22 +26,22 @@ reply-decoded-core-determined κs a y z e f p q = p ∙ sym q
 
 -- ---- the thin calls and the functions over them, whose proofs are by hand
 
-abbrev reply-post : (κs : Lfts 4) → ArgsD reply.signature κs → ResD reply.signature κs → AtExit reply.ended κs → Type 0
+abbrev pub reply-post : (κs : Lfts 4) → ArgsD reply.signature κs → ResD reply.signature κs → AtExit reply.ended κs → Type 0
 reply-post =
     PostOf reply.ended (λ w. reply.clauses (w .𝓤) (w .H) (w .𝓖 .A) (w .𝓜 .mem) (w .𝓡 .run)) (λ w κs a. tt)
     (λ κs a y e. all-models _ (λ w. r-last _) (λ w. refl) (λ w. refl) (λ w. refl))
 
-abbrev reply-decoded-post : (κs : Lfts 2) → ArgsD reply-decoded.signature κs → ResD reply-decoded.signature κs → AtExit reply-decoded.ended κs → Type 0
+abbrev pub reply-decoded-post : (κs : Lfts 2) → ArgsD reply-decoded.signature κs → ResD reply-decoded.signature κs → AtExit reply-decoded.ended κs → Type 0
 reply-decoded-post =
     PostOf reply-decoded.ended (λ w. reply-decoded.clauses (w .𝓤) (w .H) (w .𝓖 .A) (w .𝓜 .mem) (w .𝓡 .run)) (λ w κs a. tt)
     (λ κs a y e. all-models _ (λ w. r-last _) (λ w. refl) (λ w. refl) (λ w. refl))
 
-abbrev reply-lent-post : (κs : Lfts 3) → ArgsD reply-lent.signature κs → ResD reply-lent.signature κs → AtExit reply-lent.ended κs → Type 0
+abbrev pub reply-lent-post : (κs : Lfts 3) → ArgsD reply-lent.signature κs → ResD reply-lent.signature κs → AtExit reply-lent.ended κs → Type 0
 reply-lent-post =
     PostOf reply-lent.ended (λ w. reply-lent.clauses (w .𝓤) (w .H) (w .𝓖 .A) (w .𝓜 .mem) (w .𝓡 .run)) (λ w κs a. tt)
     (λ κs a y e. all-models _ (λ w. r-last _) (λ w. refl) (λ w. refl) (λ w. refl))
 
-abbrev reply-decoded-lent-post : (κs : Lfts 1) → ArgsD reply-decoded-lent.signature κs → ResD reply-decoded-lent.signature κs → AtExit reply-decoded-lent.ended κs → Type 0
+abbrev pub reply-decoded-lent-post : (κs : Lfts 1) → ArgsD reply-decoded-lent.signature κs → ResD reply-decoded-lent.signature κs → AtExit reply-decoded-lent.ended κs → Type 0
 reply-decoded-lent-post =
     PostOf reply-decoded-lent.ended (λ w. reply-decoded-lent.clauses (w .𝓤) (w .H) (w .𝓖 .A) (w .𝓜 .mem) (w .𝓡 .run)) (λ w κs a. tt)
     (λ κs a y e. all-models _ (λ w. r-last _) (λ w. refl) (λ w. refl) (λ w. refl))

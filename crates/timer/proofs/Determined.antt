@@ -23,12 +23,12 @@ timer-core-determined κs a y z e f p q = (p .0 ∙ sym (q .0), p .1 ∙ sym (q 
 
 -- ---- the thin call and the function over it, whose proofs are by hand
 
-abbrev timer-post : (κs : Lfts 2) → ArgsD timer.signature κs → ResD timer.signature κs → AtExit timer.ended κs → Type 0
+abbrev pub timer-post : (κs : Lfts 2) → ArgsD timer.signature κs → ResD timer.signature κs → AtExit timer.ended κs → Type 0
 timer-post =
     PostOf timer.ended (λ w. timer.clauses (w .𝓤) (w .H) (w .𝓖 .A) (w .𝓜 .mem) (w .𝓡 .run)) (λ w κs a. tt)
     (λ κs a y e. all-models _ (λ w. r-last _) (λ w. refl) (λ w. refl) (λ w. refl))
 
-abbrev timer-lent-post : (κs : Lfts 1) → ArgsD timer-lent.signature κs → ResD timer-lent.signature κs → AtExit timer-lent.ended κs → Type 0
+abbrev pub timer-lent-post : (κs : Lfts 1) → ArgsD timer-lent.signature κs → ResD timer-lent.signature κs → AtExit timer-lent.ended κs → Type 0
 timer-lent-post =
     PostOf timer-lent.ended (λ w. timer-lent.clauses (w .𝓤) (w .H) (w .𝓖 .A) (w .𝓜 .mem) (w .𝓡 .run)) (λ w κs a. tt)
     (λ κs a y e. all-models _ (λ w. r-last _) (λ w. refl) (λ w. refl) (λ w. refl))

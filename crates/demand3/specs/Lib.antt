@@ -1,0 +1,2 @@
+-- The association as a machine of timers and replies.
+pub mod Association
