@@ -2,7 +2,7 @@
 -- and `Right` says what the case claims. proofs/Holds.antt has the one theorem: every claim of the table holds.
 -- Assumes nothing.
 use mathlib.Core.Path.{_≡_}
-use mathlib.Core.Bool.{true, false}
+use mathlib.Core.Bool.{Bool, true, false}
 use mathlib.Core.List.{List, [], _∷_}
 use Prim.Native.Nat.{ℕ, _-_, _^_}
 use lib.IntN.{ℤ, pos, negsuc}
@@ -13,6 +13,8 @@ use Rattle.cookiestash.specs.Queue.{storeAll, AllShort}
 use Rattle.version.specs.declared.ProtocolVersion.{ProtocolVersion}
 use Rattle.version.specs.declared.ProtocolVersion.the-variants.{V4, Upgrading}
 use Rattle.version.specs.Upgrade.{stepped}
+use Rattle.timer.specs.Poll.{askedOf, requestOf}
+use Rattle.reply.specs.Judge.{live}
 use Rattle.time_types.specs.Time.{difference, delayOf, offsetOf, localTime}
 use Rattle.time_types.specs.Poll.{afterRate}
 
@@ -23,6 +25,10 @@ pub data Case : Type 0 where
   counts : (reach count : ℕ) → Case
   -- a reach register, polled
   polled : (reach next : ℕ) → Case
+  -- the gap after the take and the cookie's length, and how many new ones are asked for; none is 24
+  asks : (gap length number : ℕ) → Case
+  -- when a poll was sent and its window, and whether it is live at a time; where not, a reply gives 3
+  live-at : (sent window time : ℕ) (lives : Bool) → Case
   -- a version and a plain reply
   plain-reply : (kind next : ProtocolVersion) → Case
   -- the remote minimum, the upper limit and the last poll, and the remote minimum after RATE
@@ -42,6 +48,8 @@ Right nine-stored =
     × (getOf 8 (storeAll 8 newOf (a ∷ b ∷ c ∷ d ∷ e ∷ f ∷ g ∷ h ∷ i ∷ [])) .slot ≡ slotOf b)
 Right (counts r n) = unansweredOf (record { 0 = r }) ≡ n
 Right (polled r n) = polledOf (record { 0 = r }) ≡ record { 0 = n }
+Right (asks gap len n) = askedOf gap len ≡ n
+Right (live-at sent window time lives) = (nts : Bool) (id : ℕ) (uid : List ℕ) → live (requestOf nts sent window id uid) time ≡ lives
 Right (plain-reply k n) = stepped k false ≡ n
 Right (rated r m l n) = afterRate r m l ≡ n
 Right (measured t1 t2 t3 t4 d o l) = (delayOf t1 t2 t3 t4 ≡ d) × (offsetOf t1 t2 t3 t4 ≡ o) × (localTime t1 t4 ≡ l)
@@ -59,6 +67,13 @@ table =
     ∷ counts 0 8
     ∷ counts 128 7
     ∷ polled 128 0
+    ∷ asks 8 724 1
+    ∷ asks 8 725 0
+    ∷ asks 8 90 8
+    ∷ asks 8 91 7
+    ∷ asks 1 0 1
+    ∷ live-at 1000 5000 6000 true
+    ∷ live-at 1000 5000 6001 false
     ∷ plain-reply (Upgrading 2) (Upgrading 1)
     ∷ plain-reply (Upgrading 1) V4
     ∷ plain-reply (Upgrading 0) V4
