@@ -1,0 +1,23 @@
+// Runs the cases of the wire (document 01, parts 6 to 9) and prints a line for each; tools/wire_cases.py writes what must be printed.
+mod build;
+mod collector_cases;
+mod header_cases;
+mod kiss_cases;
+mod out;
+mod pieces;
+mod sweep;
+mod uid_cases;
+mod walk_cases;
+
+use crate::sweep::Sweep;
+
+fn main() {
+    let mut bytes = [0u8; 512];
+    header_cases::run(&mut bytes);
+    sweep::run(Sweep::Kisses, &mut bytes, 0, 8);
+    walk_cases::run(&mut bytes);
+    uid_cases::run(&mut bytes);
+    uid_cases::matches();
+    let mut room = [0u8; 256];
+    collector_cases::run(&mut bytes, &mut room);
+}

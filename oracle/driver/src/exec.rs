@@ -1,0 +1,415 @@
+//! Runs operations on the published NtpSource and brings what it did to document 01's numbers and record.
+use crate::rules;
+use crate::state::*;
+use ntp_proto::tls_utils::{FakeCipher, NtpHeader, Record, set_now, set_window};
+use ntp_proto::v5::{BloomFilter, ServerId};
+use ntp_proto::*;
+use std::net::SocketAddr;
+use std::panic::{AssertUnwindSafe, catch_unwind};
+
+/// The number that stands for a panic of the crate; document 01 has none such.
+pub const PANIC: u8 = 255;
+
+/// The controller that gives the desired poll exponent and keeps the measurement.
+#[derive(Default)]
+pub struct Controller {
+    pub desired: i8,
+    pub measured: Option<Measurement<NtpDuration>>,
+}
+
+impl SourceController for Controller {
+    type ControllerMessage = ();
+    type SourceMessage = ();
+    type MeasurementDelay = NtpDuration;
+    fn handle_message(&mut self, _: ()) {}
+    fn handle_measurement(&mut self, m: Measurement<NtpDuration>) -> Option<()> {
+        self.measured = Some(m);
+        Some(())
+    }
+    fn desired_poll_interval(&self) -> PollInterval {
+        PollInterval::from_byte(self.desired as u8)
+    }
+    fn observe(&self) -> ObservableSourceTimedata {
+        ObservableSourceTimedata
+    }
+}
+
+/// What the crate draws from a packet, which is the caller's part of the reply call.
+#[derive(Debug, Clone, Default, PartialEq, Eq)]
+pub struct Drawn {
+    /// The version in the first byte, 0 where there is none.
+    pub version: u8,
+    /// The crate could decode it.
+    pub decoded: bool,
+    /// The crate's parse error by name, empty if decoded.
+    pub error: String,
+    /// Authenticated end, 0 where decryption failed.
+    pub auth: usize,
+    pub plain: Vec<u8>,
+    pub cookies: Vec<Vec<u8>>,
+    pub v5: Option<Decoded>,
+}
+
+fn leap_code(l: NtpLeapIndicator) -> u8 {
+    match l {
+        NtpLeapIndicator::NoWarning => 0,
+        NtpLeapIndicator::Leap61 => 1,
+        NtpLeapIndicator::Leap59 => 2,
+        NtpLeapIndicator::Unknown => 3,
+        NtpLeapIndicator::Unsynchronized => 4,
+    }
+}
+
+/// A crate's record as the rules have it: tries held at 255, no bytes of a cookie over 724.
+fn state_of(r: &Record) -> State {
+    let (read, cookies) = r.stash.clone().unwrap_or_default();
+    State {
+        reach: r.reach,
+        tries: r.tries.min(255) as u8,
+        version: r.version,
+        last: r.last_poll,
+        remote: r.remote_min,
+        pending: r.pending.map(|(id, uid, deadline)| (id, uid.unwrap_or([0; 32]), deadline)),
+        denial: r.denied,
+        stratum: r.stratum,
+        refid: u32::from_be_bytes(r.reference_id),
+        read,
+        cookies: cookies.iter().map(|c| stored(c)).collect(),
+    }
+}
+
+/// A crate's action, with what is looked at.
+#[derive(PartialEq)]
+enum Action {
+    Send(Vec<u8>),
+    Update { measurement: bool },
+    Timer { zero: bool },
+    Reset,
+    Demobilize,
+}
+
+fn actions(from: NtpSourceActionIterator<()>) -> Vec<Action> {
+    from.map(|a| match a {
+        NtpSourceAction::Send(p) => Action::Send(p),
+        NtpSourceAction::UpdateSystem(u) => Action::Update { measurement: u.has_message() },
+        NtpSourceAction::SetTimer(d) => Action::Timer { zero: d.is_zero() },
+        NtpSourceAction::Reset => Action::Reset,
+        NtpSourceAction::Demobilize => Action::Demobilize,
+    })
+    .collect()
+}
+
+pub struct Exec {
+    source: Option<NtpSource<Controller>>,
+    pub nts: bool,
+    startup: usize,
+    /// Numbers 3 and 4 leave the same text; 3 stands first in the file.
+    line_of_3: u32,
+}
+
+impl Exec {
+    pub fn new() -> Self {
+        let line_of_3 = include_str!("../../published/source.rs")
+            .lines()
+            .position(|l| l.contains("Received old/unexpected packet from source"))
+            .unwrap() as u32
+            + 1;
+        Exec { source: None, nts: false, startup: 3, line_of_3 }
+    }
+
+    fn source(&mut self) -> &mut NtpSource<Controller> {
+        self.source.as_mut().unwrap()
+    }
+
+    pub fn state(&mut self) -> State {
+        state_of(&self.source().record())
+    }
+
+    /// Makes the crate's record that of the rules, after a step where they differ for a listed reason.
+    pub fn follow(&mut self, s: &State) {
+        let mut r = self.source().record();
+        r.reach = s.reach;
+        r.tries = s.tries as usize;
+        r.version = s.version;
+        r.last_poll = s.last;
+        r.remote_min = s.remote;
+        r.pending = s.pending.map(|(id, uid, deadline)| (id, self.nts.then_some(uid), deadline));
+        r.denied = s.denial;
+        r.stratum = s.stratum;
+        r.reference_id = s.refid.to_be_bytes();
+        if self.nts {
+            let cookies = s.cookies.iter().map(|(n, b)| if *n > STORED { vec![0; *n] } else { b.clone() }).collect();
+            r.stash = Some((s.read, cookies));
+        }
+        self.source().set_record(&r);
+    }
+
+    pub fn run(&mut self, op: &Op) -> (Answer, Option<Drawn>) {
+        tracing::oracle::take();
+        rand::oracle::clear();
+        match op {
+            Op::New { nts, min, max, startup, window, start, source, cookies } => {
+                self.nts = *nts;
+                self.startup = *startup as usize;
+                set_window(*window);
+                let (made, acts) = NtpSource::make(
+                    SocketAddr::new(*source, 123),
+                    *min,
+                    *max,
+                    *start,
+                    Controller::default(),
+                    nts.then_some(cookies.as_slice()),
+                );
+                self.source = Some(made);
+                assert!(actions(acts) == [Action::Timer { zero: true }]);
+                (Answer::default(), None)
+            }
+            Op::Timer { now, desired, id, uid, .. } => (self.timer(*now, *desired, *id, uid), None),
+            Op::Reply { now, t1, t4, packet, fail } => {
+                set_now(*now);
+                FakeCipher::force_fail(*fail);
+                let drawn = catch_unwind(AssertUnwindSafe(|| self.draw(packet))).unwrap_or_default();
+                let answer = self.reply(*now, *t1, *t4, packet);
+                FakeCipher::force_fail(false);
+                (answer, Some(drawn))
+            }
+            Op::Accept { stratum, local, bloom } => {
+                let mut snapshot = NtpSourceSnapshot::from_source(self.source());
+                // A server identifier draws ten different 12-bit numbers; the system's own is not the other one.
+                rand::oracle::push_bytes(&[0, 1, 0, 2, 0, 3, 0, 4, 0, 5, 0, 6, 0, 7, 0, 8, 0, 9, 0, 10]);
+                let system = SystemSnapshot::default();
+                rand::oracle::push_bytes(&[1, 1, 1, 2, 1, 3, 1, 4, 1, 5, 1, 6, 1, 7, 1, 8, 1, 9, 1, 10]);
+                let other = ServerId::default();
+                snapshot.bloom_filter = (*bloom != Bloom::None).then(|| {
+                    let mut f = BloomFilter::new();
+                    f.add_id(if *bloom == Bloom::Present { &system.server_id } else { &other });
+                    f
+                });
+                let number = match snapshot.accept_synchronization(*stratum, local, &system) {
+                    Ok(()) => 0,
+                    Err(AcceptSynchronizationError::Stratum) => 40,
+                    Err(AcceptSynchronizationError::Loop) => 41,
+                    Err(AcceptSynchronizationError::ServerUnreachable) => 42,
+                    Err(AcceptSynchronizationError::Distance) => panic!("Distance is never given"),
+                };
+                (Answer { number, ..Answer::default() }, None)
+            }
+            Op::Poke(pairs) => {
+                let mut r = self.source().record();
+                for (key, value) in pairs {
+                    match *key {
+                        "reach" => r.reach = *value as u8,
+                        "tries" => r.tries = *value as usize,
+                        "stratum" => r.stratum = *value as u8,
+                        "last" => r.last_poll = *value as i8,
+                        "remote" => r.remote_min = *value as i8,
+                        other => panic!("no number {other}"),
+                    }
+                }
+                self.source().set_record(&r);
+                (Answer::default(), None)
+            }
+        }
+    }
+
+    fn timer(&mut self, now: u64, desired: i8, id: u64, uid: &[u8; 32]) -> Answer {
+        let (nts, startup) = (self.nts, self.startup);
+        set_now(now);
+        rand::oracle::push_bytes(&id.to_be_bytes());
+        if nts {
+            rand::oracle::push_bytes(uid);
+        }
+        rand::oracle::push_float(1.03);
+        let oldest = self.source().record().stash.and_then(|(_, c)| c.first().cloned());
+        let source = self.source();
+        source.controller().desired = desired;
+        // STARTUP_TRIES_THRESHOLD is a constant (3) and only that test reads `tries`: another limit is shown as 0 or 3.
+        let tries = source.tries();
+        if startup != 3 {
+            source.set_tries(if tries >= startup { 3 } else { 0 });
+        }
+        let shown = source.tries();
+        let result = catch_unwind(AssertUnwindSafe(|| source.handle_timer()));
+        let polled = source.tries() - shown;
+        source.set_tries(tries.saturating_add(polled));
+        let (_, text) = tracing::oracle::take();
+        let number = |number| Answer { number, ..Answer::default() };
+        let Ok(acts) = result else { return number(PANIC) };
+        match actions(acts).as_slice() {
+            [Action::Demobilize] => number(22),
+            [Action::Reset] if polled == 0 => number(21),
+            [Action::Reset] if text.contains("Cookie too large") => number(24),
+            [Action::Reset] => number(23),
+            [Action::Send(p), Action::Update { measurement: false }, Action::Timer { zero: false }] => {
+                assert_eq!(rand::oracle::left(), (0, 0));
+                let poll = source.record().last_poll;
+                Answer { number: 20, sent: Some(sent(p, poll, id, nts.then_some(uid), oldest)), measured: None }
+            }
+            _ => panic!("actions that document 01 does not name"),
+        }
+    }
+
+    fn reply(&mut self, now: u64, t1: u64, t4: u64, packet: &[u8]) -> Answer {
+        let line_of_3 = self.line_of_3;
+        tracing::oracle::take();
+        let source = self.source();
+        source.controller().measured = None;
+        let result = catch_unwind(AssertUnwindSafe(|| {
+            source.handle_incoming(packet, NtpInstant::now(), NtpTimestamp::of(t1), NtpTimestamp::of(t4))
+        }));
+        let (line, text) = tracing::oracle::take();
+        let measured = source.controller().measured.take().map(|m| Measured {
+            delay: m.delay.raw(),
+            offset: m.offset.raw(),
+            local: m.localtime.raw(),
+            mono: m.monotime.nanos(),
+            stratum: m.stratum,
+            root_delay: m.root_delay.raw(),
+            root_dispersion: m.root_dispersion.raw(),
+            leap: leap_code(m.leap),
+            precision: m.precision,
+        });
+        assert!(measured.as_ref().is_none_or(|m| m.mono == now));
+        let Ok(acts) = result else { return Answer { number: PANIC, ..Answer::default() } };
+        let number = match actions(acts).as_slice() {
+            [Action::Update { measurement: true }] => 0,
+            [Action::Demobilize] => 7,
+            [] => match text {
+                t if t.contains("received invalid packet") => 1,
+                t if t.contains("unexpected version") => 2,
+                t if t.contains("old/unexpected") && line == line_of_3 => 3,
+                t if t.contains("old/unexpected") => 4,
+                t if t.contains("requested rate limit") => 5,
+                t if t.contains("denied service") => 6,
+                t if t.contains("not-acknowledge") => 8,
+                t if t.contains("Unrecognized KISS") => 9,
+                t if t.contains("excessive stratum") => 10,
+                t if t.contains("invalid mode") => 11,
+                t => panic!("no number for the event {t}"),
+            },
+            _ => panic!("actions that document 01 does not name"),
+        };
+        assert_eq!(measured.is_some(), number == 0);
+        Answer { number, sent: None, measured }
+    }
+
+    /// What the crate draws from a packet; where it refuses a V4 one, the caller's part is that of rule 7's walk, since
+    /// the rule may still decode it.
+    fn draw(&mut self, packet: &[u8]) -> Drawn {
+        let mut d = Drawn { auth: 48, ..Drawn::default() };
+        d.version = packet.first().map_or(0, |b| (b >> 3) & 7);
+        let record = self.source().record();
+        FakeCipher::take_seen();
+        let cipher: Option<&dyn Cipher> = self.nts.then_some(&FakeCipher);
+        match NtpPacket::deserialize(packet, &cipher) {
+            Ok((p, _)) => {
+                d.decoded = true;
+                d.cookies = p.new_cookies().collect();
+                if let NtpHeader::V5(h) = p.header() {
+                    let uid = record.pending.and_then(|(_, uid, _)| uid).unwrap_or([0; 32]);
+                    d.v5 = Some(Decoded {
+                        leap: leap_code(p.leap()),
+                        response: p.mode() == NtpAssociationMode::Server,
+                        stratum: p.stratum(),
+                        poll: p.poll().as_log(),
+                        precision: p.precision(),
+                        root_delay: p.root_delay().raw(),
+                        root_dispersion: p.root_dispersion().raw(),
+                        receive: p.receive_timestamp().raw(),
+                        transmit: p.transmit_timestamp().raw(),
+                        identifier: u64::from_be_bytes(h.client_cookie.0),
+                        kiss: [
+                            p.is_kiss_rate(PollInterval::from_byte(record.last_poll as u8)),
+                            p.is_kiss_deny(),
+                            p.is_kiss_rstr(),
+                            p.is_kiss_ntsn(),
+                            p.is_kiss(),
+                        ],
+                        uid: p.uid_groups(&uid),
+                    });
+                }
+            }
+            Err(PacketParsingError::DecryptError(_)) => d.error = "DecryptError".into(),
+            Err(e) => d.error = format!("{e:?}"),
+        }
+        for (end, plain) in FakeCipher::take_seen() {
+            if d.decoded {
+                d.auth = end;
+                d.plain.extend(plain.unwrap());
+            }
+        }
+        let whole = d.version == 4 && packet.len() >= 48 && rules::walk(packet, 48, 16, 24).is_some();
+        if whole {
+            let (auth, plain) = self.callers_part(packet);
+            if d.decoded {
+                assert_eq!((auth, &plain), (d.auth, &d.plain), "the caller's walk and the crate's part");
+            }
+            (d.auth, d.plain) = (auth, plain);
+        }
+        d
+    }
+
+    /// Authenticated end and decrypted bytes by rule 7's walk: 0 where a 0404 field is broken, is met without NTS or does
+    /// not decrypt; it stops behind decrypted fields that are broken, as the crate does.
+    fn callers_part(&self, packet: &[u8]) -> (usize, Vec<u8>) {
+        let (mut auth, mut plain) = (48, vec![]);
+        let (fields, _) = rules::walk(packet, 48, 16, 24).unwrap();
+        for (_, at, body) in fields.into_iter().filter(|f| f.0 == 0x0404) {
+            let decrypted =
+                sealed(body).filter(|_| self.nts).and_then(|(nonce, text)| FakeCipher.decrypt(nonce, text, &packet[..at]).ok());
+            FakeCipher::take_seen();
+            let Some(p) = decrypted else { return (0, vec![]) };
+            auth = at;
+            plain.extend(&p);
+            if rules::walk(&p, 0, 4, 0).is_none() {
+                break;
+            }
+        }
+        (auth, plain)
+    }
+}
+
+/// Nonce and ciphertext of a 0404 field, if they fit.
+fn sealed(body: &[u8]) -> Option<(&[u8], &[u8])> {
+    let at = |i: usize| Some(u16::from_be_bytes([*body.get(i)?, *body.get(i + 1)?]) as usize);
+    let (nonce, text) = (at(0)?, at(2)?);
+    let start = 4 + nonce.next_multiple_of(4);
+    Some((body.get(4..4 + nonce)?, body.get(start..start + text)?))
+}
+
+/// A sent packet, read with a few lines of our own; identifier, uid and cookie must be the ones given.
+fn sent(p: &[u8], poll: i8, id: u64, uid: Option<&[u8; 32]>, oldest: Option<Vec<u8>>) -> Sent {
+    let version = (p[0] >> 3) & 7;
+    let place = if version == 5 { 24 } else { 40 };
+    assert_eq!(p[place..place + 8], id.to_be_bytes());
+    assert_eq!(p[2] as i8, poll);
+    let (mut cookie, mut asked, mut at) = (None, 0, 48);
+    while at < p.len() {
+        let n = u16::from_be_bytes([p[at + 2], p[at + 3]]) as usize;
+        let body = &p[at + 4..at + n];
+        match [p[at], p[at + 1]] {
+            [1, 4] => assert_eq!(body, uid.unwrap()),
+            [2, 4] => {
+                asked += 1;
+                cookie = Some(body);
+            }
+            [3, 4] => asked += 1,
+            _ => {}
+        }
+        at += n.next_multiple_of(4);
+    }
+    // On the wire the cookie is padded with zeros.
+    let cookie = cookie.map_or(vec![], |wire| {
+        let oldest = oldest.unwrap();
+        assert!(wire.starts_with(&oldest) && wire[oldest.len()..].iter().all(|b| *b == 0));
+        oldest
+    });
+    let kind = match (version, asked > 0) {
+        (4, false) if p[16..24] == UPGRADE_MARK.to_be_bytes() => "v4-upgrade",
+        (4, false) => "v4",
+        (5, false) => "v5",
+        (4, true) => "nts-v4",
+        _ => "nts-v5",
+    };
+    Sent { kind, poll, cookie, asked }
+}

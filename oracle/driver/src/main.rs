@@ -1,0 +1,164 @@
+//! Runs the published crate and document 01's rules side by side and writes what the drill must answer.
+mod both;
+mod drill;
+mod exec;
+mod limits;
+mod own;
+mod random;
+mod rules;
+mod speed;
+mod state;
+
+use both::{Both, Step};
+use drill::Log;
+use random::{Manner, Random};
+use state::Op;
+use std::collections::BTreeMap;
+use std::process::ExitCode;
+
+const USAGE: &str = "driver log SEED CASES STEPS [wild] [set] [nts|plain] OUT.drill OUT.expected
+driver check SEED CASES STEPS [wild] [set] [nts|plain]
+driver limits OUT.drill OUT.expected
+driver own OUT.drill OUT.expected
+driver sample OUT.drill OUT.expected
+driver speed timer|reply|timer-nts|reply-nts N [base]";
+
+/// Runs CASES times STEPS random steps, of which a case has at most STEPS; `run` does a step, given its place in the case.
+fn cases(seed: u64, cases: u64, steps: u64, manner: Manner, mut run: impl FnMut(&mut Both, &Op, u64) -> Step) {
+    let (mut left, mut case) = (cases * steps, 0);
+    while left > 0 {
+        let mut random = Random::new(seed.wrapping_mul(1_000_003).wrapping_add(case), manner);
+        let mut both = Both::new();
+        let mut op = random.first();
+        for i in 0..steps.min(left) {
+            let step = run(&mut both, &op, i);
+            left -= 1;
+            let number = step.of_rules.0.number;
+            // An association that is reset or demobilized is dropped by and by.
+            if [7, 21, 22, 23].contains(&number) && random.r.one_in(3) {
+                break;
+            }
+            random.saw(number, &step.of_rules.1);
+            op = random.next();
+        }
+        case += 1;
+    }
+}
+
+fn write_cases(log: &mut Log, seed: u64, count: u64, steps: u64, manner: Manner) {
+    cases(seed, count, steps, manner, |both, op, i| {
+        let step = log.step(both, op);
+        if i % 4 == 1 {
+            log.collect(&step);
+        }
+        step
+    });
+}
+
+/// Sets the crate against the rules, without a log.
+fn check(seed: u64, count: u64, steps: u64, manner: Manner) -> ExitCode {
+    let mut numbers: BTreeMap<(&str, u8), u64> = BTreeMap::new();
+    let mut reasons: BTreeMap<&str, u64> = BTreeMap::new();
+    let (mut passed, mut failed, mut left_out) = (0u64, 0u64, 0u64);
+    cases(seed, count, steps, manner, |both, op, _| {
+        let step = both.step(op);
+        let word = match op {
+            Op::New { .. } => "new",
+            Op::Timer { .. } => "timer",
+            Op::Reply { .. } => "reply",
+            Op::Accept { .. } => "accept",
+            Op::Poke(_) => "poke",
+        };
+        *numbers.entry((word, step.of_rules.0.number)).or_default() += 1;
+        left_out += step.left_out as u64;
+        if let Some(reason) = step.reason {
+            *reasons.entry(reason).or_default() += 1;
+        }
+        if step.failed {
+            failed += 1;
+            if failed <= 5 {
+                println!("crate and rules differ, no reason listed:\n{}", drill::explain(op, &step));
+            }
+        } else {
+            passed += 1;
+        }
+        step
+    });
+    for ((word, number), count) in &numbers {
+        println!("{word} {number}: {count}");
+    }
+    for (reason, text) in both::REASONS {
+        println!("listed {reason}: {} ({text})", reasons.get(reason).unwrap_or(&0));
+    }
+    println!("V5 packets without a decoded form: {left_out}");
+    println!("{passed} passed, {failed} failed");
+    ExitCode::from((failed > 0) as u8)
+}
+
+/// The log that is kept: under a million bytes of answers, and every number is reached.
+fn sample(log: &mut Log) {
+    log.shown = (2, 7);
+    own::write(log);
+    limits::write(log);
+    for (i, nts) in [false, true].into_iter().enumerate() {
+        for (j, (wild, set)) in [(false, false), (true, false), (true, true)].into_iter().enumerate() {
+            let manner = Manner { wild, set, nts: Some(nts), small: true };
+            log.comment(&format!("random steps: nts {nts}, wild {wild}, set {set}"));
+            write_cases(log, (3 * i + j) as u64, 12, 40, manner);
+        }
+    }
+    let reached = |word: &str, numbers: &[u8]| {
+        for n in numbers {
+            assert!(log.numbers.contains_key(&format!("{word} {n}")), "{word} {n} is not reached");
+        }
+    };
+    reached("new", &[0, 30, 33]);
+    reached("timer", &[20, 21, 22, 23, 24, 31, 32]);
+    reached("reply", &[0, 1, 2, 3, 4, 5, 6, 7, 8, 9, 10, 11, 32, 33]);
+    reached("reply5", &[0, 2, 3, 4, 5, 6, 7, 8, 9, 10, 11, 32, 33]);
+    reached("accept", &[0, 32, 40, 41, 42]);
+    reached("collect", &[0, 1, 31]);
+}
+
+/// Writes a log, says what is in it, and fails if crate and rules differ somewhere for no listed reason.
+fn write_log(drill: &str, expected: &str, write: impl FnOnce(&mut Log)) -> ExitCode {
+    let mut log = match Log::create(drill, expected) {
+        Ok(log) => log,
+        Err(e) => {
+            eprintln!("the files of the log: {e}");
+            return ExitCode::from(2);
+        }
+    };
+    write(&mut log);
+    ExitCode::from((log.finish() > 0) as u8)
+}
+
+fn main() -> ExitCode {
+    const MANNERS: [&str; 4] = ["wild", "set", "nts", "plain"];
+    let args: Vec<String> = std::env::args().skip(1).collect();
+    let has = |name: &str| args.iter().any(|a| a == name);
+    let nts = if has("nts") { Some(true) } else { has("plain").then_some(false) };
+    let manner = Manner { wild: has("wild"), set: has("set"), nts, small: false };
+    let rest: Vec<&str> = args.iter().map(String::as_str).filter(|a| !MANNERS.contains(a)).collect();
+    let numbers: Vec<u64> = rest.iter().skip(1).map_while(|a| a.parse().ok()).collect();
+    match (rest.as_slice(), numbers.as_slice()) {
+        (["log", _, _, _, drill, expected], [seed, count, steps]) => {
+            write_log(drill, expected, |log| write_cases(log, *seed, *count, *steps, manner))
+        }
+        (["check", _, _, _], [seed, count, steps]) => check(*seed, *count, *steps, manner),
+        (["limits", drill, expected], _) => write_log(drill, expected, limits::write),
+        (["own", drill, expected], _) => write_log(drill, expected, own::write),
+        (["sample", drill, expected], _) => write_log(drill, expected, sample),
+        (["speed", kind, calls, more @ ..], _) if speed::KINDS.contains(kind) && (more.is_empty() || more == ["base"]) => {
+            match calls.parse() {
+                Ok(calls) => speed::run(kind, calls, !more.is_empty()),
+                Err(_) => return ExitCode::from(2),
+            }
+            ExitCode::SUCCESS
+        }
+        _ => {
+            eprintln!("{USAGE}");
+            ExitCode::from(2)
+        }
+    }
+}

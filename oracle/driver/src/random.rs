@@ -1,0 +1,474 @@
+//! Random operations from a seed, within the drill's limits.
+use crate::state::*;
+use ntp_proto::tls_utils::FakeCipher;
+use std::net::{IpAddr, Ipv4Addr, Ipv6Addr};
+
+/// The drill holds packets, decrypted bytes and cookie lists of at most this many bytes.
+pub const HELD: usize = 4096;
+
+/// SplitMix64.
+pub struct Rng(u64);
+
+impl Rng {
+    pub fn next(&mut self) -> u64 {
+        self.0 = self.0.wrapping_add(0x9e3779b97f4a7c15);
+        let mut z = self.0;
+        z = (z ^ (z >> 30)).wrapping_mul(0xbf58476d1ce4e5b9);
+        z = (z ^ (z >> 27)).wrapping_mul(0x94d049bb133111eb);
+        z ^ (z >> 31)
+    }
+    pub fn below(&mut self, n: u64) -> u64 {
+        self.next() % n
+    }
+    pub fn one_in(&mut self, n: u64) -> bool {
+        self.below(n) == 0
+    }
+    pub fn pick<T: Copy>(&mut self, s: &[T]) -> T {
+        s[self.below(s.len() as u64) as usize]
+    }
+    pub fn bytes(&mut self, n: usize) -> Vec<u8> {
+        let mut v = Vec::with_capacity(n + 8);
+        while v.len() < n {
+            v.extend(self.next().to_be_bytes());
+        }
+        v.truncate(n);
+        v
+    }
+    pub fn array<const N: usize>(&mut self) -> [u8; N] {
+        self.bytes(N).try_into().unwrap()
+    }
+}
+
+/// What is generated.
+#[derive(Clone, Copy, Default)]
+pub struct Manner {
+    /// Fields of odd lengths and types, odd tails: where rule 7 and the crate part.
+    pub wild: bool,
+    /// Numbers of the record set by hand between the steps.
+    pub set: bool,
+    /// With NTS always or never, or as it falls.
+    pub nts: Option<bool>,
+    /// Short cookies only, for a log that is kept.
+    pub small: bool,
+}
+
+pub struct Random {
+    pub r: Rng,
+    manner: Manner,
+    now: u64,
+    base: u64,
+    nts: bool,
+    source: IpAddr,
+    sent: Vec<(u64, [u8; 32])>,
+    pending: Option<(u64, [u8; 32], u64)>,
+    version: Version,
+    stratum: u8,
+    denial: bool,
+    previous: Option<Vec<u8>>,
+    /// The remote minimum was just set to 127, where RATE has an edge.
+    rate_next: bool,
+}
+
+const LENGTHS: [usize; 18] = [0, 1, 4, 15, 16, 64, 88, 90, 91, 92, 100, 104, 180, 362, 363, 724, 725, 1000];
+const SHORT_LENGTHS: [usize; 8] = [0, 1, 4, 16, 24, 90, 91, 100];
+
+impl Random {
+    pub fn new(seed: u64, manner: Manner) -> Self {
+        let mut r = Rng(seed.wrapping_mul(0xd1342543de82ef95) ^ 0x6f7261636c65);
+        let base = r.next();
+        Random {
+            r,
+            manner,
+            now: 0,
+            base,
+            nts: false,
+            source: IpAddr::V4(Ipv4Addr::UNSPECIFIED),
+            sent: vec![],
+            pending: None,
+            version: Version::V4,
+            stratum: 16,
+            denial: false,
+            previous: None,
+            rate_next: false,
+        }
+    }
+
+    /// Up to `most` cookies, with their headers at most `room` bytes; in a V4 field a length is a multiple of 4.
+    fn cookies(&mut self, most: u64, field: bool, mut room: usize) -> Vec<Vec<u8>> {
+        let mut out = vec![];
+        for _ in 0..self.r.below(most + 1) {
+            let mut n = match (self.r.one_in(2), self.manner.small) {
+                (true, false) => 100,
+                (false, false) => self.r.pick(&LENGTHS),
+                (true, true) => 16,
+                (false, true) => self.r.pick(&SHORT_LENGTHS),
+            };
+            if field {
+                n = n / 4 * 4;
+            }
+            if n + 4 > room {
+                break;
+            }
+            room -= n + 4;
+            out.push(self.r.bytes(n));
+        }
+        out
+    }
+
+    fn version(&mut self) -> Version {
+        match self.r.below(6) {
+            0 | 1 => Version::V4,
+            2 => Version::V4UpgradingToV5 { tries_left: self.r.pick(&[8, 3, 2, 1, 0, 255]) },
+            3 => Version::V4UpgradingToV5 { tries_left: 8 },
+            4 => Version::UpgradedToV5,
+            _ => Version::V5,
+        }
+    }
+
+    fn address(&mut self) -> IpAddr {
+        if self.r.one_in(4) {
+            IpAddr::V6(Ipv6Addr::from(self.r.array::<16>()))
+        } else {
+            IpAddr::V4(Ipv4Addr::from(self.r.array::<4>()))
+        }
+    }
+
+    /// The operation that begins a case.
+    pub fn first(&mut self) -> Op {
+        let min = self.r.below(18) as i8;
+        let max = min + self.r.below(18 - min as u64) as i8;
+        let (min, max) = if self.r.one_in(2) { (4, 10) } else { (min, max) };
+        self.nts = self.manner.nts.unwrap_or(self.r.one_in(2));
+        self.source = self.address();
+        self.now = self.r.pick(&[0, 1000, 1 << 40, u64::MAX - 3_000_000_000, u64::MAX]);
+        let window = if self.r.one_in(2) { 5_000_000_000 } else { self.r.pick(&[1, 5000, 60_000_000_000]) };
+        let startup = if self.r.one_in(2) { 3 } else { 1 + self.r.below(8) as u8 };
+        let start = self.version();
+        let cookies = if self.nts { self.cookies(11, false, HELD) } else { vec![] };
+        Op::New { nts: self.nts, min, max, startup, window, start, source: self.source, cookies }
+    }
+
+    /// Keeps up with what happened.
+    pub fn saw(&mut self, number: u8, s: &State) {
+        if number == 20
+            && let Some((id, uid, _)) = s.pending
+        {
+            self.sent.push((id, uid));
+        }
+        self.pending = s.pending;
+        self.version = s.version;
+        self.stratum = s.stratum;
+        self.denial = s.denial;
+    }
+
+    pub fn next(&mut self) -> Op {
+        let timers = if self.pending.is_none() { 12 } else { 5 };
+        match self.r.below(20) {
+            _ if self.rate_next => self.reply(),
+            // After a denial the polls often stay unanswered.
+            _ if self.denial && !self.r.one_in(3) => self.timer(),
+            19 => self.accept(),
+            18 if self.manner.set && self.r.one_in(3) => self.poke(),
+            n if n < timers => self.timer(),
+            _ => self.reply(),
+        }
+    }
+
+    fn timer(&mut self) -> Op {
+        self.now = if self.r.one_in(20) {
+            self.r.below(self.now.max(1))
+        } else {
+            self.now.saturating_add(self.r.below(20_000_000_000))
+        };
+        let desired = if self.r.one_in(10) { self.r.next() as i8 } else { self.r.below(18) as i8 };
+        let desired = if self.r.one_in(30) { self.r.pick(&[126, 127, -128]) } else { desired };
+        let id = if self.r.one_in(30) { self.sent.last().map_or(0, |s| s.0) } else { self.r.next() };
+        let uid = if self.r.one_in(30) { [0; 32] } else { self.r.array() };
+        let room = if self.r.one_in(4) { Some(self.r.pick(&[724, 725, 1000, 1024])) } else { None };
+        Op::Timer { now: self.now, desired, id, uid, room }
+    }
+
+    fn accept(&mut self) -> Op {
+        let mut local: Vec<IpAddr> = (0..self.r.below(3)).map(|_| self.address()).collect();
+        if self.r.one_in(2) {
+            let at = self.r.below(local.len() as u64 + 1) as usize;
+            local.insert(at, self.source);
+        }
+        let (s, above) = (self.stratum, self.stratum.saturating_add(1));
+        let stratum = self.r.pick(&[16, 16, 0, 1, 2, 5, 10, 17, 255, s, above]);
+        Op::Accept { stratum, local, bloom: self.r.pick(&[Bloom::None, Bloom::None, Bloom::Absent, Bloom::Present]) }
+    }
+
+    fn poke(&mut self) -> Op {
+        let all = [
+            ("reach", self.r.next() as u8 as i64),
+            ("reach", self.r.pick(&[0, 1, 128])),
+            ("tries", self.r.below(256) as i64),
+            ("tries", self.r.pick(&[0, 254, 255])),
+            ("stratum", self.r.next() as u8 as i64),
+            ("stratum", self.r.pick(&[1, 16])),
+            ("last", self.r.next() as i8 as i64),
+            ("remote", self.r.pick(&[127, 126, 12, -128, -1, 0, 5, 17, 18])),
+        ];
+        let mut pairs: Vec<_> = all.into_iter().filter(|_| self.r.one_in(2)).collect();
+        if pairs.is_empty() {
+            pairs.push(all[7]);
+        }
+        self.rate_next = pairs.contains(&("remote", 127));
+        Op::Poke(pairs)
+    }
+
+    fn time(&mut self) -> u64 {
+        match self.r.below(12) {
+            0 => self.r.next(),
+            1 => self.r.pick(&[0, 1, u64::MAX, 1 << 63, (1 << 63) - 1]),
+            _ => self.base.wrapping_add(self.r.below(1 << 34)),
+        }
+    }
+
+    /// A uid as a server returns it, now and then damaged, cut or with more behind it.
+    fn uid(&mut self, uid: [u8; 32]) -> Vec<u8> {
+        let mut u = uid.to_vec();
+        match self.r.below(24) {
+            0 => u[self.r.below(32) as usize] ^= 1,
+            1 => u.truncate(28),
+            2 => u.extend([9; 8]),
+            _ => {}
+        }
+        u
+    }
+
+    fn reply(&mut self) -> Op {
+        const KINDS: [&str; 24] = [
+            "good",
+            "good",
+            "good",
+            "good",
+            "good",
+            "good",
+            "late",
+            "edge",
+            "doubled",
+            "older",
+            "forged",
+            "version",
+            "rate",
+            "rate",
+            "deny",
+            "rstr",
+            "ntsn",
+            "kiss",
+            "stratum",
+            "mode",
+            "damaged",
+            "upgrade",
+            "upgrade-kiss",
+            "cipher-fails",
+        ];
+        let (id, uid, deadline) = self.pending.unwrap_or_else(|| {
+            let (i, u) = self.sent.last().copied().unwrap_or((1, [0; 32]));
+            (i, u, self.now)
+        });
+        let kind = if std::mem::take(&mut self.rate_next) { "rate" } else { self.r.pick(&KINDS) };
+        let now = match kind {
+            "late" => deadline.saturating_add(1 + self.r.below(3)),
+            "edge" => deadline,
+            _ if self.r.one_in(30) => self.r.next(),
+            _ => self.now.saturating_add(self.r.below(1000)).min(deadline),
+        };
+        let (t1, t4) = (self.time(), self.time());
+        if kind == "doubled"
+            && let Some(packet) = self.previous.clone()
+        {
+            return Op::Reply { now, t1, t4, packet, fail: false };
+        }
+        let mut version = match self.version {
+            Version::V4 if self.r.one_in(4) => 3,
+            Version::V4 | Version::V4UpgradingToV5 { .. } => 4,
+            _ => 5,
+        };
+        if self.nts && version == 3 && !self.r.one_in(8) {
+            version = 4;
+        }
+        if kind == "version" {
+            version = self.r.below(8) as u8;
+        }
+        let (mut origin, mut uid) = (id, uid);
+        match kind {
+            "older" if !self.sent.is_empty() => {
+                let i = self.r.below(self.sent.len() as u64) as usize;
+                (origin, uid) = self.sent[i];
+            }
+            "forged" if self.r.one_in(2) => origin ^= 1 << self.r.below(64),
+            "forged" => origin = self.r.next(),
+            _ => {}
+        }
+        let mut p = self.header(kind, version, origin);
+        let mut fail = kind == "cipher-fails";
+        if version == 4 || version == 5 {
+            self.fields(&mut p, kind, version, uid, &mut fail);
+        }
+        if version != 5 && self.r.one_in(8) {
+            let n = if self.manner.wild { self.r.below(33) as usize } else { 20 + 4 * self.r.below(2) as usize };
+            let tail = self.r.bytes(n);
+            p.extend(tail);
+        }
+        if kind == "damaged" {
+            match self.r.below(4) {
+                0 => p.truncate(self.r.below(p.len() as u64) as usize),
+                1 => p.truncate(self.r.pick(&[47, 48])),
+                _ => {
+                    let i = self.r.below(p.len() as u64) as usize;
+                    p[i] ^= 1 << self.r.below(8);
+                }
+            }
+        }
+        assert!(p.len() <= HELD);
+        self.previous = Some(p.clone());
+        Op::Reply { now, t1, t4, packet: p, fail }
+    }
+
+    fn header(&mut self, kind: &str, version: u8, origin: u64) -> Vec<u8> {
+        let mode = match (kind, version) {
+            ("mode", 5) => 3,
+            ("mode", _) => self.r.pick(&[0, 1, 2, 3, 5, 6, 7]),
+            _ => 4,
+        };
+        let mut stratum = if self.r.one_in(10) { 16 } else { 1 + self.r.below(15) as u8 };
+        let mut refid: [u8; 4] =
+            if self.r.one_in(8) { *self.r.pick(&[b"RATE", b"DENY", b"XNON", b"NTSN"]) } else { self.r.array() };
+        let mut poll = self.r.below(18) as u8;
+        if self.r.one_in(12) {
+            poll = self.r.next() as u8;
+        }
+        if self.r.one_in(40) {
+            poll = 127;
+        }
+        let mut refts = self.r.next();
+        let mut flags = if self.r.one_in(4) { self.r.below(4) as u8 } else { 1 };
+        match kind {
+            "rate" => (stratum, refid, poll) = (0, *b"RATE", self.r.pick(&[17u8, 10, 6, 20, 126, 127])),
+            "deny" => (stratum, refid, poll) = (0, *b"DENY", 127),
+            "rstr" => (stratum, refid, poll) = (0, *b"RSTR", 127),
+            "ntsn" => (stratum, refid, poll, flags) = (0, *b"NTSN", 0, flags | 4),
+            "kiss" => (stratum, poll, refid) = (0, 0, *self.r.pick(&[b"INIT", b"XNON", b"\0\0\0\0", b"rate"])),
+            "stratum" => stratum = if self.r.one_in(4) { 17 } else { 17 + self.r.below(239) as u8 },
+            "upgrade" => refts = UPGRADE_MARK,
+            "upgrade-kiss" => {
+                (refts, stratum) = (UPGRADE_MARK, 0);
+                refid = *self.r.pick(&[b"NTSN", b"RATE", b"DENY", b"INIT"]);
+            }
+            _ => {}
+        }
+        let mut p = vec![(self.r.below(4) as u8) << 6 | version << 3 | mode, stratum, poll, self.r.next() as u8];
+        p.extend(self.r.bytes(8));
+        if version == 5 {
+            p.extend([self.r.below(4) as u8, self.r.next() as u8, 0, flags]);
+            p.extend(self.r.bytes(8));
+        } else {
+            p.extend(refid);
+            p.extend(refts.to_be_bytes());
+        }
+        p.extend(origin.to_be_bytes());
+        p.extend(self.time().to_be_bytes());
+        p.extend(self.time().to_be_bytes());
+        p
+    }
+
+    fn fields(&mut self, p: &mut Vec<u8>, kind: &str, version: u8, uid: [u8; 32], fail: &mut bool) {
+        let wild = self.manner.wild;
+        if version == 5 && !self.r.one_in(40) {
+            // Length 27 in the header, padded to 28 on the wire.
+            p.extend([0xF5, 0xFF, 0, 27]);
+            p.extend(b"draft-ietf-ntp-ntpv5-08\0");
+        }
+        let unsealed = matches!(kind, "ntsn" | "upgrade-kiss") && self.r.one_in(2);
+        if self.nts || self.r.one_in(6) {
+            if !self.r.one_in(12) {
+                field(p, 0x0104, &self.uid(uid), 16);
+            }
+            if self.r.one_in(12) {
+                field(p, 0x0104, &self.uid(uid), 16);
+            }
+            if self.r.one_in(8) {
+                let n = self.r.below(40) as usize;
+                field(p, 0x2323, &self.r.bytes(n), 16);
+            }
+        }
+        if wild && self.r.one_in(4) {
+            let n = self.r.below(7) as usize * 4;
+            let body = if self.r.one_in(3) { vec![0; n] } else { self.r.bytes(n) };
+            field(p, self.r.pick(&[0x0104, 0x0204, 0x0304, 0x1111, 0xF501, 0xF5FF]), &body, 0);
+        }
+        if wild && self.r.one_in(16) {
+            // A field that says a wrong length.
+            let n: u16 = self.r.pick(&[0, 1, 3, 4, 5, 15, 16, 17, 18, 24, 25, 28, 65532, 65535]);
+            p.extend([0x11, 0x11]);
+            p.extend(n.to_be_bytes());
+            let more = self.r.below(8) as usize * 4;
+            p.extend(self.r.bytes(more));
+        }
+        if self.nts && !unsealed && !self.r.one_in(20) || self.r.one_in(60) {
+            let mut plain = vec![];
+            if self.r.one_in(10) {
+                field(&mut plain, 0x0104, &self.uid(uid), 0);
+            }
+            let most = self.r.pick(&[1, 3, 8, 11]);
+            for c in self.cookies(most, version == 4, 3000) {
+                field(&mut plain, 0x0204, &c, 0);
+            }
+            if self.r.one_in(10) {
+                field(&mut plain, 0x0304, &[0; 8], 0);
+            }
+            if wild && self.r.one_in(6) {
+                field(&mut plain, self.r.pick(&[0x0304, 0x0404, 0x0204]), &self.r.bytes(8), 0);
+                if self.r.one_in(3) {
+                    let n = self.r.below(6) as usize;
+                    plain.extend(self.r.bytes(n));
+                }
+            }
+            seal(p, &plain);
+            if self.r.one_in(12) {
+                if self.r.one_in(3) {
+                    field(p, 0x0104, &self.uid(uid), 16);
+                }
+                let mut more = vec![];
+                if self.r.one_in(2) {
+                    field(&mut more, 0x0204, &self.r.bytes(100), 0);
+                }
+                seal(p, &more);
+                if self.r.one_in(4) {
+                    let n = p.len();
+                    p[n - 20] ^= 1;
+                }
+            }
+        } else if self.r.one_in(2) {
+            *fail = false;
+        }
+        if self.r.one_in(8) {
+            field(p, 0x0104, &self.uid(uid), 28);
+        }
+    }
+}
+
+/// A field of at least `least` bytes, padded with zeros to a multiple of 4.
+pub fn field(out: &mut Vec<u8>, ty: u16, body: &[u8], least: usize) {
+    let n = (body.len() + 4).max(least).next_multiple_of(4);
+    let start = out.len();
+    out.extend(ty.to_be_bytes());
+    out.extend((n as u16).to_be_bytes());
+    out.extend(body);
+    out.resize(start + n, 0);
+}
+
+/// A 0404 field that the driver's cipher decrypts to `plain`.
+pub fn seal(out: &mut Vec<u8>, plain: &[u8]) {
+    let nonce = [7u8; 16];
+    let tag = FakeCipher::tag(&nonce, out, plain);
+    let mut body = vec![0, 16];
+    body.extend(((plain.len() + 16) as u16).to_be_bytes());
+    body.extend(nonce);
+    body.extend(tag);
+    body.extend(plain);
+    field(out, 0x0404, &body, 16);
+}

@@ -1,0 +1,304 @@
+//! Document 01's rules in Rust, set against the crate step by step. They only decide where a difference is listed.
+use crate::state::*;
+
+#[derive(Debug, Clone, PartialEq, Eq)]
+pub struct Rules {
+    pub max: i8,
+    pub startup: u8,
+    pub window: u64,
+    pub nts: bool,
+    pub source: u32,
+    pub state: State,
+}
+
+fn name(s: &[u8; 4]) -> u32 {
+    u32::from_be_bytes(*s)
+}
+
+/// Fields as type, start and body, and where the walk ended.
+type Walk<'a> = (Vec<(u16, usize, &'a [u8])>, usize);
+
+/// Rule 7's walk with a least field length and a longest tail; none if broken.
+pub fn walk(b: &[u8], from: usize, least: usize, tail: usize) -> Option<Walk<'_>> {
+    let mut at = from;
+    let mut out = vec![];
+    loop {
+        let rest = b.get(at..)?;
+        if rest.len() <= tail {
+            return Some((out, at));
+        }
+        if rest.len() < 4 {
+            return None;
+        }
+        let n = u16::from_be_bytes([rest[2], rest[3]]) as usize;
+        if n < least || !n.is_multiple_of(4) || n > rest.len() {
+            return None;
+        }
+        out.push((u16::from_be_bytes([rest[0], rest[1]]), at, &rest[4..n]));
+        at += n;
+    }
+}
+
+/// Rule 7's collector, without its limit.
+pub fn collect(plain: &[u8]) -> Option<Vec<Vec<u8>>> {
+    let (fields, _) = walk(plain, 0, 4, 0)?;
+    Some(fields.into_iter().filter(|f| f.0 == 0x0204).map(|f| f.2.to_vec()).collect())
+}
+
+/// Rule 8's state of one group: absent, agree or disagree.
+fn uid_group<'a>(bodies: impl Iterator<Item = &'a [u8]>, uid: &[u8; 32]) -> Option<bool> {
+    bodies.fold(None, |s, b| Some(s != Some(false) && b.starts_with(uid)))
+}
+
+impl Rules {
+    #[expect(clippy::too_many_arguments)]
+    pub fn new(nts: bool, min: i8, max: i8, startup: u8, window: u64, start: Version, source: u32, list: &[Vec<u8>]) -> Rules {
+        let state = State {
+            reach: 0,
+            tries: 0,
+            version: start,
+            last: min,
+            remote: min,
+            pending: None,
+            denial: false,
+            stratum: 16,
+            refid: name(b"XNON"),
+            read: 0,
+            cookies: vec![],
+        };
+        let mut r = Rules { max, startup, window, nts, source, state };
+        if nts {
+            r.store(list);
+        }
+        r
+    }
+
+    /// Rule 3.
+    fn store(&mut self, list: &[Vec<u8>]) {
+        let s = &mut self.state;
+        for c in list {
+            if s.cookies.len() == 8 {
+                s.cookies.remove(0);
+                s.read = (s.read + 1) % 8;
+            }
+            s.cookies.push(stored(c));
+        }
+    }
+
+    /// Rule 10.
+    pub fn timer(&mut self, now: u64, desired: i8, id: u64, uid: &[u8; 32]) -> Answer {
+        let number = |number| Answer { number, ..Answer::default() };
+        let s = &mut self.state;
+        if s.reach == 0 && s.tries >= self.startup {
+            return number(if s.denial { 22 } else { 21 });
+        }
+        let unanswered = if s.reach == 0 { 8 } else { s.reach.trailing_zeros() };
+        if s.version == Version::UpgradedToV5 && unanswered >= 2 {
+            s.version = Version::V4;
+        }
+        s.reach <<= 1;
+        s.tries = s.tries.saturating_add(1);
+        let (mut kind, mut cookie, mut asked) = (
+            match s.version {
+                Version::V4 => "v4",
+                Version::V4UpgradingToV5 { .. } => "v4-upgrade",
+                _ => "v5",
+            },
+            vec![],
+            0,
+        );
+        if self.nts {
+            if s.cookies.is_empty() {
+                return number(23);
+            }
+            let (length, bytes) = s.cookies.remove(0);
+            s.read = (s.read + 1) % 8;
+            asked = (8 - s.cookies.len()).min(724 / length.max(1)).min(255) as u8;
+            if asked == 0 {
+                return number(24);
+            }
+            cookie = bytes;
+            kind = if s.version == Version::V4 { "nts-v4" } else { "nts-v5" };
+        }
+        s.pending = Some((id, if self.nts { *uid } else { [0; 32] }, now.saturating_add(self.window)));
+        s.last = desired.max(s.remote);
+        Answer { number: 20, sent: Some(Sent { kind, poll: s.last, cookie, asked }), measured: None }
+    }
+
+    /// Rule 11, byte form.
+    #[expect(clippy::too_many_arguments)]
+    pub fn reply(&mut self, p: &[u8], auth: usize, plain: &[u8], list: &[Vec<u8>], t1: u64, t4: u64, now: u64) -> Answer {
+        match self.read(p, auth, plain) {
+            None => Answer { number: 1, ..Answer::default() },
+            Some(d) => {
+                let v = (p[0] >> 3) & 7;
+                let mark = u64::from_be_bytes(p[16..24].try_into().unwrap());
+                let refid = u32::from_be_bytes(p[12..16].try_into().unwrap());
+                self.matched(v, v == 4 && mark == UPGRADE_MARK, refid, &d, list, t1, t4, now)
+            }
+        }
+    }
+
+    /// Rules 6, 7, 8 and 9: what a V3 or V4 packet says; none if undecodable.
+    fn read(&self, p: &[u8], auth: usize, plain: &[u8]) -> Option<Decoded> {
+        let v = p.first().map(|b| (b >> 3) & 7)?;
+        if p.len() < 48 || (v != 3 && v != 4) {
+            return None;
+        }
+        let (fields, end) = if v == 4 { walk(p, 48, 16, 24)? } else { (vec![], 48) };
+        if auth != 48 && auth != end && !fields.iter().any(|f| f.1 == auth) {
+            return None;
+        }
+        let decrypted = if self.nts { walk(plain, 0, 4, 0)?.0 } else { vec![] };
+        let uid = self.state.pending.map_or([0; 32], |p| p.1);
+        let group = |f: &dyn Fn(usize) -> bool| uid_group(fields.iter().filter(|x| x.0 == 0x0104 && f(x.1)).map(|x| x.2), &uid);
+        let u64at = |i: usize| u64::from_be_bytes(p[i..i + 8].try_into().unwrap());
+        let u32at = |i: usize| u32::from_be_bytes(p[i..i + 4].try_into().unwrap());
+        let kiss = |n: &[u8; 4]| p[1] == 0 && u32at(12) == name(n);
+        Some(Decoded {
+            leap: [0, 1, 2, 4][(p[0] >> 6) as usize],
+            response: p[0] & 7 == 4,
+            stratum: p[1],
+            poll: p[2] as i8,
+            precision: p[3] as i8,
+            root_delay: u32at(4) as i64 * 65536,
+            root_dispersion: u32at(8) as i64 * 65536,
+            receive: u64at(32),
+            transmit: u64at(40),
+            identifier: u64at(24),
+            kiss: [kiss(b"RATE"), kiss(b"DENY"), kiss(b"RSTR"), kiss(b"NTSN"), p[1] == 0],
+            uid: [
+                group(&|at| at < auth),
+                uid_group(decrypted.iter().filter(|x| x.0 == 0x0104).map(|x| x.2), &uid),
+                group(&|at| at >= auth),
+            ],
+        })
+    }
+
+    /// Rule 11, decoded form; the reference identifier stays XNON, as in the crate.
+    pub fn reply5(&mut self, d: &Decoded, list: &[Vec<u8>], t1: u64, t4: u64, now: u64) -> Answer {
+        self.matched(5, false, name(b"XNON"), d, list, t1, t4, now)
+    }
+
+    #[expect(clippy::too_many_arguments)]
+    fn matched(
+        &mut self,
+        v: u8,
+        upgrade: bool,
+        refid: u32,
+        d: &Decoded,
+        list: &[Vec<u8>],
+        t1: u64,
+        t4: u64,
+        now: u64,
+    ) -> Answer {
+        let number = |number| Answer { number, ..Answer::default() };
+        let s = &mut self.state;
+        let expected = match s.version {
+            Version::V4 => v == 3 || v == 4,
+            Version::V4UpgradingToV5 { .. } => v == 4,
+            _ => v == 5,
+        };
+        if !expected {
+            return number(2);
+        }
+        let Some((id, _, deadline)) = s.pending else { return number(3) };
+        if deadline < now {
+            return number(3);
+        }
+        let [rate, deny, rstr, ntsn, any] = d.kiss;
+        let mut groups = d.uid[..2].to_vec();
+        if ntsn {
+            groups.push(d.uid[2]);
+        }
+        let uid_agrees = !groups.contains(&Some(false)) && groups.contains(&Some(true));
+        if d.identifier != id || (self.nts && !uid_agrees) {
+            return number(4);
+        }
+        s.version = match s.version {
+            Version::V4UpgradingToV5 { .. } if upgrade => Version::UpgradedToV5,
+            Version::V4UpgradingToV5 { tries_left: 0 | 1 } => Version::V4,
+            Version::V4UpgradingToV5 { tries_left } => Version::V4UpgradingToV5 { tries_left: tries_left - 1 },
+            Version::UpgradedToV5 => Version::V5,
+            other => other,
+        };
+        if rate {
+            s.remote = (s.remote as i32 + 1).min(self.max as i32).max(s.last as i32) as i8;
+            return number(5);
+        }
+        if deny || rstr {
+            if self.nts {
+                return number(7);
+            }
+            s.denial = true;
+            return number(6);
+        }
+        if ntsn {
+            return number(8);
+        }
+        if any {
+            return number(9);
+        }
+        if d.stratum > 16 {
+            return number(10);
+        }
+        if !d.response {
+            return number(11);
+        }
+        s.reach |= 1;
+        s.denial = false;
+        s.pending = None;
+        s.stratum = d.stratum;
+        s.refid = refid;
+        if v == 5 {
+            s.remote = s.remote.max(d.poll);
+        }
+        if self.nts {
+            self.store(list);
+        }
+        let diff = |x: u64, y: u64| x.wrapping_sub(y) as i64;
+        let (t2, t3) = (d.receive, d.transmit);
+        let measured = Measured {
+            delay: diff(t4, t1).saturating_sub(diff(t3, t2)),
+            offset: diff(t2, t1).saturating_add(diff(t3, t4)) / 2,
+            local: t1.wrapping_add((diff(t4, t1) / 2) as u64),
+            mono: now,
+            stratum: d.stratum,
+            root_delay: d.root_delay,
+            root_dispersion: d.root_dispersion,
+            leap: d.leap,
+            precision: d.precision,
+        };
+        Answer { number: 0, sent: None, measured: Some(measured) }
+    }
+
+    /// Rule 12.
+    pub fn accept(&self, stratum: u8, local: &[u32], bloom: Bloom) -> Answer {
+        let s = &self.state;
+        let number = if s.stratum >= stratum {
+            40
+        } else if (s.stratum != 1 && local.contains(&self.source)) || bloom == Bloom::Present {
+            41
+        } else if s.reach == 0 {
+            42
+        } else {
+            0
+        };
+        Answer { number, ..Answer::default() }
+    }
+
+    /// Numbers set by hand.
+    pub fn poke(&mut self, pairs: &[(&'static str, i64)]) -> Answer {
+        let s = &mut self.state;
+        for (key, value) in pairs {
+            match *key {
+                "reach" => s.reach = *value as u8,
+                "tries" => s.tries = *value as u8,
+                "stratum" => s.stratum = *value as u8,
+                "last" => s.last = *value as i8,
+                _ => s.remote = *value as i8,
+            }
+        }
+        Answer::default()
+    }
+}

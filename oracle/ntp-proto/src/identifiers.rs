@@ -1,0 +1,1 @@
+../../published/identifiers.rs

@@ -1,0 +1,1 @@
+../../published/io.rs

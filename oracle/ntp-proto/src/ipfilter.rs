@@ -1,0 +1,1 @@
+//! Stands for ipfilter.rs, which lib.rs only names.

@@ -1,0 +1,1 @@
+../../../published/packet/error.rs

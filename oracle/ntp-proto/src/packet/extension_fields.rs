@@ -1,0 +1,1 @@
+../../../published/packet/extension_fields.rs

@@ -1,0 +1,1 @@
+../../../published/packet/mod.rs

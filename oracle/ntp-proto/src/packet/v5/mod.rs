@@ -1,0 +1,1 @@
+../../../../published/packet/v5/mod.rs

@@ -1,0 +1,1 @@
+../../../../published/packet/v5/server_reference_id.rs
