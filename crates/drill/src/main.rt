@@ -1,0 +1,245 @@
+// Replays a log against the association and answers each of its lines.
+mod calls;
+mod keys;
+mod polls;
+mod print;
+mod record;
+mod replies;
+mod text;
+mod value;
+
+use association::Association;
+use libc::STDIN_FILENO;
+use libc::STDOUT_FILENO;
+
+// What a line's run leaves: the association, and where its answer ends in the buffer.
+pub struct Ran {
+    pub association: Association,
+    pub end: usize,
+}
+
+// A log as far as it is read: the association, the number of the line, how many bytes of it are there, whether it is too long,
+// whether there is more to read, and whether reading failed.
+struct Log {
+    association: Association,
+    number: u64,
+    used: usize,
+    long: bool,
+    more: bool,
+    failed: bool,
+}
+
+fn start() -> Log {
+    let association = Association::blank();
+    Log {
+        association,
+        number: 1,
+        used: 0,
+        long: false,
+        more: true,
+        failed: false,
+    }
+}
+
+// Which command a line's word is.
+fn command(word: &[u8]) -> usize {
+    text::index_of(
+        b"new timer reply reply5 accept collect show cookies blank poke",
+        word,
+    )
+}
+
+fn answer(a: Association, line: &[u8], number: u64, out: &mut [u8]) -> Ran {
+    let word = text::part(line, 0, text::find(line, 0, b' ', b' '));
+    match command(word) {
+        0 => calls::new(a, line, number, out),
+        1 => polls::timer(a, line, number, out),
+        2 => replies::reply(a, line, number, out),
+        3 => replies::reply5(a, line, number, out),
+        4 => calls::accept(a, line, number, out),
+        5 => calls::collect(a, line, number, out),
+        6 => record::show(a, line, number, out),
+        7 => record::cookies(a, line, number, out),
+        8 => record::blank(a, line, number, out),
+        9 => record::poke(a, line, number, out),
+        _ => {
+            let end = print::error(out, number, b"unknown command", b"");
+            Ran {
+                association: a,
+                end,
+            }
+        }
+    }
+}
+
+// Whether a line is answered: an empty one and a comment are not.
+fn is_asked(line: &[u8]) -> bool {
+    if line.len() == 0 {
+        false
+    } else {
+        line[0] != b'#'
+    }
+}
+
+// What a line that is asked is answered.
+fn answered(log: Log, line: &[u8], out: &mut [u8]) -> Ran {
+    let a = log.association;
+    if log.long {
+        let end = print::error(out, log.number, b"long line", b"");
+        return Ran {
+            association: a,
+            end,
+        };
+    }
+    answer(a, line, log.number, out)
+}
+
+// Answers a line, in one write, and makes ready for the next one.
+fn handle(log: Log, line: &[u8], out: &mut [u8]) -> Log {
+    let mut next = log;
+    next.used = 0;
+    next.long = false;
+    next.number = std::num::wrapping_add_u64(log.number, 1);
+    if !is_asked(line) {
+        return next;
+    }
+    let ran = answered(log, line, out);
+    let end = print::byte(out, ran.end, b'\n');
+    io::write_all(STDOUT_FILENO, text::part(out, 0, end));
+    let association = ran.association;
+    next.association = association;
+    next
+}
+
+fn has_room(used: usize, room: usize, more: usize) -> bool {
+    if used <= room {
+        more <= room - used
+    } else {
+        false
+    }
+}
+
+// Adds bytes to the line; where they have no room the line is too long.
+fn added(log: Log, line: &mut [u8], piece: &[u8]) -> Log {
+    let mut next = log;
+    if !has_room(log.used, line.len(), piece.len()) {
+        next.long = true;
+    }
+    let end = print::text(line, log.used, piece);
+    next.used = end;
+    next
+}
+
+// The last piece of a line is there: it is answered.
+fn finished(log: Log, piece: &[u8], line: &mut [u8], out: &mut [u8]) -> Log {
+    let whole = added(log, line, piece);
+    handle(whole, text::part(line, 0, whole.used), out)
+}
+
+// Answers the lines that end in a chunk, and keeps what is left of it for the next one.
+fn taken(log: Log, chunk: &[u8], line: &mut [u8], out: &mut [u8]) -> Log {
+    let mut next = log;
+    let mut at = 0;
+    while at < chunk.len() {
+        let end = text::find(chunk, at, b'\n', b'\n');
+        let piece = text::part(chunk, at, end);
+        if chunk.len() <= end {
+            return added(next, line, piece);
+        }
+        at = end + 1;
+        next = finished(next, piece, line, out);
+    }
+    next
+}
+
+// The log has ended; its last line may lack the newline.
+fn over(log: Log, line: &[u8], out: &mut [u8]) -> Log {
+    let used = log.used;
+    let mut next = log;
+    next.more = false;
+    if used == 0 {
+        return next;
+    }
+    handle(next, text::part(line, 0, used), out)
+}
+
+// Reads once, and answers the lines that are whole.
+fn turn(fd: i32, log: Log, line: &mut [u8], out: &mut [u8]) -> Log {
+    let mut chunk = io::large_buffer();
+    let got = libc::read(fd, &mut chunk);
+    if got <= 0 {
+        let mut next = log;
+        next.failed = got < 0;
+        return over(next, line, out);
+    }
+    let n = io::count(got, &chunk);
+    taken(log, &chunk[..n], line, out)
+}
+
+// Reads a log to its end and answers it, from the blank record on; says whether it could be read. A proved loop has to end, so its
+// turns are counted down, from a number that no run uses up.
+fn replay(fd: i32, line: &mut [u8], out: &mut [u8]) -> bool {
+    let mut log = start();
+    let mut turns = u64::MAX;
+    while 0 < turns {
+        if !log.more {
+            return !log.failed;
+        }
+        log = turn(fd, log, line, out);
+        turns -= 1;
+    }
+    true
+}
+
+// A line of the program's own, about a log file.
+fn say(before: &[u8], name: &[u8], after: &[u8], out: &mut [u8]) {
+    let at = print::text(out, 0, before);
+    let at = print::text(out, at, name);
+    let at = print::text(out, at, after);
+    let end = print::byte(out, at, b'\n');
+    io::write_all(STDOUT_FILENO, text::part(out, 0, end));
+}
+
+fn replay_open(fd: i32, name: &[u8], line: &mut [u8], out: &mut [u8]) {
+    if replay(fd, line, out) {
+        return;
+    }
+    say(b"error 0 ", name, b" cannot be read", out);
+}
+
+fn replay_file(name: &[u8], line: &mut [u8], out: &mut [u8]) {
+    say(b"# ", name, b"", out);
+    let fd = os::open_read(name);
+    if fd < 0 {
+        say(b"error 0 ", name, b" cannot be opened", out);
+        return;
+    }
+    replay_open(fd, name, line, out);
+    libc::close(fd);
+}
+
+fn replay_argument(i: usize, line: &mut [u8], out: &mut [u8]) {
+    let mut name = io::buffer();
+    let n = os::arg(i, &mut name);
+    replay_file(text::part(&name, 0, n), line, out);
+}
+
+fn replay_arguments(count: usize, line: &mut [u8], out: &mut [u8]) {
+    let mut i = 1;
+    while i < count {
+        replay_argument(i, line, out);
+        i += 1;
+    }
+}
+
+// With no arguments the log is the standard input; else each argument names a log.
+fn main() {
+    let mut line = [0u8; 32768];
+    let mut out = [0u8; 16384];
+    let count = os::arg_count();
+    if count < 2 {
+        replay(STDIN_FILENO, &mut line, &mut out);
+        return;
+    }
+    replay_arguments(count, &mut line, &mut out);
+}
