@@ -7,7 +7,6 @@ use crate::text;
 use crate::value;
 use accept::Bloom;
 use association::Association;
-use association::NewAnswer;
 use association::Settings;
 use fields::collector::Collected;
 use identifiers::ReferenceId;

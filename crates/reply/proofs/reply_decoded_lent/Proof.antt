@@ -1,7 +1,7 @@
 -- `reply_decoded_lent` meets its contract: a walk of its MIR, by hand. The record is copied to a local, which is lent to `reply_decoded` for a lifetime of its own; once that has ended, the local is taken back at the value that the call left.
 -- All that the proof knows of `reply_decoded` is that it meets its contract. Written by tools/walk/mklent.py. Assumes nothing.
 use Prim.Native.Nat.{ℕ}
-use base.Fml.{Fml, GName, Lft, Share, ftrue, fsep, fat, flft, fres, flent}
+use base.Fml.{GName, Lft, Share, ftrue, fsep, fat, flft, fres, flent}
 use base.Logic.{SProp, ent, emp, guard, via, fst∗, id⊢}
 use contract.Monad.{Fun, fact}
 use contract.Running.{givenOf, tables, tablesOf}
@@ -20,6 +20,7 @@ use denote.Steps.{only, owned, peeks, heard, nothing}
 use denote.Struct.Laws as LL
 use denote.Struct.Steps.{spelt}
 use denote.Triple.Call.{calls-from}
+use denote.Triple.Clauses.{ensured, lasts}
 use denote.Triple.Entry.{onEntry}
 use denote.Triple.Spec.{Meets, tripleOf}
 use denote.Triple.Statement.{Contract, Triple}
@@ -38,7 +39,7 @@ use prog.Memory.{Memory}
 use prog.Routine.{Routine}
 use prog.Wp.{Heap, Calls, Loops, WpFn, Tables}
 use sound.WpLaws.{FmC, fmOf, WpFn-mono}
-use types.Kit.{Given, ‵, raw, given, some, later, mean, _⊛_, ⋆, _$_, _∵_, !, qed, by, move, keep, drop, use1, use3, split, join, pick, learn, check, rewrite, fsplit, fjoin, fpick, fpack, suffices, await, frame, done}
+use types.Kit.{Given, ‵, raw, given, some, later, mean, _⊛_, ⋆, _$_, _∵_, !, qed, by, move, keep, drop, use1, use3, split, join, pick, learn, check, show, rewrite, fsplit, fjoin, fpick, fpack, suffices, await, frame, done}
 use types.Part.{agg}
 use types.Run.{look, init, forget, stop, from, load, addr, of-opd, and-then, no-more, assigns, land, returns, enter, alloc1, alloc0, params1, pass1, pass0, free1, free0}
 use types.SemTy.{Body}
@@ -107,9 +108,10 @@ module _ (Rec Ans : RattleType) (rec : Rec .Denot → Val) (ans : Ans .Denot →
       rewrite ! 0 (λ (τs : List Ty). ‵ (cellAt fullShare τs (rec w ∷ []) b 0)) rec-mir refl $ move ! (1 ∷ []) $ peeks ! Rec (Is Rec) (shows 𝓤 H A Rec) w (rec w ∷ []) (λ g. check ! g $ drop ! $ by ! (W .laws .raw-at fullShare τ-rec b 0 (rec w))))
 
   module _ (h : Rec .Denot) (d list t1 t4 time : Val) (h-is : Is Rec h (rec h ∷ [])) (d-typed : T (hasTy τ-d d) × WT d) (list-typed : T (hasTy τ-list list) × WT list) (t1-typed : T (hasTy τ-t1 t1) × WT t1) (t4-typed : T (hasTy τ-t4 t4) × WT t4) (time-typed : T (hasTy τ-time time) × WT time)
-      (Own Left : SProp 𝓤) (Pre : ℕ → ℕ → GName → SProp 𝓤) (Back : ℕ → ℕ → GName → Val → SProp 𝓤) (Post : Val → SProp 𝓤) (Lasts : Type 0) (last : Lasts → Rec .Denot) (rest : Fml) (Says : Ans .Denot → Rec .Denot → Type 0)
+      (Own Left : SProp 𝓤) (Pre : ℕ → ℕ → GName → SProp 𝓤) (Back : ℕ → ℕ → GName → Val → SProp 𝓤) (Post : Val → SProp 𝓤) (Ensured : ℕ → ℕ → GName → Ans .Denot → SProp 𝓤) (Says : Ans .Denot → Rec .Denot → Type 0)
       (goes-core : (α l : ℕ) (δ : GName) → ent 𝓤 (⋆ 𝓤 H A (‵ (flft (α ∷ []) fullShare) ∷ ‵ (MutRef (named 0) (α ∷ []) Rec .own (record { ptr = (l, 0); name = δ; now = h }) (vptr l 0 ∷ [])) ∷ raw Own ∷ [])) (Pre α l δ))
-      (comes-back : (α l : ℕ) (δ : GName) (v : Val) → ent 𝓤 (Back α l δ v) (mean 𝓤 H A (later (some (λ (r : Ans .Denot). ((‵ (flft (α ∷ []) fullShare) ⊛ raw Left) ⊛ ‵ (Ans .own r (v ∷ []))) ⊛ some (λ (w : Lasts). ‵ (fsep (fres δ (Rec .coded .code (last w))) rest) ⊛ raw (fact 𝓤 (Says r (last w)))))))))
+      (comes-back : (α l : ℕ) (δ : GName) (v : Val) → ent 𝓤 (Back α l δ v) (mean 𝓤 H A (later (some (λ (r : Ans .Denot). ((‵ (flft (α ∷ []) fullShare) ⊛ raw Left) ⊛ ‵ (Ans .own r (v ∷ []))) ⊛ raw (Ensured α l δ r))))))
+      (said-of : (α l : ℕ) (δ : GName) (r : Ans .Denot) → ent 𝓤 (Ensured α l δ r) (mean 𝓤 H A (some (λ (w : Rec .Denot). given (Says r w) (‵ (fres δ (Rec .coded .code w)))))))
       (exits : (r : Ans .Denot) (w : Rec .Denot) → Is Ans r (ans r ∷ []) → Is Rec w (rec w ∷ []) → Says r w → ent 𝓤 (⋆ 𝓤 H A (raw Left ∷ [])) (Post (vstruct (ofList (ans r ∷ rec w ∷ [])))))
       (C : Calls 𝓤 H) (Λ : Loops 𝓤 H) (fm : FmC 𝓤 H (W .laws) C) (known : (α l : ℕ) (δ : GName) → ent 𝓤 (Pre α l δ) (C #reply·reply-decoded (vptr l 0 ∷ d ∷ list ∷ t1 ∷ t4 ∷ time ∷ []) (Back α l δ))) where
     -- the record, lent at l under the name δ
@@ -135,19 +137,19 @@ module _ (Rec Ans : RattleType) (rec : Rec .Denot → Val) (ans : Ans .Denot →
         -- [the reference; the lender's part; the token; the locals; what the other arguments own]
         move ! (2 ∷ 0 ∷ 24 ∷ []) $ use3 W (raw (Pre α l7 δ)) (goes-core α l7 δ) $
         calls-from ! fm (raw (Pre α l7 δ)) (vptr l7 0 ∷ d ∷ list ∷ t1 ∷ t4 ∷ time ∷ []) (Back α l7 δ) (known α l7 δ) (and-then ! (load ! (from ! (stop !)) (look ! 4 refl)) (and-then ! (load ! (from ! (stop !)) (look ! 17 refl)) (and-then ! (load ! (from ! (stop !)) (look ! 15 refl)) (and-then ! (load ! (from ! (stop !)) (look ! 13 refl)) (and-then ! (load ! (from ! (stop !)) (look ! 11 refl)) (and-then ! (load ! (from ! (stop !)) (look ! 9 refl)) (no-more !))))))) (λ v.
-        use1 W (later (some (λ (r : Ans .Denot). ((‵ (flft (α ∷ []) fullShare) ⊛ raw Left) ⊛ ‵ (Ans .own r (v ∷ []))) ⊛ some (λ (w : Lasts). ‵ (fsep (fres δ (Rec .coded .code (last w))) rest) ⊛ raw (fact 𝓤 (Says r (last w))))))) (comes-back α l7 δ v) $ await ! tt $ pick ! (λ r. split ! $ move ! (1 ∷ []) $ pick ! (λ w. split ! $ move ! (1 ∷ []) $ heard ! (Says r (last w)) (λ e.
-        fsplit ! $ move ! (1 ∷ []) $ drop ! $ move ! (1 ∷ []) $ split ! $ move ! (1 ∷ []) $ peeks ! Ans (Is Ans) (shows 𝓤 H A Ans) r (v ∷ []) (λ is.
+        use1 W (later (some (λ (r : Ans .Denot). ((‵ (flft (α ∷ []) fullShare) ⊛ raw Left) ⊛ ‵ (Ans .own r (v ∷ []))) ⊛ raw (Ensured α l7 δ r)))) (comes-back α l7 δ v) $ await ! tt $ pick ! (λ r. split ! $ move ! (1 ∷ []) $
+        use1 W (some (λ (w : Rec .Denot). given (Says r w) (‵ (fres δ (Rec .coded .code w))))) (said-of α l7 δ r) $ pick ! (λ w. learn ! (λ e. move ! (1 ∷ []) $ split ! $ move ! (1 ∷ []) $ peeks ! Ans (Is Ans) (shows 𝓤 H A Ans) r (v ∷ []) (λ is.
         -- [what the answer owns; the tokens; the last value; the lender's part; the locals]
         land ! (from ! (stop !)) (init ! 8 refl (ans-typed r v is)) $ rewrite ! 8 (λ (u : Val). ‵ (fat fullShare τ-ans l8 0 u)) (ap only (ans-tells r _ is)) refl $
         -- the lifetime is ended, and the local is taken back at its last value
-        move ! (1 ∷ []) $ split ! $ lft-end ! tt $ move ! (0 ∷ 4 ∷ 3 ∷ []) $ use3 W (later (‵ (partAt Rec fullShare (last w) l7 0))) (ref-back 𝓤 H A W Rec (α ∷ []) δ (last w) l7 0) $ await ! tt $
-        use1 W (given (Is Rec (last w) (rec (last w) ∷ [])) (‵ (fat fullShare τ-rec l7 0 (rec (last w))))) (lies-out (last w) l7) $ learn ! (λ g.
+        move ! (1 ∷ []) $ split ! $ lft-end ! tt $ move ! (0 ∷ 4 ∷ 3 ∷ []) $ use3 W (later (‵ (partAt Rec fullShare w l7 0))) (ref-back 𝓤 H A W Rec (α ∷ []) δ w l7 0) $ await ! tt $
+        use1 W (given (Is Rec w (rec w ∷ [])) (‵ (fat fullShare τ-rec l7 0 (rec w)))) (lies-out w l7) $ learn ! (λ g.
         -- [the local; the tokens; what the answer owns; the other locals]
-        assigns ! (of-opd ! (load ! (from ! (stop !)) (look ! 0 refl))) (from ! (stop !)) (init ! 3 refl (rec-typed (last w) g)) $
-        assigns ! (agg ! (and-then ! (load ! (from ! (stop !)) (look ! 7 refl)) (and-then ! (load ! (from ! (stop !)) (look ! 3 refl)) (no-more !)))) (from ! (stop !)) (init ! 22 refl (out-typed r (last w) (subst (Is Ans r) (ans-tells r _ is) is) g)) $
+        assigns ! (of-opd ! (load ! (from ! (stop !)) (look ! 0 refl))) (from ! (stop !)) (init ! 3 refl (rec-typed w g)) $
+        assigns ! (agg ! (and-then ! (load ! (from ! (stop !)) (look ! 7 refl)) (and-then ! (load ! (from ! (stop !)) (look ! 3 refl)) (no-more !)))) (from ! (stop !)) (init ! 22 refl (out-typed r w (subst (Is Ans r) (ans-tells r _ is) is) g)) $
         returns ! (look ! 22 refl) $ forget ! 0 refl $ forget ! 3 refl $ forget ! 5 refl $ forget ! 7 refl $ forget ! 10 refl $ forget ! 12 refl $ forget ! 14 refl $ forget ! 16 refl $ forget ! 18 refl $ forget ! 20 refl $ forget ! 22 refl $
         move ! (22 ∷ 23 ∷ []) $ free1 ! $ move ! (20 ∷ 21 ∷ []) $ free1 ! $ move ! (18 ∷ 19 ∷ []) $ free1 ! $ move ! (16 ∷ 17 ∷ []) $ free1 ! $ move ! (14 ∷ 15 ∷ []) $ free1 ! $ move ! (12 ∷ 13 ∷ []) $ free1 ! $ move ! (10 ∷ 11 ∷ []) $ free1 ! $ move ! (0 ∷ 9 ∷ []) $ free1 ! $ move ! (6 ∷ 7 ∷ []) $ free1 ! $ move ! (4 ∷ 5 ∷ []) $ free1 ! $ move ! (2 ∷ 3 ∷ []) $ free1 ! $ free0 ! $
-        keep ! (0 ∷ []) $ by ! (exits r (last w) (subst (Is Ans r) (ans-tells r _ is) is) g e))))))))))))))))))))
+        keep ! (0 ∷ []) $ by ! (exits r w (subst (Is Ans r) (ans-tells r _ is) is) g e))))))))))))))))))))
 
 -- what is had at exit: nothing
 abbrev stayed : Stays (self.ended .signature .params) (self.ended .kept)
@@ -202,9 +204,17 @@ module _ {M : Type 1} (𝓤 : URA M) (H : Heap 𝓤) (A : Atoms 𝓤) (W : Given
       qed W (‵ (flft (α ∷ []) fullShare) ∷ ‵ (MutRef (named 0) (α ∷ []) Rec.the-row .own (lent l δ) (vptr l 0 ∷ [])) ∷ (‵ (owns (DecodedReply·.the-row ∷ ShrSlice (named 0) κ1 u8 ∷ NtpTimestamp·.the-row ∷ NtpTimestamp·.the-row ∷ u64 ∷ []) z zv) ⊛ (‵ (flft κ1 q1) ⊛ ‵ ftrue)) ∷ []) ∵
       move ! (2 ∷ []) $ split ! $ move ! (3 ∷ 0 ∷ []) $ fjoin ! $ move ! (2 ∷ 1 ∷ []) $ join ! $ join ! $ frame ! $ done !
 
+  abbrev Ensured : ℕ → ℕ → GName → ReplyAnswer → SProp 𝓤
+  Ensured α l δ r = ensured 𝓤 H A core.ended (core.clauses 𝓤 H A at-mem run) (α ∷ [], (κ1, tt)) (lent l δ, z) tt r
+
   comes-back : (α l : ℕ) (δ : GName) (v : Val) → ent 𝓤 (Core 𝓤 H A at-mem run .post (to-core α l δ) v)
-      (mean 𝓤 H A (later (some (λ (r : ReplyAnswer). ((‵ (flft (α ∷ []) fullShare) ⊛ raw (mean 𝓤 H A (‵ (flft κ1 q1) ⊛ ‵ ftrue))) ⊛ ‵ (Ans.the-row .own r (v ∷ []))) ⊛ some (λ (w : Association × (Unit {0} × (Unit {0} × (Unit {0} × (Unit {0} × (Unit {0} × (Unit {0}))))))). ‵ (fsep (fres δ (Rec.the-row .coded .code (w .0))) (fsep ftrue (fsep ftrue (fsep ftrue (fsep ftrue (fsep ftrue (ftrue))))))) ⊛ raw (fact 𝓤 ((r ≡ replyDecodedOf h d (list .now) t1 t4 time .answer) × ((w .0) ≡ replyDecodedOf h d (list .now) t1 t4 time .association))))))))
+      (mean 𝓤 H A (later (some (λ (r : ReplyAnswer). ((‵ (flft (α ∷ []) fullShare) ⊛ raw (mean 𝓤 H A (‵ (flft κ1 q1) ⊛ ‵ ftrue))) ⊛ ‵ (Ans.the-row .own r (v ∷ []))) ⊛ raw (Ensured α l δ r)))))
   comes-back α l δ v = id⊢ 𝓤 _
+
+  said-of : (α l : ℕ) (δ : GName) (r : ReplyAnswer) → ent 𝓤 (Ensured α l δ r) (mean 𝓤 H A (some (λ (w : Association). given ((r ≡ replyDecodedOf h d (list .now) t1 t4 time .answer) × (w ≡ replyDecodedOf h d (list .now) t1 t4 time .association)) (‵ (fres δ (Rec.the-row .coded .code w))))))
+  said-of α l δ r =
+      qed W (raw (Ensured α l δ r) ∷ []) ∵ use1 W (some (λ (w : Association × (Unit {0} × (Unit {0} × (Unit {0} × (Unit {0} × (Unit {0} × (Unit {0}))))))). ‵ (lasts core.ended (α ∷ [], (κ1, tt)) (lent l δ, z) w) ⊛ raw (fact 𝓤 ((r ≡ replyDecodedOf h d (list .now) t1 t4 time .answer) × ((w .0) ≡ replyDecodedOf h d (list .now) t1 t4 time .association))))) (id⊢ 𝓤 _) $ pick ! (λ w. split ! $ move ! (1 ∷ []) $ heard ! ((r ≡ replyDecodedOf h d (list .now) t1 t4 time .answer) × ((w .0) ≡ replyDecodedOf h d (list .now) t1 t4 time .association)) (λ e. fsplit ! $ move ! (1 ∷ []) $ drop ! $
+      show ! (λ (w : Association). guard 𝓤 ((r ≡ replyDecodedOf h d (list .now) t1 t4 time .answer) × (w ≡ replyDecodedOf h d (list .now) t1 t4 time .association)) (mean 𝓤 H A (‵ (fres δ (Rec.the-row .coded .code w))))) (w .0) $ check ! e $ done !))
 
   module _ (C : Calls 𝓤 H) (Λ : Loops 𝓤 H) (fm : FmC 𝓤 H (W .laws) C) (known : Triple 𝓤 (C #reply·reply-decoded) (Core 𝓤 H A at-mem run)) where
     walk-here : ent 𝓤 (onEntry 𝓤 H A self.signature (κ1, tt) (q1, tt) (h, z) (rec h ∷ [], zv)) (WpFn 𝓤 H C Λ code.function (rec h ∷ LL.val DecodedReply·.the-type DecodedReply·′.the-laws d ∷ sliceVal (list .ptr) (length (list .now)) ∷ LL.val NtpTimestamp·.the-type NtpTimestamp·′.the-laws t1 ∷ LL.val NtpTimestamp·.the-type NtpTimestamp·′.the-laws t4 ∷ vint w64 time ∷ []) Post)
@@ -215,7 +225,7 @@ module _ {M : Type 1} (𝓤 : URA M) (H : Heap 𝓤) (A : Atoms 𝓤) (W : Given
         (λ y g. LL.lawful Rec.the-type Rec′.the-laws 𝓤 H A W .typed y _ g .0) (λ y v g. EL.lawful Ans.the-type Ans′.the-laws 𝓤 H A W tt .typed y _ g .0) (λ r w is g. LL.lawful Out.the-type Out′.the-laws 𝓤 H A W .typed (record { answer = r; association = w }) _ (made r w is g) .0)
         𝓤 H A W (LL.makes Rec.the-type Rec′.the-plain 𝓤 H A) h (LL.val DecodedReply·.the-type DecodedReply·′.the-laws d) (sliceVal (list .ptr) (length (list .now))) (LL.val NtpTimestamp·.the-type NtpTimestamp·′.the-laws t1) (LL.val NtpTimestamp·.the-type NtpTimestamp·′.the-laws t4) (vint w64 time) h-is
         (LL.lawful DecodedReply·.the-type DecodedReply·′.the-laws 𝓤 H A W .typed d _ d-is .0) (shr-slice-lawful 𝓤 H A W (named 0) κ1 u8 .typed list _ list-is .0) (LL.lawful NtpTimestamp·.the-type NtpTimestamp·′.the-laws 𝓤 H A W .typed t1 _ t1-is .0) (LL.lawful NtpTimestamp·.the-type NtpTimestamp·′.the-laws 𝓤 H A W .typed t4 _ t4-is .0) (uint-lawful 𝓤 H A W w64 .typed time _ time-is .0)
-        Own (mean 𝓤 H A (‵ (flft κ1 q1) ⊛ ‵ ftrue)) (λ α l δ. Core 𝓤 H A at-mem run .pre (to-core α l δ)) (λ α l δ. Core 𝓤 H A at-mem run .post (to-core α l δ)) Post (Association × (Unit {0} × (Unit {0} × (Unit {0} × (Unit {0} × (Unit {0} × (Unit {0}))))))) (λ w. w .0) (fsep ftrue (fsep ftrue (fsep ftrue (fsep ftrue (fsep ftrue (ftrue)))))) (λ r w. (r ≡ replyDecodedOf h d (list .now) t1 t4 time .answer) × (w ≡ replyDecodedOf h d (list .now) t1 t4 time .association)) goes-core comes-back exits C Λ fm (λ α l δ. known (to-core α l δ)))
+        Own (mean 𝓤 H A (‵ (flft κ1 q1) ⊛ ‵ ftrue)) (λ α l δ. Core 𝓤 H A at-mem run .pre (to-core α l δ)) (λ α l δ. Core 𝓤 H A at-mem run .post (to-core α l δ)) Post Ensured (λ r w. (r ≡ replyDecodedOf h d (list .now) t1 t4 time .answer) × (w ≡ replyDecodedOf h d (list .now) t1 t4 time .association)) goes-core comes-back said-of exits C Λ fm (λ α l δ. known (to-core α l δ)))
 
 module _ {M : Type 1} (𝓤 : URA M) (H : Heap 𝓤) (A : Atoms 𝓤) (W : Given 𝓤 H A) (at-mem : Memory → SProp 𝓤) (run : Routine → Fun 𝓤) where
   walks : (C : Calls 𝓤 H) (Λ : Loops 𝓤 H) → FmC 𝓤 H (W .laws) C → Triple 𝓤 (C #reply·reply-decoded) (Core 𝓤 H A at-mem run) → Walks 𝓤 H A self.ended stayed (WpFn 𝓤 H C Λ code.function) (self.clauses 𝓤 H A at-mem run)
