@@ -1,0 +1,4 @@
+-- Laws that belong to no one function.
+pub mod Placing
+pub mod Sizes
+pub mod Fitting

@@ -1,0 +1,16 @@
+-- `request_header` meets its contract.
+-- Assumes nothing.
+use borrow.Author.Needs.{needs}
+use Rattle.request.specs.Request.{headerFor}
+use Rattle.request.proofs.request_header.Statement.{statement}
+use Rattle.request.proofs.request_header.Tie as tie
+
+reference-requires : tie.Need-reference-requires
+reference-requires c κs = search needs
+
+returns : tie.Need-returns
+unfolding headerFor
+returns c = rw (c .reference .ensures)
+
+pub request-header-spec : {M : Type 1} → statement M
+request-header-spec = tie.close (tie.spec reference-requires returns)

@@ -1,0 +1,41 @@
+-- What the writer answers, and what it leaves in the lent buffer (document 02, No. 1).
+-- Assumes nothing.
+use Prim.Native.Nat.{ℕ}
+use mathlib.Core.Bool.{_&&_, not, cond}
+use mathlib.Core.List.{List, _++_}
+use lib.Dec.{ltb}
+use lib.ListN.{length, drop}
+use Rattle.time_types.specs.declared.PollInterval.{PollInterval}
+use Rattle.timer.specs.declared.SendKind.{SendKind}
+use Rattle.request.specs.Request.{isV5, hasNts, askHolds, packetOf}
+use Rattle.request.specs.declared.Requested.{Requested}
+use Rattle.request.specs.declared.Requested.the-variants.{Written, VersionFive, ShortBuffer, CookieOrCount}
+
+-- 50 a V5 kind; 51 a buffer shorter than the packet; 52 a cookie over 724 bytes, or a number asked outside 1 to 8
+abbrev pub numberOf : Requested → ℕ
+numberOf (Written n) = 0
+numberOf VersionFive = 50
+numberOf ShortBuffer = 51
+numberOf CookieOrCount = 52
+
+-- a packet of a length, and a buffer
+abbrev pub fitted : ℕ → ℕ → Requested
+fitted long room = cond (ltb room long) ShortBuffer (Written long)
+
+-- 50, then with NTS 52, then 51; else the length up to the authenticator's place
+unfoldable pub requestOf : SendKind → PollInterval → ℕ → ℕ → List ℕ → List ℕ → ℕ → ℕ → Requested
+requestOf kind poll id mark uid cookie asked room =
+    cond (isV5 kind) VersionFive
+    (cond (hasNts kind && not (askHolds (length cookie) asked)) CookieOrCount
+    (fitted (length (packetOf kind poll id mark uid cookie asked)) room))
+
+-- the packet from the start on and the bytes past it untouched, or nothing written
+abbrev pub leftIn : List ℕ → List ℕ → Requested → List ℕ
+leftIn packet out (Written n) = packet ++ drop n out
+leftIn packet out VersionFive = out
+leftIn packet out ShortBuffer = out
+leftIn packet out CookieOrCount = out
+
+unfoldable pub bufferOf : SendKind → PollInterval → ℕ → ℕ → List ℕ → List ℕ → ℕ → List ℕ → List ℕ
+bufferOf kind poll id mark uid cookie asked out =
+    leftIn (packetOf kind poll id mark uid cookie asked) out (requestOf kind poll id mark uid cookie asked (length out))

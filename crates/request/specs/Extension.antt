@@ -1,0 +1,32 @@
+-- An extension field as it is written (RFC 7822, section 3): type, length, body and zeros.
+-- Assumes nothing.
+use Prim.Native.Nat.{ℕ, _+_, _-_, _*_, _/_, max}
+use mathlib.Core.List.{List, [], _∷_, _++_}
+use lib.ListN.{length, replicate}
+use Rattle.words.specs.Bytes.{toBe}
+
+-- a field to write: its type, its length with the head's four bytes counted, and what its body begins with
+pub record Extension : Type 0 where
+  pub kind : ℕ
+  pub len : ℕ
+  pub body : List ℕ
+
+abbrev pub extension : ℕ → ℕ → List ℕ → Extension
+extension kind len body = record { kind = kind; len = len; body = body }
+
+-- bytes, filled with zeros to n
+unfoldable pub filled : ℕ → List ℕ → List ℕ
+filled n bytes = bytes ++ replicate (n - length bytes) 0
+
+-- how long the field of a body of n bytes is: a multiple of four, and the least length, 16
+unfoldable pub fieldLength : ℕ → ℕ
+fieldLength n = max 16 ((n + 4 + 3) / 4 * 4)
+
+-- type and length, two bytes each, and the body, filled with zeros to the length
+unfoldable pub extensionBytes : Extension → List ℕ
+extensionBytes e = toBe 2 (e .kind) ++ toBe 2 (e .len) ++ filled (e .len - 4) (e .body)
+
+-- fields, one behind the other
+abbrev pub allBytes : List Extension → List ℕ
+allBytes [] = []
+allBytes (e ∷ es) = extensionBytes e ++ allBytes es

@@ -1,0 +1,4 @@
+-- The definitions that the contracts of `request` cite.
+pub mod Extension
+pub mod Request
+pub mod Answer

@@ -1,0 +1,100 @@
+-- The packet of a request (document 02, No. 1): RFC 5905, section 7.3, and with NTS RFC 8915, section 5.7.
+-- Assumes nothing.
+use Prim.Native.Nat.{ℕ, _-_}
+use mathlib.Core.Bool.{Bool, true, false, _&&_, cond}
+use mathlib.Core.List.{List, [], _∷_, _++_}
+use lib.Dec.{leb}
+use lib.IntN.{pos}
+use lib.ListN.{length, replicate}
+use Rattle.identifiers.specs.Names.{named}
+use Rattle.time_types.specs.declared.PollInterval.{PollInterval}
+use Rattle.time_types.specs.Time.{timestamp}
+use Rattle.header.specs.declared.Header.{Header}
+use Rattle.header.specs.declared.HeaderVersion.the-variants as version
+use Rattle.header.specs.declared.Leap.the-variants as leap
+use Rattle.header.specs.declared.Mode.the-variants as mode
+use Rattle.header.specs.Header.{bytesOf}
+use Rattle.fields.specs.Matching.{uidKind}
+use Rattle.fields.specs.Collector.{cookieKind}
+use Rattle.timer.specs.declared.SendKind.{SendKind}
+use Rattle.timer.specs.declared.SendKind.the-variants.{V4, V4Upgrade, V5, NtsV4, NtsV5}
+use Rattle.request.specs.Extension.{Extension, extension, fieldLength, allBytes}
+
+-- ---- the five kinds
+
+abbrev pub isV5 : SendKind → Bool
+isV5 V4 = false
+isV5 V4Upgrade = false
+isV5 V5 = true
+isV5 NtsV4 = false
+isV5 NtsV5 = true
+
+abbrev pub hasNts : SendKind → Bool
+hasNts V4 = false
+hasNts V4Upgrade = false
+hasNts V5 = false
+hasNts NtsV4 = true
+hasNts NtsV5 = true
+
+-- a cookie of at most 724 bytes, and 1 to 8 asked for
+abbrev pub askHolds : ℕ → ℕ → Bool
+askHolds len asked = leb len 724 && (leb 1 asked && leb asked 8)
+
+-- ---- the header
+
+-- the upgrade request has the mark as reference timestamp
+abbrev pub referenceOf : SendKind → ℕ → ℕ
+referenceOf V4 mark = 0
+referenceOf V4Upgrade mark = mark
+referenceOf V5 mark = 0
+referenceOf NtsV4 mark = 0
+referenceOf NtsV5 mark = 0
+
+-- leap 0, version 4, mode 3, the last poll, the pending 64 bits as transmit timestamp; all else is zero
+unfoldable pub headerFor : SendKind → PollInterval → ℕ → ℕ → Header
+headerFor kind poll id mark =
+    record {
+      version = version.V4;
+      leap = leap.NoWarning;
+      mode = mode.Client;
+      stratum = 0;
+      poll = poll;
+      precision = pos 0;
+      delay = 0;
+      dispersion = 0;
+      refid = named 0;
+      reference = timestamp (referenceOf kind mark);
+      origin = timestamp 0;
+      receive = timestamp 0;
+      transmit = timestamp id;
+    }
+
+-- ---- the fields
+
+abbrev pub placeholderKind : ℕ
+placeholderKind = 0x0304
+
+-- the field of a body, as long as the body asks for
+abbrev pub carrying : ℕ → List ℕ → Extension
+carrying kind body = extension kind (fieldLength (length body)) body
+
+-- a placeholder of a length
+abbrev pub placeholder : ℕ → Extension
+placeholder len = extension placeholderKind len []
+
+-- unique identifier; cookie; one placeholder of the cookie field's length for each new cookie beyond the first
+unfoldable pub fieldsFor : List ℕ → List ℕ → ℕ → List Extension
+fieldsFor uid cookie asked = carrying uidKind uid ∷ carrying cookieKind cookie ∷ replicate (asked - 1) (placeholder (fieldLength (length cookie)))
+
+-- ---- the packet
+
+-- the fields behind the bytes of a header; then comes the place where the caller's authenticator goes
+unfoldable pub withFields : List ℕ → List ℕ → List ℕ → ℕ → List ℕ
+withFields front uid cookie asked = front ++ allBytes (fieldsFor uid cookie asked)
+
+-- the header, and with NTS the fields
+unfoldable pub packetOf : SendKind → PollInterval → ℕ → ℕ → List ℕ → List ℕ → ℕ → List ℕ
+packetOf kind poll id mark uid cookie asked =
+    cond (hasNts kind)
+    (withFields (bytesOf (headerFor kind poll id mark)) uid cookie asked)
+    (bytesOf (headerFor kind poll id mark))

@@ -1,0 +1,241 @@
+// The request writer (document 02, No. 1): the packet of a poll, up to the place where the caller's authenticator goes.
+use header::Header;
+use header::HeaderVersion;
+use header::Leap;
+use header::Mode;
+use identifiers::ReferenceId;
+use time_types::NtpTimestamp;
+use time_types::PollInterval;
+use timer::SendKind;
+ghost use mathlib.Core.Path.{_≡_};
+ghost use mathlib.Core.Bool.{true};
+ghost use Prim.Native.Nat.{_+_, _*_, _-_, _≤_, _<_};
+ghost use lib.ListN.{length, getD, replicate};
+ghost use Rattle.header.specs.Header.{placed, bytesOf};
+ghost use Rattle.request.specs.Extension.{extension, filled, fieldLength, extensionBytes, allBytes};
+ghost use Rattle.request.specs.Request.{isV5, hasNts, askHolds, referenceOf, headerFor, placeholder, fieldsFor, withFields};
+ghost use Rattle.request.specs.Answer.{numberOf, fitted, leftIn, requestOf, bufferOf};
+
+const HEADER: usize = 48;
+
+// The types of the fields that a request carries.
+const UID: u16 = 0x0104;
+
+const COOKIE: u16 = 0x0204;
+
+const PLACEHOLDER: u16 = 0x0304;
+
+// The longest cookie, and the most new ones that a request asks for.
+const MAX_COOKIE: usize = 724;
+
+const MAX_ASKED: u8 = 8;
+
+// The packet's length where it is in the buffer, or why nothing was written.
+pub enum Requested {
+    Written(usize),
+    VersionFive,
+    ShortBuffer,
+    CookieOrCount,
+}
+
+impl Requested {
+    // Document 02's number of the answer.
+    pub fn number(self) -> u8
+        ensures { λ r. ⌜ r ≡ numberOf self ⌝ }
+    {
+        match self {
+            Requested::Written(_) => 0,
+            Requested::VersionFive => 50,
+            Requested::ShortBuffer => 51,
+            Requested::CookieOrCount => 52,
+        }
+    }
+}
+
+fn is_v5(kind: SendKind) -> bool
+    ensures { λ r. ⌜ r ≡ isV5 kind ⌝ }
+{
+    match kind {
+        SendKind::V4 => false,
+        SendKind::V4Upgrade => false,
+        SendKind::V5 => true,
+        SendKind::NtsV4 => false,
+        SendKind::NtsV5 => true,
+    }
+}
+
+fn has_nts(kind: SendKind) -> bool
+    ensures { λ r. ⌜ r ≡ hasNts kind ⌝ }
+{
+    match kind {
+        SendKind::V4 => false,
+        SendKind::V4Upgrade => false,
+        SendKind::V5 => false,
+        SendKind::NtsV4 => true,
+        SendKind::NtsV5 => true,
+    }
+}
+
+// The mark stands in an upgrade request, and nothing in any other.
+fn reference(kind: SendKind, mark: u64) -> u64
+    ensures { λ r. ⌜ r ≡ referenceOf kind mark ⌝ }
+{
+    match kind {
+        SendKind::V4 => 0,
+        SendKind::V4Upgrade => mark,
+        SendKind::V5 => 0,
+        SendKind::NtsV4 => 0,
+        SendKind::NtsV5 => 0,
+    }
+}
+
+// Whether a cookie of a length may be sent and so many new ones be asked for.
+fn ask_holds(len: usize, asked: u8) -> bool
+    ensures { λ r. ⌜ r ≡ askHolds len asked ⌝ }
+{
+    if len <= MAX_COOKIE {
+        if 1 <= asked { asked <= MAX_ASKED } else { false }
+    } else {
+        false
+    }
+}
+
+// How long the field of a body is: a multiple of four, and at least 16.
+fn field_length(len: usize) -> usize
+    requires { ⌜ len ≤ 724 ⌝ }
+    ensures { λ r. ⌜ r ≡ fieldLength len ⌝ }
+{
+    let long = (len + 7) / 4 * 4;
+    if long < 16 { 16 } else { long }
+}
+
+fn request_header(kind: SendKind, poll: PollInterval, id: u64, mark: u64) -> Header
+    ensures { λ r. ⌜ r ≡ headerFor kind poll id mark ⌝ }
+{
+    Header {
+        version: HeaderVersion::V4,
+        leap: Leap::NoWarning,
+        mode: Mode::Client,
+        stratum: 0,
+        poll,
+        precision: 0,
+        delay: 0,
+        dispersion: 0,
+        refid: ReferenceId(0),
+        reference: NtpTimestamp(reference(kind, mark)),
+        origin: NtpTimestamp(0),
+        receive: NtpTimestamp(0),
+        transmit: NtpTimestamp(id),
+    }
+}
+
+fn byte_or_zero(bytes: &[u8], i: usize) -> u8
+    ensures { λ r. ⌜ r ≡ getD (now (bytes .entry)) i 0 ⌝ }
+{
+    if i < bytes.len() { bytes[i] } else { 0 }
+}
+
+// Bytes, and zeros behind them, n in all, in place of the buffer's own from an offset on.
+fn put(out: &mut [u8], at: usize, bytes: &[u8], n: usize)
+    requires { ⌜ (at + n ≤ length (now out)) × (length (now bytes) ≤ n) ⌝ }
+    ensures { λ _. ⌜ now (out .exit) ≡ placed (now (out .entry)) at (filled n (now (bytes .entry))) ⌝ }
+{
+    let mut i = 0;
+    while i < n {
+        out[at + i] = byte_or_zero(bytes, i);
+        i += 1;
+    }
+}
+
+// A field of a length, head counted, whose body is filled with zeros; gives the offset behind it.
+fn put_field(out: &mut [u8], at: usize, kind: u16, len: usize, body: &[u8]) -> usize
+    requires { ⌜ (at + len ≤ length (now out)) × (length (now body) + 4 ≤ len) × (len < 65536) ⌝ }
+    ensures { λ r. ⌜ (r ≡ at + len) × (now (out .exit) ≡ placed (now (out .entry)) at (extensionBytes (extension kind len (now (body .entry))))) ⌝ }
+{
+    put(out, at, &words::be16_bytes(kind), 2);
+    put(out, at + 2, &words::be16_bytes(len as u16), 2);
+    put(out, at + 4, body, len - 4);
+    at + len
+}
+
+// So many placeholders of a length, one behind the other; gives the offset behind them.
+fn put_placeholders(out: &mut [u8], first: usize, len: usize, n: usize) -> usize
+    requires { ⌜ (first + n * len ≤ length (now out)) × (4 ≤ len) × (len < 65536) ⌝ }
+    ensures { λ r. ⌜ (r ≡ first + n * len) × (now (out .exit) ≡ placed (now (out .entry)) first (allBytes (replicate n (placeholder len)))) ⌝ }
+{
+    let mut at = first;
+    let mut i = 0;
+    while i < n {
+        at = put_field(out, at, PLACEHOLDER, len, b"");
+        i += 1;
+    }
+    at
+}
+
+// The header's bytes.
+fn header_bytes(kind: SendKind, poll: PollInterval, id: u64, mark: u64) -> [u8; 48]
+    ensures { λ r. ⌜ r ≡ bytesOf (headerFor kind poll id mark) ⌝ }
+{
+    header::write_header(request_header(kind, poll, id, mark))
+}
+
+// The fields behind the header, of which the cookie's has a length; gives the offset behind them.
+fn put_fields(out: &mut [u8], uid: [u8; 32], cookie: &[u8], len: usize, asked: usize) -> usize
+    requires { ⌜ (84 + asked * len ≤ length (now out)) × (len ≡ fieldLength (length (now cookie))) × (length (now cookie) ≤ 724) × (1 ≤ asked) ⌝ }
+    ensures { λ r. ⌜ (r ≡ 84 + asked * len) × (now (out .exit) ≡ placed (now (out .entry)) 48 (allBytes (fieldsFor uid (now (cookie .entry)) asked))) ⌝ }
+{
+    let first = put_field(out, HEADER, UID, 36, &uid);
+    let second = put_field(out, first, COOKIE, len, cookie);
+    put_placeholders(out, second, len, asked - 1)
+}
+
+// A packet that is a header alone.
+fn write_plain(front: [u8; 48], out: &mut [u8]) -> Requested
+    ensures { λ r. ⌜ (r ≡ fitted (length front) (length (now (out .entry)))) × (now (out .exit) ≡ leftIn front (now (out .entry)) (fitted (length front) (length (now (out .entry))))) ⌝ }
+{
+    if out.len() < HEADER {
+        return Requested::ShortBuffer;
+    }
+    put(out, 0, &front, HEADER);
+    Requested::Written(HEADER)
+}
+
+// A packet of a header and the fields of NTS.
+fn write_nts(front: [u8; 48], uid: [u8; 32], cookie: &[u8], asked: u8, out: &mut [u8]) -> Requested
+    requires { ⌜ askHolds (length (now cookie)) asked ≡ true ⌝ }
+    ensures { λ r. ⌜ (r ≡ fitted (length (withFields front uid (now (cookie .entry)) asked)) (length (now (out .entry)))) × (now (out .exit) ≡ leftIn (withFields front uid (now (cookie .entry)) asked) (now (out .entry)) (fitted (length (withFields front uid (now (cookie .entry)) asked)) (length (now (out .entry))))) ⌝ }
+{
+    let len = field_length(cookie.len());
+    let new = asked as usize;
+    if out.len() < 84 + new * len {
+        return Requested::ShortBuffer;
+    }
+    put(out, 0, &front, HEADER);
+    Requested::Written(put_fields(out, uid, cookie, len, new))
+}
+
+// Writes the request from the buffer's start on. In order: 50, with NTS 52, 51, the packet.
+pub fn write_request(
+    kind: SendKind,
+    poll: PollInterval,
+    id: u64,
+    mark: u64,
+    uid: [u8; 32],
+    cookie: &[u8],
+    asked: u8,
+    out: &mut [u8],
+) -> Requested
+    ensures { λ r. ⌜ (r ≡ requestOf kind poll id mark uid (now (cookie .entry)) asked (length (now (out .entry)))) × (now (out .exit) ≡ bufferOf kind poll id mark uid (now (cookie .entry)) asked (now (out .entry))) ⌝ }
+{
+    if is_v5(kind) {
+        return Requested::VersionFive;
+    }
+    let front = header_bytes(kind, poll, id, mark);
+    if has_nts(kind) {
+        if !ask_holds(cookie.len(), asked) {
+            return Requested::CookieOrCount;
+        }
+        return write_nts(front, uid, cookie, asked, out);
+    }
+    write_plain(front, out)
+}
