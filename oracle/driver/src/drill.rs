@@ -68,7 +68,7 @@ fn held(b: &[u8]) -> String {
     bytes(b)
 }
 
-fn uid_text(uid: &[u8; 32]) -> String {
+pub fn uid_text(uid: &[u8; 32]) -> String {
     if *uid == [0; 32] { "-".into() } else { hex(uid) }
 }
 
@@ -194,7 +194,8 @@ impl Log {
         self.put(command, answer, answer, None);
     }
 
-    fn put(&mut self, command: &str, of_crate: &str, of_rules: &str, reason: Option<&'static str>) {
+    /// A command with the crate's answer and the rule's; where there is a reason the rule's is expected.
+    pub fn put(&mut self, command: &str, of_crate: &str, of_rules: &str, reason: Option<&'static str>) {
         assert!(command.len() <= 32_768, "a line has at most 32,768 characters");
         self.line += 1;
         writeln!(self.drill, "{command}").unwrap();

@@ -5,6 +5,7 @@ mod exec;
 mod limits;
 mod own;
 mod random;
+mod requests;
 mod rules;
 mod speed;
 mod state;
@@ -20,6 +21,7 @@ const USAGE: &str = "driver log SEED CASES STEPS [wild] [set] [nts|plain] OUT.dr
 driver check SEED CASES STEPS [wild] [set] [nts|plain]
 driver limits OUT.drill OUT.expected
 driver own OUT.drill OUT.expected
+driver requests SEED COUNT OUT.drill OUT.expected
 driver sample OUT.drill OUT.expected
 driver speed timer|reply|timer-nts|reply-nts N [base]";
 
@@ -148,6 +150,9 @@ fn main() -> ExitCode {
         (["check", _, _, _], [seed, count, steps]) => check(*seed, *count, *steps, manner),
         (["limits", drill, expected], _) => write_log(drill, expected, limits::write),
         (["own", drill, expected], _) => write_log(drill, expected, own::write),
+        (["requests", _, _, drill, expected], [seed, count]) => {
+            write_log(drill, expected, |log| requests::write(log, *seed, *count))
+        }
         (["sample", drill, expected], _) => write_log(drill, expected, sample),
         (["speed", kind, calls, more @ ..], _) if speed::KINDS.contains(kind) && (more.is_empty() || more == ["base"]) => {
             match calls.parse() {

@@ -10,6 +10,9 @@ pub const HELD: usize = 4096;
 pub struct Rng(u64);
 
 impl Rng {
+    pub fn of(seed: u64) -> Self {
+        Rng(seed.wrapping_mul(0xd1342543de82ef95) ^ 0x6f7261636c65)
+    }
     pub fn next(&mut self) -> u64 {
         self.0 = self.0.wrapping_add(0x9e3779b97f4a7c15);
         let mut z = self.0;
@@ -74,7 +77,7 @@ const SHORT_LENGTHS: [usize; 8] = [0, 1, 4, 16, 24, 90, 91, 100];
 
 impl Random {
     pub fn new(seed: u64, manner: Manner) -> Self {
-        let mut r = Rng(seed.wrapping_mul(0xd1342543de82ef95) ^ 0x6f7261636c65);
+        let mut r = Rng::of(seed);
         let base = r.next();
         Random {
             r,
