@@ -94,7 +94,11 @@ fn ask_holds(len: usize, asked: u8) -> bool
     ensures { λ r. ⌜ r ≡ askHolds len asked ⌝ }
 {
     if len <= MAX_COOKIE {
-        if 1 <= asked { asked <= MAX_ASKED } else { false }
+        if 1 <= asked {
+            asked <= MAX_ASKED
+        } else {
+            false
+        }
     } else {
         false
     }

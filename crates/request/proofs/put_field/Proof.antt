@@ -71,14 +71,13 @@ returns c =
     let p2 = p3 .before .before .before .before in
     let p1 = p2 .before .before .before .before .before .before in
     let s = p1 .before .before .before .before .before .before in
-    let a = s .args in
-    (
+    let a = s .args in (
       refl,
       field-placed (now (a .out)) (now (a .body)) (a .at) (a .kind) (a .len) (s .pre .0) (s .pre .1)
-      (p1 .put .last .0) (p2 .put2 .last .0) (p3 .put3 .last .0)
-      (p1 .put .ensures ∙ rw (p1 .before .before .be16-bytes .ensures))
-      (p2 .put2 .ensures ∙ rw (p2 .before .before .be16-bytes2 .ensures))
-      (p3 .put3 .ensures),
+          (p1 .put .last .0) (p2 .put2 .last .0) (p3 .put3 .last .0)
+          (p1 .put .ensures ∙ rw (p1 .before .before .be16-bytes .ensures))
+          (p2 .put2 .ensures ∙ rw (p2 .before .before .be16-bytes2 .ensures))
+          (p3 .put3 .ensures),
     )
 
 pub put-field-spec : {M : Type 1} → statement M

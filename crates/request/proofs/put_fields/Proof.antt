@@ -23,8 +23,7 @@ put-field-requires-2 c κs =
     let f = c .before .before .before in
     let s = f .before .before .before .before .before in
     let n = length (now (s .args .cookie)) in
-    let rest = first-and-rest (s .args .asked) (s .args .len) (s .pre .3) in
-    (
+    let rest = first-and-rest (s .args .asked) (s .args .len) (s .pre .3) in (
       omega (arith, f .put-field .ensures .0, f .put-field .kept .0, s .pre .0, rest),
       omega (arith, s .pre .1, field-covers n),
       omega (arith, s .pre .1, field-most n (s .pre .2)),
@@ -39,8 +38,7 @@ put-placeholders-requires c κs =
     let f = g .before .before .before .before in
     let s = f .before .before .before .before .before in
     let n = length (now (s .args .cookie)) in
-    let rest = first-and-rest (s .args .asked) (s .args .len) (s .pre .3) in
-    (
+    let rest = first-and-rest (s .args .asked) (s .args .len) (s .pre .3) in (
       omega (arith, f .put-field .ensures .0, f .put-field .kept .0, g .put-field2 .ensures .0, g .put-field2 .kept .0, s .pre .0, rest),
       omega (arith, s .pre .1, field-least n),
       omega (arith, s .pre .1, field-most n (s .pre .2)),
@@ -57,15 +55,14 @@ returns c =
     let s = f .before .before .before .before .before in
     let a = s .args in
     let rest = first-and-rest (a .asked) (a .len) (s .pre .3) in
-    let size : length (a .t2) ≡ 32 = search needs in
-    (
+    let size : length (a .t2) ≡ 32 = search needs in (
       omega (arith, f .put-field .ensures .0, g .put-field2 .ensures .0, h .put-placeholders .ensures .0, rest),
       fields-placed (a .t2) (now (a .cookie)) (a .asked) size (s .pre .3) (a .len) (s .pre .1) (now (a .out))
-      (f .put-field .last .0) (g .put-field2 .last .0) (h .put-placeholders .last .0)
-      (s .pre .0)
-      (f .put-field .ensures .1)
-      (g .put-field2 .ensures .1 ∙ rw (f .put-field .ensures .0))
-      (h .put-placeholders .ensures .1 ∙ rw (g .put-field2 .ensures .0, f .put-field .ensures .0)),
+          (f .put-field .last .0) (g .put-field2 .last .0) (h .put-placeholders .last .0)
+          (s .pre .0)
+          (f .put-field .ensures .1)
+          (g .put-field2 .ensures .1 ∙ rw (f .put-field .ensures .0))
+          (h .put-placeholders .ensures .1 ∙ rw (g .put-field2 .ensures .0, f .put-field .ensures .0)),
     )
 
 pub put-fields-spec : {M : Type 1} → statement M

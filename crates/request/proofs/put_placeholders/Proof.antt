@@ -59,12 +59,11 @@ loop-again c =
     let l = t .before .loop in
     let s = t .before .before .before in
     let a = s .args in
-    let room = turn-room (l .i) (a .n) (a .len) (t .loop-test .taken) in
-    (
+    let room = turn-room (l .i) (a .n) (a .len) (t .loop-test .taken) in (
       omega arith,
       k .put-field .ensures .0 ∙ rw (l .inv .1, add-one, suc-mul) (omega arith),
       placeholders-placed (a .len) (s .pre .1) (now (a .out)) (a .first) (l .i) (omega (arith, room, s .pre .0)) (l .out) (k .put-field .last .0)
-      (l .inv .2) (k .put-field .ensures .1 ∙ rw (l .inv .1)),
+          (l .inv .2) (k .put-field .ensures .1 ∙ rw (l .inv .1)),
       k .put-field .kept .0 ∙ l .inv .3,
     )
 
