@@ -5,6 +5,7 @@ mod polls;
 mod print;
 mod record;
 mod replies;
+mod requests;
 mod text;
 mod value;
 
@@ -44,7 +45,7 @@ fn start() -> Log {
 // Which command a line's word is.
 fn command(word: &[u8]) -> usize {
     text::index_of(
-        b"new timer reply reply5 accept collect show cookies blank poke",
+        b"new timer reply reply5 accept collect show cookies blank poke request",
         word,
     )
 }
@@ -62,6 +63,7 @@ fn answer(a: Association, line: &[u8], number: u64, out: &mut [u8]) -> Ran {
         7 => record::cookies(a, line, number, out),
         8 => record::blank(a, line, number, out),
         9 => record::poke(a, line, number, out),
+        10 => requests::request(a, line, number, out),
         _ => {
             let end = print::error(out, number, b"unknown command", b"");
             Ran {

@@ -2,3 +2,6 @@
 pub mod Placing
 pub mod Sizes
 pub mod Fitting
+pub mod Reading
+pub mod Longest
+pub mod Determined
