@@ -1,14 +1,13 @@
 -- How long a request can be: any that is written, and any that a timer's 20 asks for, with the buffer that holds it.
 -- Assumes nothing.
 use mathlib.Core.Path.{_≡_, refl, sym, ap, _∙_}
-use mathlib.Core.Bool.{Bool, true, false, _&&_, not, cond}
+use mathlib.Core.Bool.{Bool, true, false, _&&_, not}
 use mathlib.Core.List.{List}
-use Prim.Native.Nat.{ℕ, _+_, _*_, _/_, _≤_, _<_, max}
+use Prim.Native.Nat.{ℕ, _+_, _*_, _≤_, _<_, max}
 use native.Mathlib.Nat.{le-div-iff-mul-le, mul-le-mul-right}
 use native.Mathlib.Omega.{arith}
 use borrow.Author.Count.{below-none, below-more}
 use borrow.Author.Tests.{le-leb, le-ltb, eqb-false}
-use lib.Dec.{eqb}
 use lib.ListN.{length, replicate}
 use Rattle.cookiestash.specs.Stash.{getOf, gapOf}
 use Rattle.version.specs.declared.ProtocolVersion.{ProtocolVersion}
@@ -18,33 +17,29 @@ use Rattle.header.specs.Header.{bytesOf}
 use Rattle.association.specs.declared.Association.{Association}
 use Rattle.association.specs.New.{withStash}
 use Rattle.timer.specs.declared.SendKind.{SendKind}
-use Rattle.timer.specs.declared.SendKind.the-variants.{V4, V4Upgrade, V5, NtsV4, NtsV5}
-use Rattle.timer.specs.declared.TimerAnswer.the-variants.{Sent, Reset, Demobilize, NoCookie, CookieTooLarge, ShortBuffer, NotWhole}
+use Rattle.timer.specs.declared.SendKind.the-variants.{V4, V5, NtsV4}
+use Rattle.timer.specs.declared.TimerAnswer.the-variants.{Sent}
 use Rattle.timer.specs.declared.TimerOut.{TimerOut}
 use Rattle.timer.specs.Poll.{triedOf, kindOf, askedOf}
 use Rattle.timer.specs.Timer.{timerOf, asked}
 use Rattle.timer.proofs.Cases.{Case, cases, not-whole, short-buffer, demobilize, reset, no-cookie, too-large, sent, sent-nts}
 use Rattle.request.specs.Extension.{fieldLength}
-use Rattle.request.specs.Request.{isV5, hasNts, askHolds, headerFor, withFields, packetOf}
-use Rattle.request.specs.Answer.{fitted, requestOf}
+use Rattle.request.specs.Request.{isV5, hasNts, askHolds, headerFor, packetOf}
+use Rattle.request.specs.Answer.{requestOf}
 use Rattle.request.specs.declared.Requested.the-variants.{Written}
-use Rattle.request.proofs.Sizes.{asks, all-most, length-packet}
+use Rattle.request.proofs.Sizes.{length-header, asks, all-most, length-packet}
 
 -- ---- the packet's length
 
 module _ (kind : SendKind) (poll : PollInterval) (id mark : ℕ) (uid cookie : List ℕ) (asked : ℕ) (size : length uid ≡ 32) where
-  front-long : length (bytesOf (headerFor kind poll id mark)) ≡ 48
-  unfolding bytesOf
-  front-long = refl
-
   -- without NTS, and with it
   pub length-plain : hasNts kind ≡ false → length (packetOf kind poll id mark uid cookie asked) ≡ 48
   unfolding packetOf
-  length-plain n = rw n front-long
+  length-plain n = rw n (length-header (headerFor kind poll id mark))
 
   pub length-nts : hasNts kind ≡ true → 1 ≤ asked → length (packetOf kind poll id mark uid cookie asked) ≡ 84 + asked * fieldLength (length cookie)
   unfolding packetOf
-  length-nts n some = rw n (length-packet uid cookie asked size some (bytesOf (headerFor kind poll id mark)) front-long)
+  length-nts n some = rw n (length-packet uid cookie asked size some (bytesOf (headerFor kind poll id mark)) (length-header (headerFor kind poll id mark)))
 
   at-most : (m : ℕ) → 48 ≤ m → (hasNts kind ≡ true → (1 ≤ asked) × (84 + asked * fieldLength (length cookie) ≤ m)) → length (packetOf kind poll id mark uid cookie asked) ≤ m
   at-most m h f = go (hasNts kind) refl

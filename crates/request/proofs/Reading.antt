@@ -8,15 +8,14 @@ use Prim.Native.Nat.{ℕ, zero, suc, _+_, _-_, _%_, _^_, _≤_, _<_}
 use native.Mathlib.Nat.{mod-eq-of-lt}
 use native.Mathlib.Omega.{arith}
 use borrow.Author.Tests.{lt-ltb, le-ltb, lt-leb, le-leb, eq-eqb, ne-eqb, ltb-true, ltb-false}
-use lib.Dec.{ltb, leb, eqb, lit<, lit≤}
-use lib.ListN.{length, getD, take, drop, replicate, length-append, length-drop, List·getD-append}
-use lib.Seq.{take-append-le, drop-append-le, drop-append-seam, drop-drop, take-at, drop-at}
+use lib.Dec.{ltb, leb, lit<, lit≤}
+use lib.ListN.{length, drop, replicate, length-append, length-drop, List·getD-append}
+use lib.Seq.{take-append-le, drop-append-le, drop-drop, take-at, drop-at}
 use mir.Syntax.{w8}
 use mir.Val.{SFits}
 use Rattle.words.specs.Bytes.{be, part, toBe}
 use Rattle.words.proofs.Bytes.{be-toBe}
 use Rattle.time_types.specs.declared.PollInterval.{PollInterval}
-use Rattle.header.specs.declared.Header.{Header}
 use Rattle.header.specs.declared.HeaderVersion.{HeaderVersion}
 use Rattle.header.specs.declared.HeaderRead.the-variants.{Decoded}
 use Rattle.header.specs.Header.{fields, headerOf, bytesOf}
@@ -38,7 +37,7 @@ use Rattle.request.specs.Extension.{Extension, filled, fieldLength, exte
 use Rattle.request.specs.Request.{hasNts, referenceOf, headerFor, carrying, placeholder, fieldsFor, withFields, packetOf}
 use Rattle.request.specs.Reading.{Legible, foundAt, walkedBy}
 use Rattle.request.proofs.Placing.{length-filled, filled-full, length-extension}
-use Rattle.request.proofs.Sizes.{field-covers, field-least, field-fours, field-most}
+use Rattle.request.proofs.Sizes.{length-header, field-covers, field-least, field-fours, field-most}
 
 -- ---- the header: what stands behind it does not matter
 
@@ -231,8 +230,7 @@ module _ (kind : SendKind) (poll : PollInterval) (id mark : ℕ) (uid cookie : L
   front = bytesOf (headerFor kind poll id mark)
 
   front-long : length front ≡ 48
-  unfolding bytesOf
-  front-long = refl
+  front-long = length-header (headerFor kind poll id mark)
 
   fit : SFits w8 (poll .0) → id < 2 ^ 64 → mark < 2 ^ 64 → Fit (headerFor kind poll id mark)
   unfolding headerFor

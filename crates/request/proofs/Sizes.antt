@@ -3,14 +3,15 @@
 use mathlib.Core.Path.{_≡_, refl, sym, ap, subst, _∙_}
 use mathlib.Core.Bool.{true, _&&_}
 use mathlib.Core.List.{List, _++_, append-assoc}
-use Prim.Native.Nat.{ℕ, suc, _+_, _-_, _*_, _%_, _≤_, _<_}
+use Prim.Native.Nat.{ℕ, suc, _+_, _-_, _*_, _%_, _≤_}
 use native.Mathlib.Nat.{suc-mul, mul-le-mul}
 use native.Mathlib.Omega.{arith}
 use lib.Dec.{leb}
 use lib.ListN.{length, drop, replicate, length-append}
 use borrow.Author.Tests.{leb-true}
 use Rattle.words.proofs.Tests.{both}
-use Rattle.header.specs.Header.{placed}
+use Rattle.header.specs.declared.Header.{Header}
+use Rattle.header.specs.Header.{bytesOf, placed}
 use Rattle.fields.specs.Matching.{uidKind}
 use Rattle.fields.specs.Collector.{cookieKind}
 use Rattle.request.specs.Extension.{extension, filled, fieldLength, extensionBytes, allBytes}
@@ -34,6 +35,11 @@ field-fours n = omega arith
 pub field-most : (n : ℕ) → n ≤ 724 → fieldLength n ≤ 728
 unfolding fieldLength
 field-most n h = omega arith
+
+-- a header has 48 bytes
+pub length-header : (h : Header) → length (bytesOf h) ≡ 48
+unfolding bytesOf
+length-header h = refl
 
 -- what a request may ask for, and that its fields are few bytes
 pub asks : (len asked : ℕ) → askHolds len asked ≡ true → (len ≤ 724) × (1 ≤ asked) × (asked ≤ 8)

@@ -1,7 +1,7 @@
 -- `put_fields` meets its contract: the three parts are put one behind the other.
 -- Assumes nothing.
-use Prim.Native.Nat.{_≤_, _<_, _+_, _-_, _*_}
-use mathlib.Core.Path.{_≡_, refl, sym, ap, _∙_}
+use Prim.Native.Nat.{_-_}
+use mathlib.Core.Path.{_≡_, _∙_}
 use native.Mathlib.Omega.{arith}
 use borrow.Author.Needs.{needs}
 use lib.ListN.{length}
@@ -9,8 +9,6 @@ use denote.Ref.{now}
 use Rattle.request.proofs.Sizes.{field-covers, field-least, field-most, first-and-rest, fields-placed}
 use Rattle.request.proofs.put_fields.Statement.{statement}
 use Rattle.request.proofs.put_fields.Tie as tie
-use Rattle.request.proofs.put_fields.Reads as reads
-use Rattle.request.proofs.put_fields.Lts as lts
 
 slice-aggregate-put-field : tie.Need-slice-aggregate-put-field
 slice-aggregate-put-field c = search needs

@@ -1,11 +1,10 @@
 -- `put_placeholders` meets its contract. The loop's invariant: the first i placeholders are in their place.
 -- Assumes nothing.
 use Prim.Native.Nat.{_+_, _-_, _*_, _≤_}
-use mathlib.Core.Path.{_≡_, refl, sym, ap, _∙_}
+use mathlib.Core.Path.{_≡_, refl, _∙_}
 use native.Mathlib.Nat.{zero-mul, suc-mul}
 use native.Mathlib.Numerals.{add-one}
 use native.Mathlib.Omega.{arith}
-use borrow.Author.Needs.{needs}
 use lib.ListN.{length, replicate}
 use denote.Ref.{now}
 use Rattle.header.specs.Header.{placed}
@@ -14,9 +13,6 @@ use Rattle.request.specs.Request.{placeholder}
 use Rattle.request.proofs.Placing.{placed-none, turn-room, placeholders-placed}
 use Rattle.request.proofs.put_placeholders.Statement.{statement}
 use Rattle.request.proofs.put_placeholders.Tie as tie
-use Rattle.request.proofs.put_placeholders.Reads as reads
-use Rattle.request.proofs.put_placeholders.Lts as lts
-use Rattle.request.proofs.put_field.Reads as put-field-reads
 
 abbrev Inv-loop : tie.InvT-loop
 Inv-loop out₀ first len n at₀ i₀ t7 out at i =
@@ -25,17 +21,14 @@ Inv-loop out₀ first len n at₀ i₀ t7 out at i =
 abbrev μ-loop : tie.MeasureT-loop
 μ-loop out₀ first len n at₀ i₀ t7 out at i = n - i
 
--- src/lib.rt:167:5
 loop-holds : tie.Need-loop-holds Inv-loop μ-loop
 loop-holds c =
     let a = c .before .args in
     (omega arith, rw (zero-mul (a .len)) (omega arith), placed-none (now (a .out)) (a .first), refl)
 
--- src/lib.rt:168:51
 slice-aggregate-put-field : tie.Need-slice-aggregate-put-field Inv-loop μ-loop
 slice-aggregate-put-field c = refl
 
--- src/lib.rt:168:9
 put-field-requires : tie.Need-put-field-requires Inv-loop μ-loop
 put-field-requires c κs =
     let s = c .before .before .before .before .before in
@@ -43,15 +36,12 @@ put-field-requires c κs =
     let room = turn-room (l .i) (s .args .n) (s .args .len) (c .before .before .loop-test .taken) in
     (omega (arith, room, l .inv .1, l .inv .3, s .pre .0), s .pre .1, s .pre .2)
 
--- src/lib.rt:169:9
 add-i : tie.Need-add-i Inv-loop μ-loop
 add-i c = omega arith
 
--- src/lib.rt:167:5
 loop-less : tie.Need-loop-less Inv-loop μ-loop
 loop-less c = omega arith
 
--- src/lib.rt:167:5
 loop-again : tie.Need-loop-again Inv-loop μ-loop
 loop-again c =
     let k = c .before .before in
@@ -67,11 +57,9 @@ loop-again c =
       k .put-field .kept .0 ∙ l .inv .3,
     )
 
--- src/lib.rt:161:1
 same-length : tie.Need-same-length Inv-loop μ-loop
 same-length c = c .before .loop .inv .3
 
--- src/lib.rt:161:1
 returns : tie.Need-returns Inv-loop μ-loop
 returns c =
     let l = c .before .loop in

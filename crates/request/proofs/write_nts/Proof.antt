@@ -6,15 +6,12 @@ use native.Mathlib.Omega.{arith}
 use borrow.Author.Needs.{needs}
 use lib.ListN.{length}
 use denote.Ref.{now}
-use Rattle.request.specs.Extension.{fieldLength}
 use Rattle.request.specs.Request.{withFields}
 use Rattle.request.specs.declared.Requested.the-variants.{Written}
 use Rattle.request.proofs.Sizes.{asks, all-most, length-packet, packet-placed}
 use Rattle.request.proofs.Fitting.{too-long, fits}
 use Rattle.request.proofs.write_nts.Statement.{statement}
 use Rattle.request.proofs.write_nts.Tie as tie
-use Rattle.request.proofs.write_nts.Reads as reads
-use Rattle.request.proofs.write_nts.Lts as lts
 
 -- what may be asked for
 holds : (s : tie.Start) → (length (now (s .args .cookie)) ≤ 724) × (1 ≤ s .args .asked) × (s .args .asked ≤ 8)
