@@ -21,10 +21,10 @@ use Rattle.timer.specs.Poll.{startupOver, triedOf, requestOf, sentOf}
 use Rattle.timer.specs.Timer as T
 use Rattle.reply.specs.declared.ReplyOut.{ReplyOut}
 use Rattle.reply.specs.Answer as reply
-use Rattle.reply.specs.Judge.{live, steppedRecord, afterRateKiss, afterDenial, afterMeasured}
+use Rattle.reply.specs.Judge.{live}
 use Rattle.reply.specs.Numbers as N
 use Rattle.reply.specs.Numbers.{not-whole, undecodable, broken-list, unexpected-version, no-live-request, no-match, rate, denied, denied-nts, ntsn, other-kiss, bad-stratum, not-server, measured}
-use Rattle.reply.proofs.Numbers.{request-next, reply-given, reply-decoded-given}
+use Rattle.reply.proofs.Numbers.{request-next, settings-next, reply-given, reply-decoded-given}
 use Rattle.log.specs.Log as log
 use Rattle.log.specs.Machine as M
 use Rattle.demand3.specs.Association.{TimerIn, ReplyIn, Times, bytes, decoded, readWith, answersAs, rule, pendingOf, timed, replied, machine}
@@ -61,23 +61,6 @@ rang a t =
 -- ---- the reply
 
 module _ {a : Association} {read : ReplyRead} {list : List ℕ} {t1 t4 : NtpTimestamp} {time : ℕ} where
-  reply-settings : {n : ℕ} {o : ReplyOut} → N.Given a read list t1 t4 time n o → o .association .settings ≡ a .settings
-  unfolding steppedRecord afterRateKiss afterDenial afterMeasured
-  reply-settings (not-whole e) = refl
-  reply-settings (undecodable w e) = refl
-  reply-settings (broken-list d e) = refl
-  reply-settings (unexpected-version l e) = refl
-  reply-settings (no-live-request x e) = refl
-  reply-settings (no-match i e) = refl
-  reply-settings (rate m e) = refl
-  reply-settings (denied u e f) = refl
-  reply-settings (denied-nts u e f) = refl
-  reply-settings (ntsn v e) = refl
-  reply-settings (other-kiss w e) = refl
-  reply-settings (bad-stratum k e) = refl
-  reply-settings (not-server s e) = refl
-  reply-settings (measured s e) = refl
-
   -- a reply that matches answers what is pending, in time
   matches : {r : Reply} → N.Matching a read list t1 t4 time r → (live (a .request) time ≡ true) × (answersAs (a .settings) (a .request) read ≡ true)
   matches m =
@@ -142,7 +125,7 @@ live-by a (decoded d t) dead m =
 
 settings-kept : (a : Association) (c : M.Call rule) → M.step machine a c .settings ≡ a .settings
 settings-kept a (M.timer t) = rang a t .settings
-settings-kept a (M.reply r) = reply-settings (given a r)
+settings-kept a (M.reply r) = let t = timesOf r in settings-next a (readWith (a .settings) (a .request) r) (t .list) (t .t1) (t .t4) (t .time) (given a r)
 
 pending-next : (a : Association) (c : M.Call rule) → pendingOf (M.step machine a c .request) ≡ log.next rule (a .settings) (pendingOf (a .request)) (M.note machine (M.made machine a c))
 pending-next a (M.timer t) =

@@ -173,23 +173,29 @@ module _ (a : Association) (read : ReplyRead) (list : List ℕ) (t1 t4 : NtpTime
   version-only (not-server {r} s e) t = (r .upgrade, refl)
   version-only (measured s e) t = absurd t
 
-  -- all but 0 leave the request pending, and 0 clears it
-  pub request-next : {n : ℕ} {o : ReplyOut} → Given n o → o .association .request ≡ cond (eqb n 0) noRequest (a .request)
+  -- all but 0 leave the request pending, and 0 clears it; the settings stay
+  next-of : {n : ℕ} {o : ReplyOut} → Given n o → (o .association .request ≡ cond (eqb n 0) noRequest (a .request)) × (o .association .settings ≡ a .settings)
   unfolding steppedRecord afterRateKiss afterDenial afterMeasured
-  request-next (not-whole e) = refl
-  request-next (undecodable w e) = refl
-  request-next (broken-list d e) = refl
-  request-next (unexpected-version l e) = refl
-  request-next (no-live-request x e) = refl
-  request-next (no-match i e) = refl
-  request-next (rate m e) = refl
-  request-next (denied u e f) = refl
-  request-next (denied-nts u e f) = refl
-  request-next (ntsn v e) = refl
-  request-next (other-kiss w e) = refl
-  request-next (bad-stratum k e) = refl
-  request-next (not-server s e) = refl
-  request-next (measured s e) = refl
+  next-of (not-whole e) = (refl, refl)
+  next-of (undecodable w e) = (refl, refl)
+  next-of (broken-list d e) = (refl, refl)
+  next-of (unexpected-version l e) = (refl, refl)
+  next-of (no-live-request x e) = (refl, refl)
+  next-of (no-match i e) = (refl, refl)
+  next-of (rate m e) = (refl, refl)
+  next-of (denied u e f) = (refl, refl)
+  next-of (denied-nts u e f) = (refl, refl)
+  next-of (ntsn v e) = (refl, refl)
+  next-of (other-kiss w e) = (refl, refl)
+  next-of (bad-stratum k e) = (refl, refl)
+  next-of (not-server s e) = (refl, refl)
+  next-of (measured s e) = (refl, refl)
+
+  pub request-next : {n : ℕ} {o : ReplyOut} → Given n o → o .association .request ≡ cond (eqb n 0) noRequest (a .request)
+  request-next g = next-of g .0
+
+  pub settings-next : {n : ℕ} {o : ReplyOut} → Given n o → o .association .settings ≡ a .settings
+  settings-next g = next-of g .1
 
 module _ (a : Association) (packet : List ℕ) (end : ℕ) (plain list : List ℕ) (t1 t4 : NtpTimestamp) (time : ℕ) where
   abbrev bytes : ReplyRead
