@@ -1,0 +1,62 @@
+-- `timers::run` is safe and ends. The invariant: the buffer keeps its length. The measure is the number of calls that are left.
+-- Assumes nothing.
+use Prim.Native.Nat.{_≤_, _-_}
+use mathlib.Core.Path.{_≡_}
+use mathlib.Core.Logic.{⊎-elim}
+use borrow.Author.Needs.{needs}
+use lib.ListN.{length}
+use Rattle.calls.proofs.timers.run.Statement.{statement}
+use Rattle.calls.proofs.timers.run.Tie as tie
+
+abbrev Inv-loop : tie.InvT-loop
+Inv-loop nts calls base cookie buffer₀ next₀ number₀ left₀ buffer next number left = length buffer ≡ length buffer₀
+
+abbrev μ-loop : tie.MeasureT-loop
+μ-loop nts calls base cookie buffer₀ next₀ number₀ left₀ buffer next number left = left
+
+loop-holds : tie.Need-loop-holds Inv-loop μ-loop
+loop-holds c = search needs
+
+untried-requires : tie.Need-untried-requires Inv-loop μ-loop
+untried-requires c κs = search needs
+
+store-requires : tie.Need-store-requires Inv-loop μ-loop
+store-requires c κs = search needs
+
+call-requires : tie.Need-call-requires Inv-loop μ-loop
+call-requires c κs = search needs
+
+number-requires : tie.Need-number-requires Inv-loop μ-loop
+number-requires c κs = search needs
+
+sub-left : tie.Need-sub-left Inv-loop μ-loop
+sub-left c = search needs
+
+loop-less : tie.Need-loop-less Inv-loop μ-loop
+loop-less c = search needs
+
+loop-again : tie.Need-loop-again Inv-loop μ-loop
+loop-again c = ⊎-elim (λ w. search needs) (λ w. search needs) (c .if2 .came)
+
+same-length : tie.Need-same-length Inv-loop μ-loop
+same-length c = search needs
+
+returns : tie.Need-returns Inv-loop μ-loop
+returns c = search needs
+
+pub run-spec : {M : Type 1} → statement M
+run-spec =
+    tie.close
+    (tie.spec
+    Inv-loop
+    μ-loop
+    loop-holds
+    untried-requires
+    store-requires
+    call-requires
+    number-requires
+    sub-left
+    loop-less
+    loop-again
+    same-length
+    returns)
