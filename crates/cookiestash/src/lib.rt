@@ -1,10 +1,11 @@
 // The cookies that a client holds, given out oldest first, and the list in which cookies come (document 01, part 3).
 ghost use mathlib.Core.Path.{_≡_};
 ghost use mathlib.Core.Bool.{_&&_};
-ghost use Prim.Native.Nat.{_≤_, _<_};
+ghost use Prim.Native.Nat.{ℕ, _≤_, _<_};
 ghost use lib.Dec.{ltb, leb};
-ghost use lib.ListN.{length};
-ghost use Rattle.cookiestash.specs.Stash.{stored, slotOf, emptySlot, newOf, wrap, gapOf, putOf, storeOf, getOf};
+ghost use lib.ListN.{length, getD};
+ghost use Rattle.words.specs.Bytes.{zeros};
+ghost use Rattle.cookiestash.specs.Stash.{stored, slotAt, slotOf, emptySlot, newOf, wrap, gapOf, putOf, storeOf, getOf};
 ghost use Rattle.cookiestash.specs.Whole.{tidy, allTidy, allFree, freeSlots, wholeOf};
 ghost use Rattle.cookiestash.specs.List.{entryAt, isWhole, cookiesIn, storeListOf};
 
@@ -100,12 +101,23 @@ impl Slot {
         }
     }
 
-    // Whether the bytes past the stored ones are all zero.
+    // Whether every byte is zero.
+    fn zero(self) -> bool
+        ensures { λ r. ⌜ r ≡ zeros (self .bytes) ⌝ }
+    {
+        let bytes = self.bytes;
+        words::zeros_from(&bytes, 0)
+    }
+
+    // Whether the bytes past the stored ones are all zero. An empty slot is tested whole: where the bounds are known the compiler copies nothing.
     fn tidy(self) -> bool
         ensures { λ r. ⌜ r ≡ tidy self ⌝ }
     {
-        let bytes = self.bytes;
         let len = self.len as usize;
+        if len == 0 {
+            return self.zero();
+        }
+        let bytes = self.bytes;
         words::zeros_from(&bytes, stored_bytes(len))
     }
 }
@@ -202,16 +214,30 @@ impl CookieStash {
         true
     }
 
+    // The length of each slot: a search among these copies no slot.
+    fn lengths(self) -> [u16; 8]
+        ensures { λ r. ⌜ ((k : ℕ) → k < 8 → getD r k 0 ≡ slotAt (self .slots) k .len) ⌝ }
+    {
+        let mut lens = [0u16; 8];
+        let mut i: usize = 0;
+        while i < MAX_COOKIES {
+            let slot = self.slots[i];
+            lens[i] = slot.len;
+            i += 1;
+        }
+        lens
+    }
+
     // Whether the slots that hold no cookie have length 0.
     fn freed(self) -> bool
         requires { ⌜ (self .read < 8) × (self .held ≤ 8) ⌝ }
         ensures { λ r. ⌜ r ≡ allFree (freeSlots 8 self) ⌝ }
     {
+        let lens = self.lengths();
         let mut n = self.held;
         let mut at = wrapped(self.read + self.held);
         while n < MAX_COOKIES {
-            let slot = self.slots[at];
-            if slot.len != 0 {
+            if lens[at] != 0 {
                 return false;
             }
             at = wrapped(at + 1);
