@@ -3,7 +3,9 @@ use association::Association;
 use association::Effort;
 use association::Polls;
 use association::Request;
+use association::Settings;
 use association::Source;
+use cookiestash::CookieStash;
 use header::Kisses;
 use incoming::DecodedReply;
 use incoming::NtpLeapIndicator;
@@ -13,11 +15,15 @@ use time_types::Exchange;
 use time_types::NtpDuration;
 use time_types::NtpTimestamp;
 use time_types::PollInterval;
+use version::Version;
 ghost use mathlib.Core.Path.{_≡_};
 ghost use mathlib.Core.Bool.{not, _&&_, _||_};
+ghost use mathlib.Core.List.{List};
+ghost use Prim.Native.Nat.{ℕ};
 ghost use Rattle.cookiestash.specs.List.{isWhole, cookiesIn};
 ghost use Rattle.reply.specs.Answer.{numberOf};
 ghost use Rattle.reply.specs.Judge.{live, answers, steppedRecord, afterRateKiss, afterDenial, raised, afterMeasured, measurementOf, matchedOf, judgeOf};
+ghost use Rattle.reply.specs.Parts.{placed, keptOf, outOf};
 ghost use Rattle.reply.specs.Reply.{replyOf, replyDecodedOf};
 
 // What a measured reply says of the clocks.
@@ -58,6 +64,22 @@ pub enum ReplyAnswer {
 pub struct ReplyOut {
     pub answer: ReplyAnswer,
     pub association: Association,
+}
+
+// What a reply may change of a record, but for its cookies.
+struct State {
+    effort: Effort,
+    version: Version,
+    polls: Polls,
+    source: Source,
+    request: Request,
+}
+
+// What the tests find: the answer, what it leaves, and whether the reply's cookies are stored.
+struct Found {
+    answer: ReplyAnswer,
+    state: State,
+    stores: bool,
 }
 
 // The largest stratum of a server.
@@ -109,39 +131,38 @@ fn denies(kisses: Kisses) -> bool
 }
 
 // The upgrade step, on a matching reply.
-fn stepped(a: Association, upgrade: bool) -> Association
-    ensures { λ r. ⌜ r ≡ steppedRecord a upgrade ⌝ }
+fn stepped(s: State, upgrade: bool) -> State
+    ensures { λ r. ⌜ ((g : Settings) (h : CookieStash) → placed g h r ≡ steppedRecord (placed g h s) upgrade) ⌝ }
 {
-    let old = a.version;
+    let old = s.version;
     let version = old.upgrade_step(upgrade);
-    let mut next = a;
+    let mut next = s;
     next.version = version;
     next
 }
 
 // A RATE kiss raises the remote minimum.
-fn after_rate_kiss(a: Association) -> Association
-    ensures { λ r. ⌜ r ≡ afterRateKiss a ⌝ }
+fn after_rate_kiss(s: State, settings: Settings) -> State
+    ensures { λ r. ⌜ ((h : CookieStash) → placed settings h r ≡ afterRateKiss (placed settings h s)) ⌝ }
 {
-    let settings = a.settings;
     let limit = settings.max;
-    let old = a.polls;
+    let old = s.polls;
     let last = old.last;
     let least = old.remote;
     let remote = least.after_rate(limit, last);
     let polls = Polls { last, remote };
-    let mut next = a;
+    let mut next = s;
     next.polls = polls;
     next
 }
 
 // A denial is noted.
-fn after_denial(a: Association) -> Association
-    ensures { λ r. ⌜ r ≡ afterDenial a ⌝ }
+fn after_denial(s: State) -> State
+    ensures { λ r. ⌜ ((g : Settings) (h : CookieStash) → placed g h r ≡ afterDenial (placed g h s)) ⌝ }
 {
-    let mut source = a.source;
+    let mut source = s.source;
     source.denial = true;
-    let mut next = a;
+    let mut next = s;
     next.source = source;
     next
 }
@@ -158,15 +179,14 @@ fn raised(remote: PollInterval, reply: Reply) -> PollInterval
     }
 }
 
-// What a measured reply leaves; with NTS its cookies are stored.
-fn after_measured(a: Association, reply: Reply, list: &[u8]) -> Association
-    ensures { λ r. ⌜ r ≡ afterMeasured a reply (now (list .entry)) ⌝ }
+// What a measured reply leaves.
+fn after_measured(s: State, reply: Reply) -> State
+    ensures { λ r. ⌜ ((g : Settings) (h : CookieStash) (list : List ℕ) → placed g (keptOf (g .nts) h list) r ≡ afterMeasured (placed g h s) reply list) ⌝ }
 {
-    let settings = a.settings;
-    let tried = a.effort;
+    let tried = s.effort;
     let reached = tried.reach;
     let reach = reached.received_packet();
-    let old = a.polls;
+    let old = s.polls;
     let last = old.last;
     let least = old.remote;
     let remote = raised(least, reply);
@@ -182,18 +202,14 @@ fn after_measured(a: Association, reply: Reply, list: &[u8]) -> Association
         denial: false,
     };
     let request = Request::none();
-    let mut next = a;
-    next.effort = effort;
-    next.polls = polls;
-    next.source = source;
-    next.request = request;
-    if settings.nts {
-        let held = a.stash;
-        let stash = held.store_list(list);
-        next.stash = stash;
-        return next;
+    let version = s.version;
+    State {
+        effort,
+        version,
+        polls,
+        source,
+        request,
     }
-    next
 }
 
 // The measurement of a reply to a request that left at t1, and which came at t4.
@@ -224,70 +240,167 @@ fn measured(reply: Reply, t1: NtpTimestamp, t4: NtpTimestamp, time: u64) -> Meas
 
 // A matching reply, once the upgrade step is made: 5 to 11 in order, else 0.
 fn matched(
-    a: Association,
+    s: State,
+    settings: Settings,
+    reply: Reply,
+    t1: NtpTimestamp,
+    t4: NtpTimestamp,
+    time: u64,
+) -> Found
+    ensures { λ r. ⌜ ((h : CookieStash) (list : List ℕ) → outOf settings h list r ≡ matchedOf (placed settings h s) reply list t1 t4 time) ⌝ }
+{
+    let kisses = reply.kisses;
+    if kisses.rate {
+        let slower = after_rate_kiss(s, settings);
+        return Found {
+            answer: ReplyAnswer::Rate,
+            state: slower,
+            stores: false,
+        };
+    }
+    if denies(kisses) {
+        if settings.nts {
+            return Found {
+                answer: ReplyAnswer::DeniedNts,
+                state: s,
+                stores: false,
+            };
+        }
+        let noted = after_denial(s);
+        return Found {
+            answer: ReplyAnswer::Denied,
+            state: noted,
+            stores: false,
+        };
+    }
+    if kisses.ntsn {
+        return Found {
+            answer: ReplyAnswer::Ntsn,
+            state: s,
+            stores: false,
+        };
+    }
+    if kisses.any {
+        return Found {
+            answer: ReplyAnswer::OtherKiss,
+            state: s,
+            stores: false,
+        };
+    }
+    if MAX_STRATUM < reply.stratum {
+        return Found {
+            answer: ReplyAnswer::BadStratum,
+            state: s,
+            stores: false,
+        };
+    }
+    if !reply.server {
+        return Found {
+            answer: ReplyAnswer::NotServer,
+            state: s,
+            stores: false,
+        };
+    }
+    let measurement = measured(reply, t1, t4, time);
+    let next = after_measured(s, reply);
+    Found {
+        answer: ReplyAnswer::Measured(measurement),
+        state: next,
+        stores: settings.nts,
+    }
+}
+
+// The tests of both forms: 33, 2, 3, 4, then the upgrade step and what follows it.
+fn judged(
+    s: State,
+    settings: Settings,
     reply: Reply,
     list: &[u8],
     t1: NtpTimestamp,
     t4: NtpTimestamp,
     time: u64,
-) -> ReplyOut
-    ensures { λ r. ⌜ r ≡ matchedOf a reply (now (list .entry)) t1 t4 time ⌝ }
+) -> Found
+    ensures { λ r. ⌜ ((h : CookieStash) → outOf settings h (now (list .entry)) r ≡ judgeOf (placed settings h s) reply (now (list .entry)) t1 t4 time) ⌝ }
 {
-    let kisses = reply.kisses;
-    if kisses.rate {
-        let slower = after_rate_kiss(a);
-        return ReplyOut {
-            answer: ReplyAnswer::Rate,
-            association: slower,
+    if list_broken(settings.nts, list) {
+        return Found {
+            answer: ReplyAnswer::BrokenList,
+            state: s,
+            stores: false,
         };
     }
-    if denies(kisses) {
-        let settings = a.settings;
-        if settings.nts {
-            return ReplyOut {
-                answer: ReplyAnswer::DeniedNts,
-                association: a,
-            };
-        }
-        let noted = after_denial(a);
-        return ReplyOut {
-            answer: ReplyAnswer::Denied,
-            association: noted,
+    let version = s.version;
+    if !version.expects(reply.version) {
+        return Found {
+            answer: ReplyAnswer::UnexpectedVersion,
+            state: s,
+            stores: false,
         };
     }
-    if kisses.ntsn {
-        return ReplyOut {
-            answer: ReplyAnswer::Ntsn,
-            association: a,
+    let request = s.request;
+    if !live(request, time) {
+        return Found {
+            answer: ReplyAnswer::NoLiveRequest,
+            state: s,
+            stores: false,
         };
     }
-    if kisses.any {
-        return ReplyOut {
-            answer: ReplyAnswer::OtherKiss,
-            association: a,
+    if !answers(settings.nts, request.id, reply) {
+        return Found {
+            answer: ReplyAnswer::NoMatch,
+            state: s,
+            stores: false,
         };
     }
-    if MAX_STRATUM < reply.stratum {
-        return ReplyOut {
-            answer: ReplyAnswer::BadStratum,
-            association: a,
-        };
-    }
-    if !reply.server {
-        return ReplyOut {
-            answer: ReplyAnswer::NotServer,
-            association: a,
-        };
-    }
-    let measurement = measured(reply, t1, t4, time);
-    let next = after_measured(a, reply, list);
-    ReplyOut {
-        answer: ReplyAnswer::Measured(measurement),
-        association: next,
+    let next = stepped(s, reply.upgrade);
+    matched(next, settings, reply, t1, t4, time)
+}
+
+// What a reply may change of a record, but for its cookies.
+fn state_of(a: Association) -> State
+    ensures { λ r. ⌜ placed (a .settings) (a .stash) r ≡ a ⌝ }
+{
+    let effort = a.effort;
+    let version = a.version;
+    let polls = a.polls;
+    let source = a.source;
+    let request = a.request;
+    State {
+        effort,
+        version,
+        polls,
+        source,
+        request,
     }
 }
 
-// The judge of both forms: 33, 2, 3, 4, then the upgrade step and what follows it.
+// The cookies of a list are stored, or the stash is kept.
+fn refilled(held: CookieStash, stores: bool, list: &[u8]) -> CookieStash
+    ensures { λ r. ⌜ r ≡ keptOf stores held (now (list .entry)) ⌝ }
+{
+    if stores { held.store_list(list) } else { held }
+}
+
+// The record with other cookies and another state.
+fn assembled(a: Association, stash: CookieStash, state: State) -> Association
+    ensures { λ r. ⌜ r ≡ placed (a .settings) stash state ⌝ }
+{
+    let effort = state.effort;
+    let version = state.version;
+    let polls = state.polls;
+    let source = state.source;
+    let request = state.request;
+    let mut next = a;
+    next.stash = stash;
+    next.effort = effort;
+    next.version = version;
+    next.polls = polls;
+    next.source = source;
+    next.request = request;
+    next
+}
+
+// The judge of both forms. The cookies are many bytes and no test reads them, so they are not handed around.
 fn judge(
     a: Association,
     reply: Reply,
@@ -299,34 +412,16 @@ fn judge(
     ensures { λ r. ⌜ r ≡ judgeOf a reply (now (list .entry)) t1 t4 time ⌝ }
 {
     let settings = a.settings;
-    if list_broken(settings.nts, list) {
-        return ReplyOut {
-            answer: ReplyAnswer::BrokenList,
-            association: a,
-        };
+    let found = judged(state_of(a), settings, reply, list, t1, t4, time);
+    let answer = found.answer;
+    let state = found.state;
+    let held = a.stash;
+    let stash = refilled(held, found.stores, list);
+    let next = assembled(a, stash, state);
+    ReplyOut {
+        answer,
+        association: next,
     }
-    let version = a.version;
-    if !version.expects(reply.version) {
-        return ReplyOut {
-            answer: ReplyAnswer::UnexpectedVersion,
-            association: a,
-        };
-    }
-    let request = a.request;
-    if !live(request, time) {
-        return ReplyOut {
-            answer: ReplyAnswer::NoLiveRequest,
-            association: a,
-        };
-    }
-    if !answers(settings.nts, request.id, reply) {
-        return ReplyOut {
-            answer: ReplyAnswer::NoMatch,
-            association: a,
-        };
-    }
-    let next = stepped(a, reply.upgrade);
-    matched(next, reply, list, t1, t4, time)
 }
 
 impl ReplyAnswer {

@@ -7,7 +7,7 @@ use Rattle.reply.proofs.after_denial.Tie as tie
 
 returns : tie.Need-returns
 unfolding afterDenial
-returns c = refl
+returns c g h = refl
 
 pub after-denial-spec : {M : Type 1} → statement M
 after-denial-spec = tie.close (tie.spec returns)

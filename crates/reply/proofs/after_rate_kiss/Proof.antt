@@ -10,7 +10,7 @@ after-rate-requires c κs = search needs
 
 returns : tie.Need-returns
 unfolding afterRateKiss
-returns c = rw (c .after-rate .ensures)
+returns c h = rw (c .after-rate .ensures)
 
 pub after-rate-kiss-spec : {M : Type 1} → statement M
 after-rate-kiss-spec = tie.close (tie.spec after-rate-requires returns)

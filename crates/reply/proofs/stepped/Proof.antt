@@ -10,7 +10,7 @@ upgrade-step-requires c κs = search needs
 
 returns : tie.Need-returns
 unfolding steppedRecord
-returns c = rw (c .upgrade-step .ensures)
+returns c g h = rw (c .upgrade-step .ensures)
 
 pub stepped-spec : {M : Type 1} → statement M
 stepped-spec = tie.close (tie.spec upgrade-step-requires returns)
