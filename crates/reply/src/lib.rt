@@ -17,7 +17,8 @@ use time_types::NtpTimestamp;
 use time_types::PollInterval;
 use version::Version;
 ghost use mathlib.Core.Path.{_≡_};
-ghost use mathlib.Core.Bool.{not, _&&_, _||_};
+ghost use mathlib.Core.Bool.{not, cond, _&&_, _||_};
+ghost use lib.ListN.{replicate};
 ghost use mathlib.Core.List.{List};
 ghost use Prim.Native.Nat.{ℕ};
 ghost use Rattle.cookiestash.specs.List.{isWhole, cookiesIn};
@@ -448,6 +449,17 @@ impl ReplyAnswer {
     }
 }
 
+// The unique identifier that a reply is to have; without NTS none is looked for. A choice, so that it does not lie in a copy of the record that is kept for it alone.
+fn awaited(nts: bool, request: Request) -> [u8; 32]
+    ensures { λ r. ⌜ r ≡ cond nts (request .uid) (replicate 32 0) ⌝ }
+{
+    if nts {
+        let uid = request.uid;
+        return uid;
+    }
+    [0u8; 32]
+}
+
 // The byte form (V3, V4), on a record by value: 32, 1, and then the judge.
 pub fn reply_core(
     a: Association,
@@ -469,7 +481,7 @@ pub fn reply_core(
     }
     let settings = a.settings;
     let request = a.request;
-    let uid = request.uid;
+    let uid = awaited(settings.nts, request);
     let ReplyRead::Decoded(reply) = incoming::read_reply(
         settings.nts,
         uid,

@@ -2,4 +2,5 @@
 pub mod Answer
 pub mod Poll
 pub mod Timer
+pub mod Parts
 pub mod Rules

@@ -3,7 +3,11 @@ use association::Association;
 use association::Effort;
 use association::Polls;
 use association::Request;
+use association::Settings;
+use association::Source;
+use cookiestash::CookieStash;
 use cookiestash::SLOT_BYTES;
+use cookiestash::Taken;
 use time_types::PollInterval;
 use version::ProtocolVersion;
 use version::Version;
@@ -15,6 +19,7 @@ ghost use lib.ListN.{length};
 ghost use Rattle.cookiestash.specs.Stash.{getOf};
 ghost use Rattle.timer.specs.Answer.{numberOf};
 ghost use Rattle.timer.specs.Poll.{polled, triedOf, kindOf, askedOf, deadlineOf, requestOf};
+ghost use Rattle.timer.specs.Parts.{placed, outOf};
 ghost use Rattle.timer.specs.Timer.{sendOf, ntsOf, timerOf, wrote, written, bufferOf};
 
 // What is sent.
@@ -46,6 +51,20 @@ pub enum TimerAnswer {
 pub struct TimerOut {
     pub answer: TimerAnswer,
     pub association: Association,
+}
+
+// What a poll may change of a record, but for its cookies.
+struct State {
+    effort: Effort,
+    version: Version,
+    polls: Polls,
+    request: Request,
+}
+
+// What a poll comes to: the answer, and the state that it leaves.
+struct Outcome {
+    answer: TimerAnswer,
+    state: State,
 }
 
 // Whether nothing was ever answered and the startup limit is reached.
@@ -84,16 +103,16 @@ fn polled(effort: Effort) -> Effort
     }
 }
 
-// The record once a poll is tried.
-fn tried(a: Association) -> Association
-    ensures { λ r. ⌜ r ≡ triedOf a ⌝ }
+// Once a poll is tried.
+fn tried(s: State) -> State
+    ensures { λ r. ⌜ ((g : Settings) (h : CookieStash) (o : Source) → placed g h o r ≡ triedOf (placed g h o s)) ⌝ }
 {
-    let effort = a.effort;
+    let effort = s.effort;
     let reach = effort.reach;
-    let old = a.version;
+    let old = s.version;
     let version = old.fallback(reach.unanswered_polls());
     let more = polled(effort);
-    let mut next = a;
+    let mut next = s;
     next.effort = more;
     next.version = version;
     next
@@ -167,35 +186,35 @@ fn request(nts: bool, time: u64, window: u64, id: u64, uid: [u8; 32]) -> Request
 
 // The poll is sent, with a cookie of a length and so many asked for.
 fn send(
-    a: Association,
+    s: State,
+    settings: Settings,
     time: u64,
     desired: PollInterval,
     id: u64,
     uid: [u8; 32],
     len: u16,
     asked: u8,
-) -> TimerOut
-    ensures { λ r. ⌜ r ≡ sendOf a time desired id uid len asked ⌝ }
+) -> Outcome
+    ensures { λ r. ⌜ ((h : CookieStash) (o : Source) → outOf settings h o r ≡ sendOf (placed settings h o s) time desired id uid len asked) ⌝ }
 {
-    let settings = a.settings;
-    let version = a.version;
-    let old = a.polls;
+    let version = s.version;
+    let old = s.polls;
     let remote = old.remote;
     let poll = desired.max(remote);
     let kind = kind_of(version, settings.nts);
     let pending = request(settings.nts, time, settings.window, id, uid);
     let polls = Polls { last: poll, remote };
-    let mut next = a;
+    let mut next = s;
     next.polls = polls;
     next.request = pending;
-    TimerOut {
+    Outcome {
         answer: TimerAnswer::Sent {
             kind,
             poll,
             len,
             asked,
         },
-        association: next,
+        state: next,
     }
 }
 
@@ -211,40 +230,70 @@ fn write(bytes: [u8; 724], len: usize, buffer: &mut [u8])
     }
 }
 
-// With NTS: a cookie is taken, its bytes are given out, and as many are asked for as there is room for then.
+// With NTS, once a cookie is taken: its bytes are given out, and as many are asked for as there is room for then.
 fn send_nts(
-    a: Association,
+    s: State,
+    settings: Settings,
+    taken: Taken,
     time: u64,
     desired: PollInterval,
     id: u64,
     uid: [u8; 32],
     buffer: &mut [u8],
-) -> TimerOut
+) -> Outcome
     requires { ⌜ 724 ≤ length (now buffer) ⌝ }
-    ensures { λ r. ⌜ (r ≡ ntsOf a time desired id uid) × (now (buffer .exit) ≡ written true (getOf 8 (a .stash) .slot .bytes) (ntsOf a time desired id uid .answer) (now (buffer .entry))) ⌝ }
+    ensures { λ r. ⌜ ((h : CookieStash) (o : Source) → taken ≡ getOf 8 h → outOf settings (taken .stash) o r ≡ ntsOf (placed settings h o s) time desired id uid) × (now (buffer .exit) ≡ written true (taken .slot .bytes) (r .answer) (now (buffer .entry))) ⌝ }
 {
-    let stash = a.stash;
-    let taken = stash.get();
     if !taken.found {
-        return TimerOut {
+        return Outcome {
             answer: TimerAnswer::NoCookie,
-            association: a,
+            state: s,
         };
     }
     let rest = taken.stash;
     let cookie = taken.slot;
-    let mut next = a;
-    next.stash = rest;
     let count = asked(rest.gap(), cookie.len);
     if count == 0 {
-        return TimerOut {
+        return Outcome {
             answer: TimerAnswer::CookieTooLarge,
-            association: next,
+            state: s,
         };
     }
     let bytes = cookie.bytes;
     write(bytes, cookie.len as usize, buffer);
-    send(next, time, desired, id, uid, cookie.len, count)
+    send(s, settings, time, desired, id, uid, cookie.len, count)
+}
+
+// What a poll may change of a record, but for its cookies.
+fn state_of(a: Association) -> State
+    ensures { λ r. ⌜ placed (a .settings) (a .stash) (a .source) r ≡ a ⌝ }
+{
+    let effort = a.effort;
+    let version = a.version;
+    let polls = a.polls;
+    let request = a.request;
+    State {
+        effort,
+        version,
+        polls,
+        request,
+    }
+}
+
+// The record with another state.
+fn with_state(a: Association, state: State) -> Association
+    ensures { λ r. ⌜ r ≡ placed (a .settings) (a .stash) (a .source) state ⌝ }
+{
+    let effort = state.effort;
+    let version = state.version;
+    let polls = state.polls;
+    let request = state.request;
+    let mut next = a;
+    next.effort = effort;
+    next.version = version;
+    next.polls = polls;
+    next.request = request;
+    next
 }
 
 // The timer, on a record by value. In order: 32, 31, 22 and 21, the poll.
@@ -285,11 +334,29 @@ pub fn timer_core(
             association: a,
         };
     }
-    let next = tried(a);
+    let state = tried(state_of(a));
     if settings.nts {
-        return send_nts(next, time, desired, id, uid, buffer);
+        let stash = a.stash;
+        let taken = stash.get();
+        let sent = send_nts(state, settings, taken, time, desired, id, uid, buffer);
+        let answer = sent.answer;
+        let after = sent.state;
+        let rest = taken.stash;
+        let mut next = with_state(a, after);
+        next.stash = rest;
+        return TimerOut {
+            answer,
+            association: next,
+        };
     }
-    send(next, time, desired, id, uid, 0, 0)
+    let sent = send(state, settings, time, desired, id, uid, 0, 0);
+    let answer = sent.answer;
+    let after = sent.state;
+    let next = with_state(a, after);
+    TimerOut {
+        answer,
+        association: next,
+    }
 }
 
 impl TimerAnswer {

@@ -16,7 +16,7 @@ request-requires c κs = search needs
 
 returns : tie.Need-returns
 unfolding sentOf
-returns c = rw (c .before .before .max .ensures, c .before .kind-of .ensures, c .request .ensures)
+returns c h o = rw (c .before .before .max .ensures, c .before .kind-of .ensures, c .request .ensures)
 
 pub send-spec : {M : Type 1} → statement M
 send-spec = tie.close (tie.spec max-requires kind-of-requires request-requires returns)

@@ -1,36 +1,50 @@
--- `send_nts` meets its contract: the cookie that is taken, then the number asked for, decide.
+-- `send_nts` meets its contract: the cookie that was taken, then the number asked for, decide.
 -- Assumes nothing.
-use mathlib.Core.Path.{_≡_, sym, ap, _∙_}
-use mathlib.Core.Bool.{true}
+use mathlib.Core.Path.{_≡_, refl, sym, ap, _∙_}
+use mathlib.Core.Bool.{Bool, true, false, cond, _&&_}
 use native.Mathlib.Omega.{arith}
+use lib.Dec.{ltb}
 use borrow.Author.Needs.{needs}
 use borrow.Author.Tests.{not-true, not-false, eq-eqb, ne-eqb}
+use Rattle.cookiestash.specs.declared.CookieStash.{CookieStash}
 use Rattle.cookiestash.specs.declared.Taken.{Taken}
-use Rattle.cookiestash.specs.Stash.{getOf}
+use Rattle.cookiestash.specs.Stash.{emptySlot, slotAt, inRange, restOf, getOf}
 use Rattle.association.specs.New.{withStash}
+use Rattle.association.specs.Record.{freshOf}
+use Rattle.timer.specs.declared.TimerOut.{TimerOut}
+use Rattle.timer.specs.Parts.{placed}
 use Rattle.timer.specs.Timer.{asked}
 use Rattle.timer.proofs.Cases as when
 use Rattle.timer.proofs.Count.{asked-short}
 use Rattle.timer.proofs.send_nts.Statement.{statement}
 use Rattle.timer.proofs.send_nts.Tie as tie
 
-get-requires : tie.Need-get-requires
-get-requires c κs = search needs
+-- where there was no cookie, the stash stays as it was
+stays : (b : Bool) (x y : Taken) (h : CookieStash) → x .found ≡ true → y .stash ≡ h → cond b x y .found ≡ false → cond b x y .stash ≡ h
+stays true x y h t s f = cc
+stays false x y h t s f = s
 
-returns : tie.Need-returns
-returns c =
-    let e = when.nts-23 _ _ _ _ _ (ap (λ (t : Taken). t .found) (sym (c .before .before .get .ensures)) ∙ not-true _ (c .if1 .taken)) in
-    (sym e, rw e)
+left : (h : CookieStash) → getOf 8 h .found ≡ false → getOf 8 h .stash ≡ h
+unfolding getOf
+left h f = stays (inRange 8 h && ltb 0 (h .held)) (record { found = true; slot = slotAt (h .slots) (h .read); stash = restOf 8 h }) (record { found = false; slot = emptySlot; stash = h }) h refl refl f
 
 -- the cookie was found
-found : (c : tie.Else1) → getOf 8 (c .before .before .before .before .before .args .a .stash) .found ≡ true
-found c = ap (λ (t : Taken). t .found) (sym (c .before .before .get .ensures)) ∙ not-false _ (c .if1 .left)
+found : (c : tie.Else1) (h : CookieStash) → c .before .before .before .args .taken ≡ getOf 8 h → getOf 8 h .found ≡ true
+found c h t = ap (λ (x : Taken). x .found) (sym t) ∙ not-false _ (c .if1 .left)
 
 -- the number is counted with the gap of what is left
-counted : (c : tie.After-asked) → c .asked .result ≡ asked (c .before .before .before .before .before .before .before .before .before .args .a .stash)
-counted c =
-    let k = c .before .before .before .before .before .before in
-    c .asked .ensures ∙ rw (c .before .gap .ensures, k .get .ensures)
+counted : (c : tie.After-asked) (h : CookieStash) → c .before .before .before .before .before .before .before .args .taken ≡ getOf 8 h → c .asked .result ≡ asked h
+counted c h t = c .asked .ensures ∙ rw (c .before .gap .ensures, t)
+
+returns : tie.Need-returns
+returns c = (
+  λ h o e.
+      let a = c .before .before .before .args in
+      let t : a .taken ≡ getOf 8 h = e in
+      let f = ap (λ (x : Taken). x .found) (sym t) ∙ not-true _ (c .if1 .taken) in
+      rw (ap (λ (x : Taken). x .stash) t ∙ left h f) (sym (when.nts-23 (placed (a .settings) h o (a .s)) _ _ _ _ f)),
+  refl,
+)
 
 gap-requires : tie.Need-gap-requires
 gap-requires c κs = search needs
@@ -40,10 +54,13 @@ asked-requires c κs = search needs
 
 returns-2 : tie.Need-returns-2
 unfolding withStash
-returns-2 c =
-    let k = c .before .before .before .before .before in
-    let e = when.nts-24 _ _ _ _ _ (found k) (eq-eqb _ _ (sym (counted (c .before)) ∙ c .if2 .taken)) in
-    (rw (k .before .before .get .ensures) (sym e), rw e)
+returns-2 c = (
+  λ h o e.
+      let a = c .before .before .before .before .before .before .before .before .args in
+      let t : a .taken ≡ getOf 8 h = e in
+      rw t (sym (when.nts-24 (placed (a .settings) h o (a .s)) _ _ _ _ (found (c .before .before .before .before .before) h t) (eq-eqb _ _ (sym (counted (c .before) h t) ∙ c .if2 .taken)))),
+  refl,
+)
 
 cast-write : tie.Need-cast-write
 cast-write c = search needs
@@ -63,18 +80,18 @@ same-length c = search needs
 returns-3 : tie.Need-returns-3
 unfolding withStash
 returns-3 c =
-    let n = c .before .before .before .before .before .before .before in
-    let k = n .before .before .before .before .before in
-    let e = when.nts-20 _ _ _ _ _ (found k) (ne-eqb _ _ (λ z. n .if2 .left (counted (n .before) ∙ z))) in (
-      c .send .ensures ∙ rw (counted (n .before), k .before .before .get .ensures) (sym e),
-      c .before .before .before .write .ensures ∙ rw (e, k .before .before .get .ensures),
+    let a = c .before .before .before .before .before .before .before .before .before .before .before .before .before .before .before .args in
+    let n = c .before .before .before .before .before .before .before in (
+      λ h o e.
+          let t : a .taken ≡ getOf 8 h = e in
+          c .send .ensures (a .taken .stash) o ∙ rw (counted (n .before) h t, t) (sym (when.nts-20 (placed (a .settings) h o (a .s)) _ _ _ _ (found (n .before .before .before .before .before) h t) (ne-eqb _ _ (λ z. n .if2 .left (counted (n .before) h t ∙ z))))),
+      c .before .before .before .write .ensures ∙ rw (ap (λ (x : TimerOut). x .answer) (c .send .ensures (a .taken .stash) (freshOf (a .settings) .source))),
     )
 
 pub send-nts-spec : {M : Type 1} → statement M
 send-nts-spec =
     tie.close
     (tie.spec
-    get-requires
     returns
     gap-requires
     asked-requires

@@ -1,14 +1,16 @@
 -- `timer_core` meets its contract: the tests in order, then the poll, each by its function's contract.
 -- Assumes nothing.
-use mathlib.Core.Path.{_≡_, sym, _∙_}
+use mathlib.Core.Path.{_≡_, sym, ap, _∙_}
 use mathlib.Core.Bool.{true, false}
 use borrow.Author.Needs.{needs}
 use borrow.Author.Tests.{not-true, not-false, ltb-false}
 use lib.ListN.{length}
 use Rattle.words.proofs.Tests.{passes}
+use Rattle.association.specs.declared.Association.{Association}
 use Rattle.association.specs.Record.{wholeOf}
 use Rattle.timer.specs.Poll.{startupOver, triedOf}
-use Rattle.timer.specs.Timer.{shortBuffer, bufferOf}
+use Rattle.timer.specs.Parts.{placed}
+use Rattle.timer.specs.Timer.{sendOf, ntsOf, shortBuffer, bufferOf}
 use Rattle.timer.proofs.Cases as when
 use Rattle.timer.proofs.timer_core.Statement.{statement}
 use Rattle.timer.proofs.timer_core.Tie as tie
@@ -65,38 +67,54 @@ returns-4 c =
     let e = when.gives-21 _ _ _ _ _ _ (whole (r .before .before .before)) (roomy r) (over o) (c .if4 .left) in
     (sym e, rw e)
 
+state-of-requires : tie.Need-state-of-requires
+state-of-requires c κs = search needs
+
 tried-requires : tie.Need-tried-requires
 tried-requires c κs = search needs
 
+get-requires : tie.Need-get-requires
+get-requires c κs = search needs
+
 send-nts-requires : tie.Need-send-nts-requires
 send-nts-requires c κs =
-    let n = c .before in
-    let r = n .before .before .before .before .before in
+    let n = c .before .before .before in
+    let r = n .before .before .before .before .before .before in
     ltb-false _ _ (sym (passes _ (n .if5 .taken)) ∙ roomy r)
+
+with-state-requires : tie.Need-with-state-requires
+with-state-requires c κs = search needs
 
 same-length : tie.Need-same-length
 same-length c = search needs
 
 returns-5 : tie.Need-returns-5
-unfolding triedOf
 returns-5 c =
-    let d = c .before .before in
-    let n = d .before .before in
-    let o = n .before .before in
+    let a = c .before .before .before .before .before .before .before .before .before .before .before .before .before .before .before .before .before .before .before .before .before .args in
+    let d = c .before .before .before .before .before .send-nts in
+    let g = c .before .before .before .before .before .before .before .get in
+    let n = c .before .before .before .before .before .before .before .before .before in
+    let o = n .before .before .before in
     let r = o .before .before .before in
-    let e = when.tries-nts _ _ _ _ _ _ (whole (r .before .before .before)) (roomy r) (going o) (n .if5 .taken) in
-    (d .send-nts .ensures .0 ∙ rw (n .before .tried .ensures) (sym e), d .send-nts .ensures .1 ∙ rw (n .before .tried .ensures) (sym (when.buffer-is _ _ _ _ _ _ _ _ e (n .if5 .taken))))
+    let q : placed (a .a .settings) (a .a .stash) (a .a .source) (n .before .tried .result) ≡ triedOf (a .a) = n .before .tried .ensures (a .a .settings) (a .a .stash) (a .a .source) ∙ ap triedOf (n .before .before .state-of .ensures) in
+    let e = d .ensures .0 (a .a .stash) (a .a .source) (g .ensures) ∙ ap (λ (x : Association). ntsOf x (a .time) (a .desired) (a .id) (a .uid)) q ∙ sym (when.tries-nts _ _ _ _ _ _ (whole (r .before .before .before)) (roomy r) (going o) (n .if5 .taken)) in
+    (rw (c .with-state .ensures) e, d .ensures .1 ∙ rw (g .ensures) (sym (when.buffer-is _ _ _ _ _ _ _ _ (sym e) (n .if5 .taken))))
 
 send-requires : tie.Need-send-requires
 send-requires c κs = search needs
 
+with-state-requires-2 : tie.Need-with-state-requires-2
+with-state-requires-2 c κs = search needs
+
 returns-6 : tie.Need-returns-6
 returns-6 c =
-    let n = c .before in
-    let o = n .before .before in
+    let a = c .before .before .before .before .before .before .before .before .before .before .before .before .before .before .before .args in
+    let n = c .before .before .before in
+    let o = n .before .before .before in
     let r = o .before .before .before in
+    let q : placed (a .a .settings) (a .a .stash) (a .a .source) (n .before .tried .result) ≡ triedOf (a .a) = n .before .tried .ensures (a .a .settings) (a .a .stash) (a .a .source) ∙ ap triedOf (n .before .before .state-of .ensures) in
     let e = when.tries-plain _ _ _ _ _ _ (whole (r .before .before .before)) (roomy r) (going o) (n .if5 .left) in
-    (c .send .ensures ∙ rw (n .before .tried .ensures) (sym e), sym (when.buffer-is _ _ _ _ _ _ _ _ e (n .if5 .left)))
+    (rw (c .with-state2 .ensures) (c .before .before .send .ensures (a .a .stash) (a .a .source) ∙ ap (λ (x : Association). sendOf x (a .time) (a .desired) (a .id) (a .uid) 0 0) q ∙ sym e), sym (when.buffer-is _ _ _ _ _ _ _ _ e (n .if5 .left)))
 
 pub timer-core-spec : {M : Type 1} → statement M
 timer-core-spec =
@@ -109,9 +127,13 @@ timer-core-spec =
     startup-over-requires
     returns-3
     returns-4
+    state-of-requires
     tried-requires
+    get-requires
     send-nts-requires
+    with-state-requires
     same-length
     returns-5
     send-requires
+    with-state-requires-2
     returns-6)

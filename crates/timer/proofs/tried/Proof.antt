@@ -16,7 +16,7 @@ polled-requires c κs = search needs
 
 returns : tie.Need-returns
 unfolding triedOf
-returns c = rw (c .polled .ensures, c .before .fallback .ensures, c .before .before .unanswered-polls .ensures)
+returns c g h o = rw (c .polled .ensures, c .before .fallback .ensures, c .before .before .unanswered-polls .ensures)
 
 pub tried-spec : {M : Type 1} → statement M
 tried-spec = tie.close (tie.spec unanswered-polls-requires fallback-requires polled-requires returns)
