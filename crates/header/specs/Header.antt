@@ -117,6 +117,6 @@ bytesOf h =
     ++ toBe 8 (h .receive .0)
     ++ toBe 8 (h .transmit .0))
 
--- other bytes in place of those from an offset on; only the writer's private functions cite it
+-- other bytes in place of those from an offset on; only private functions of the writers, here and in `request`, cite it
 unfoldable pub placed : List ℕ → ℕ → List ℕ → List ℕ
 placed out at bytes = paste out at bytes (length bytes)

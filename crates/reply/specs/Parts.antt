@@ -12,8 +12,8 @@ use Rattle.reply.specs.declared.Found.{Found}
 use Rattle.reply.specs.declared.ReplyOut.{ReplyOut}
 
 -- the record of its parts
-abbrev pub placed : Settings → CookieStash → State → Association
-placed g h s =
+abbrev pub composed : Settings → CookieStash → State → Association
+composed g h s =
     record {
       settings = g;
       stash = h;
@@ -30,4 +30,4 @@ keptOf stores h list = cond stores (storeListOf 8 h list) h
 
 -- what the reply gives, of what the tests found
 abbrev pub outOf : Settings → CookieStash → List ℕ → Found → ReplyOut
-outOf g h list j = record { answer = j .answer; association = placed g (keptOf (j .stores) h list) (j .state) }
+outOf g h list j = record { answer = j .answer; association = composed g (keptOf (j .stores) h list) (j .state) }

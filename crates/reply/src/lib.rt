@@ -24,7 +24,7 @@ ghost use Prim.Native.Nat.{ℕ};
 ghost use Rattle.cookiestash.specs.List.{isWhole, cookiesIn};
 ghost use Rattle.reply.specs.Answer.{numberOf};
 ghost use Rattle.reply.specs.Judge.{live, answers, steppedRecord, afterRateKiss, afterDenial, raised, afterMeasured, measurementOf, matchedOf, judgeOf};
-ghost use Rattle.reply.specs.Parts.{placed, keptOf, outOf};
+ghost use Rattle.reply.specs.Parts.{composed, keptOf, outOf};
 ghost use Rattle.reply.specs.Reply.{replyOf, replyDecodedOf};
 
 // What a measured reply says of the clocks.
@@ -133,7 +133,7 @@ fn denies(kisses: Kisses) -> bool
 
 // The upgrade step, on a matching reply.
 fn stepped(s: State, upgrade: bool) -> State
-    ensures { λ r. ⌜ ((g : Settings) (h : CookieStash) → placed g h r ≡ steppedRecord (placed g h s) upgrade) ⌝ }
+    ensures { λ r. ⌜ ((g : Settings) (h : CookieStash) → composed g h r ≡ steppedRecord (composed g h s) upgrade) ⌝ }
 {
     let old = s.version;
     let version = old.upgrade_step(upgrade);
@@ -144,7 +144,7 @@ fn stepped(s: State, upgrade: bool) -> State
 
 // A RATE kiss raises the remote minimum.
 fn after_rate_kiss(s: State, settings: Settings) -> State
-    ensures { λ r. ⌜ ((h : CookieStash) → placed settings h r ≡ afterRateKiss (placed settings h s)) ⌝ }
+    ensures { λ r. ⌜ ((h : CookieStash) → composed settings h r ≡ afterRateKiss (composed settings h s)) ⌝ }
 {
     let limit = settings.max;
     let old = s.polls;
@@ -159,7 +159,7 @@ fn after_rate_kiss(s: State, settings: Settings) -> State
 
 // A denial is noted.
 fn after_denial(s: State) -> State
-    ensures { λ r. ⌜ ((g : Settings) (h : CookieStash) → placed g h r ≡ afterDenial (placed g h s)) ⌝ }
+    ensures { λ r. ⌜ ((g : Settings) (h : CookieStash) → composed g h r ≡ afterDenial (composed g h s)) ⌝ }
 {
     let mut source = s.source;
     source.denial = true;
@@ -182,7 +182,7 @@ fn raised(remote: PollInterval, reply: Reply) -> PollInterval
 
 // What a measured reply leaves.
 fn after_measured(s: State, reply: Reply) -> State
-    ensures { λ r. ⌜ ((g : Settings) (h : CookieStash) (list : List ℕ) → placed g (keptOf (g .nts) h list) r ≡ afterMeasured (placed g h s) reply list) ⌝ }
+    ensures { λ r. ⌜ ((g : Settings) (h : CookieStash) (list : List ℕ) → composed g (keptOf (g .nts) h list) r ≡ afterMeasured (composed g h s) reply list) ⌝ }
 {
     let tried = s.effort;
     let reached = tried.reach;
@@ -248,7 +248,7 @@ fn matched(
     t4: NtpTimestamp,
     time: u64,
 ) -> Found
-    ensures { λ r. ⌜ ((h : CookieStash) (list : List ℕ) → outOf settings h list r ≡ matchedOf (placed settings h s) reply list t1 t4 time) ⌝ }
+    ensures { λ r. ⌜ ((h : CookieStash) (list : List ℕ) → outOf settings h list r ≡ matchedOf (composed settings h s) reply list t1 t4 time) ⌝ }
 {
     let kisses = reply.kisses;
     if kisses.rate {
@@ -321,7 +321,7 @@ fn judged(
     t4: NtpTimestamp,
     time: u64,
 ) -> Found
-    ensures { λ r. ⌜ ((h : CookieStash) → outOf settings h (now (list .entry)) r ≡ judgeOf (placed settings h s) reply (now (list .entry)) t1 t4 time) ⌝ }
+    ensures { λ r. ⌜ ((h : CookieStash) → outOf settings h (now (list .entry)) r ≡ judgeOf (composed settings h s) reply (now (list .entry)) t1 t4 time) ⌝ }
 {
     if list_broken(settings.nts, list) {
         return Found {
@@ -359,7 +359,7 @@ fn judged(
 
 // What a reply may change of a record, but for its cookies.
 fn state_of(a: Association) -> State
-    ensures { λ r. ⌜ placed (a .settings) (a .stash) r ≡ a ⌝ }
+    ensures { λ r. ⌜ composed (a .settings) (a .stash) r ≡ a ⌝ }
 {
     let effort = a.effort;
     let version = a.version;
@@ -384,7 +384,7 @@ fn refilled(held: CookieStash, stores: bool, list: &[u8]) -> CookieStash
 
 // The record with other cookies and another state.
 fn assembled(a: Association, stash: CookieStash, state: State) -> Association
-    ensures { λ r. ⌜ r ≡ placed (a .settings) stash state ⌝ }
+    ensures { λ r. ⌜ r ≡ composed (a .settings) stash state ⌝ }
 {
     let effort = state.effort;
     let version = state.version;

@@ -9,8 +9,8 @@ use Rattle.timer.specs.declared.Outcome.{Outcome}
 use Rattle.timer.specs.declared.TimerOut.{TimerOut}
 
 -- the record of its parts
-abbrev pub placed : Settings → CookieStash → Source → State → Association
-placed g h o s =
+abbrev pub composed : Settings → CookieStash → Source → State → Association
+composed g h o s =
     record {
       settings = g;
       stash = h;
@@ -23,4 +23,4 @@ placed g h o s =
 
 -- what the timer gives, of what the poll came to
 abbrev pub outOf : Settings → CookieStash → Source → Outcome → TimerOut
-outOf g h o p = record { answer = p .answer; association = placed g h o (p .state) }
+outOf g h o p = record { answer = p .answer; association = composed g h o (p .state) }

@@ -19,7 +19,7 @@ ghost use lib.ListN.{length};
 ghost use Rattle.cookiestash.specs.Stash.{getOf};
 ghost use Rattle.timer.specs.Answer.{numberOf};
 ghost use Rattle.timer.specs.Poll.{polled, triedOf, kindOf, askedOf, deadlineOf, requestOf};
-ghost use Rattle.timer.specs.Parts.{placed, outOf};
+ghost use Rattle.timer.specs.Parts.{composed, outOf};
 ghost use Rattle.timer.specs.Timer.{sendOf, ntsOf, timerOf, wrote, written, bufferOf};
 
 // What is sent.
@@ -105,7 +105,7 @@ fn polled(effort: Effort) -> Effort
 
 // Once a poll is tried.
 fn tried(s: State) -> State
-    ensures { λ r. ⌜ ((g : Settings) (h : CookieStash) (o : Source) → placed g h o r ≡ triedOf (placed g h o s)) ⌝ }
+    ensures { λ r. ⌜ ((g : Settings) (h : CookieStash) (o : Source) → composed g h o r ≡ triedOf (composed g h o s)) ⌝ }
 {
     let effort = s.effort;
     let reach = effort.reach;
@@ -195,7 +195,7 @@ fn send(
     len: u16,
     asked: u8,
 ) -> Outcome
-    ensures { λ r. ⌜ ((h : CookieStash) (o : Source) → outOf settings h o r ≡ sendOf (placed settings h o s) time desired id uid len asked) ⌝ }
+    ensures { λ r. ⌜ ((h : CookieStash) (o : Source) → outOf settings h o r ≡ sendOf (composed settings h o s) time desired id uid len asked) ⌝ }
 {
     let version = s.version;
     let old = s.polls;
@@ -242,7 +242,7 @@ fn send_nts(
     buffer: &mut [u8],
 ) -> Outcome
     requires { ⌜ 724 ≤ length (now buffer) ⌝ }
-    ensures { λ r. ⌜ ((h : CookieStash) (o : Source) → taken ≡ getOf 8 h → outOf settings (taken .stash) o r ≡ ntsOf (placed settings h o s) time desired id uid) × (now (buffer .exit) ≡ written true (taken .slot .bytes) (r .answer) (now (buffer .entry))) ⌝ }
+    ensures { λ r. ⌜ ((h : CookieStash) (o : Source) → taken ≡ getOf 8 h → outOf settings (taken .stash) o r ≡ ntsOf (composed settings h o s) time desired id uid) × (now (buffer .exit) ≡ written true (taken .slot .bytes) (r .answer) (now (buffer .entry))) ⌝ }
 {
     if !taken.found {
         return Outcome {
@@ -266,7 +266,7 @@ fn send_nts(
 
 // What a poll may change of a record, but for its cookies.
 fn state_of(a: Association) -> State
-    ensures { λ r. ⌜ placed (a .settings) (a .stash) (a .source) r ≡ a ⌝ }
+    ensures { λ r. ⌜ composed (a .settings) (a .stash) (a .source) r ≡ a ⌝ }
 {
     let effort = a.effort;
     let version = a.version;
@@ -282,7 +282,7 @@ fn state_of(a: Association) -> State
 
 // The record with another state.
 fn with_state(a: Association, state: State) -> Association
-    ensures { λ r. ⌜ r ≡ placed (a .settings) (a .stash) (a .source) state ⌝ }
+    ensures { λ r. ⌜ r ≡ composed (a .settings) (a .stash) (a .source) state ⌝ }
 {
     let effort = state.effort;
     let version = state.version;

@@ -12,7 +12,7 @@ use Rattle.cookiestash.specs.Stash.{emptySlot, slotAt, inRange, restOf, getOf}
 use Rattle.association.specs.New.{withStash}
 use Rattle.association.specs.Record.{freshOf}
 use Rattle.timer.specs.declared.TimerOut.{TimerOut}
-use Rattle.timer.specs.Parts.{placed}
+use Rattle.timer.specs.Parts.{composed}
 use Rattle.timer.specs.Timer.{asked}
 use Rattle.timer.proofs.Cases as when
 use Rattle.timer.proofs.Count.{asked-short}
@@ -42,7 +42,7 @@ returns c = (
       let a = c .before .before .before .args in
       let t : a .taken ≡ getOf 8 h = e in
       let f = ap (λ (x : Taken). x .found) (sym t) ∙ not-true _ (c .if1 .taken) in
-      rw (ap (λ (x : Taken). x .stash) t ∙ left h f) (sym (when.nts-23 (placed (a .settings) h o (a .s)) _ _ _ _ f)),
+      rw (ap (λ (x : Taken). x .stash) t ∙ left h f) (sym (when.nts-23 (composed (a .settings) h o (a .s)) _ _ _ _ f)),
   refl,
 )
 
@@ -58,7 +58,7 @@ returns-2 c = (
   λ h o e.
       let a = c .before .before .before .before .before .before .before .before .args in
       let t : a .taken ≡ getOf 8 h = e in
-      rw t (sym (when.nts-24 (placed (a .settings) h o (a .s)) _ _ _ _ (found (c .before .before .before .before .before) h t) (eq-eqb _ _ (sym (counted (c .before) h t) ∙ c .if2 .taken)))),
+      rw t (sym (when.nts-24 (composed (a .settings) h o (a .s)) _ _ _ _ (found (c .before .before .before .before .before) h t) (eq-eqb _ _ (sym (counted (c .before) h t) ∙ c .if2 .taken)))),
   refl,
 )
 
@@ -84,7 +84,7 @@ returns-3 c =
     let n = c .before .before .before .before .before .before .before in (
       λ h o e.
           let t : a .taken ≡ getOf 8 h = e in
-          c .send .ensures (a .taken .stash) o ∙ rw (counted (n .before) h t, t) (sym (when.nts-20 (placed (a .settings) h o (a .s)) _ _ _ _ (found (n .before .before .before .before .before) h t) (ne-eqb _ _ (λ z. n .if2 .left (counted (n .before) h t ∙ z))))),
+          c .send .ensures (a .taken .stash) o ∙ rw (counted (n .before) h t, t) (sym (when.nts-20 (composed (a .settings) h o (a .s)) _ _ _ _ (found (n .before .before .before .before .before) h t) (ne-eqb _ _ (λ z. n .if2 .left (counted (n .before) h t ∙ z))))),
       c .before .before .before .write .ensures ∙ rw (ap (λ (x : TimerOut). x .answer) (c .send .ensures (a .taken .stash) (freshOf (a .settings) .source))),
     )
 

@@ -9,7 +9,7 @@ use Rattle.words.proofs.Tests.{passes}
 use Rattle.association.specs.declared.Association.{Association}
 use Rattle.association.specs.Record.{wholeOf}
 use Rattle.timer.specs.Poll.{startupOver, triedOf}
-use Rattle.timer.specs.Parts.{placed}
+use Rattle.timer.specs.Parts.{composed}
 use Rattle.timer.specs.Timer.{sendOf, ntsOf, shortBuffer, bufferOf}
 use Rattle.timer.proofs.Cases as when
 use Rattle.timer.proofs.timer_core.Statement.{statement}
@@ -96,7 +96,7 @@ returns-5 c =
     let n = c .before .before .before .before .before .before .before .before .before in
     let o = n .before .before .before in
     let r = o .before .before .before in
-    let q : placed (a .a .settings) (a .a .stash) (a .a .source) (n .before .tried .result) ≡ triedOf (a .a) = n .before .tried .ensures (a .a .settings) (a .a .stash) (a .a .source) ∙ ap triedOf (n .before .before .state-of .ensures) in
+    let q : composed (a .a .settings) (a .a .stash) (a .a .source) (n .before .tried .result) ≡ triedOf (a .a) = n .before .tried .ensures (a .a .settings) (a .a .stash) (a .a .source) ∙ ap triedOf (n .before .before .state-of .ensures) in
     let e = d .ensures .0 (a .a .stash) (a .a .source) (g .ensures) ∙ ap (λ (x : Association). ntsOf x (a .time) (a .desired) (a .id) (a .uid)) q ∙ sym (when.tries-nts _ _ _ _ _ _ (whole (r .before .before .before)) (roomy r) (going o) (n .if5 .taken)) in
     (rw (c .with-state .ensures) e, d .ensures .1 ∙ rw (g .ensures) (sym (when.buffer-is _ _ _ _ _ _ _ _ (sym e) (n .if5 .taken))))
 
@@ -112,7 +112,7 @@ returns-6 c =
     let n = c .before .before .before in
     let o = n .before .before .before in
     let r = o .before .before .before in
-    let q : placed (a .a .settings) (a .a .stash) (a .a .source) (n .before .tried .result) ≡ triedOf (a .a) = n .before .tried .ensures (a .a .settings) (a .a .stash) (a .a .source) ∙ ap triedOf (n .before .before .state-of .ensures) in
+    let q : composed (a .a .settings) (a .a .stash) (a .a .source) (n .before .tried .result) ≡ triedOf (a .a) = n .before .tried .ensures (a .a .settings) (a .a .stash) (a .a .source) ∙ ap triedOf (n .before .before .state-of .ensures) in
     let e = when.tries-plain _ _ _ _ _ _ (whole (r .before .before .before)) (roomy r) (going o) (n .if5 .left) in
     (rw (c .with-state2 .ensures) (c .before .before .send .ensures (a .a .stash) (a .a .source) ∙ ap (λ (x : Association). sendOf x (a .time) (a .desired) (a .id) (a .uid) 0 0) q ∙ sym e), sym (when.buffer-is _ _ _ _ _ _ _ _ e (n .if5 .left)))
 
