@@ -1,7 +1,7 @@
 #!/usr/bin/env python3
 """Writes crates/wire_cases/stdout: what the program wire_cases must print.
 
-A small reference of the wire, written from RFC 5905, RFC 7822, RFC 8915 and parts 6 to 9 of document 01, and from nothing else.
+A small reference of the wire, written from RFC 5905, RFC 7822, RFC 8915, parts 6 to 9 of document 01 and No. 1 of document 02, and from nothing else.
 It builds each packet anew and shares no code with the program.  Run it from anywhere; with '-' it prints instead.
 """
 
@@ -368,6 +368,35 @@ def collector():
     show_collect('broken and too small', hundred + bytes(4), 8)
 
 
+# ---- 9. the request writer (document 02, No. 1; RFC 5905 section 7.3, RFC 8915 sections 5.3 to 5.5)
+
+def padded(kind, body):
+    """A field, filled with zeros to a multiple of four and to the least length, 16."""
+    return field(kind, body + bytes(max(-len(body) % 4, 12 - len(body))))
+
+
+def requested(kind, body, asked, size):
+    """The number, and what the writer leaves in a buffer of so many bytes."""
+    buffer = bytes([FILL]) * size
+    if kind.endswith('v5'):
+        return 50, buffer
+    if kind == 'nts-v4' and not (len(body) <= 724 and 1 <= asked <= 8):
+        return 52, buffer
+    packet = header(mode=3, poll=-2, reference=0x1112131415161718 if kind == 'v4-upgrade' else 0, transmit=0x0102030405060708)
+    if kind == 'nts-v4':
+        packet += padded(0x0104, UID) + padded(0x0204, body)
+        for _ in range(asked - 1):
+            packet += padded(0x0304, bytes(len(body)))
+    return (51, buffer) if size < len(packet) else (0, packet + buffer[len(packet):])
+
+
+def requests():
+    for kind, length, asked, size in [('v4', 0, 0, 50), ('v4', 0, 0, 48), ('v4', 0, 0, 47), ('v4-upgrade', 13, 9, 49), ('v5', 0, 0, 50), ('nts-v5', 13, 0, 0),
+                                      ('nts-v4', 0, 1, 103), ('nts-v4', 12, 2, 117), ('nts-v4', 13, 2, 124), ('nts-v4', 13, 2, 123), ('nts-v4', 13, 0, 104), ('nts-v4', 13, 9, 8)]:
+        n, after = requested(kind, b'cookie bytes!'[:length], asked, size)
+        say('request %s cookie %d asked %d into %d: number %d buffer %s' % (kind, length, asked, size, n, hexed(after)))
+
+
 def main():
     lengths_and_versions()
     headers()
@@ -378,6 +407,7 @@ def main():
     uids()
     matches()
     collector()
+    requests()
     text = ''.join(line + '\n' for line in LINES)
     if sys.argv[1:] == ['-']:
         sys.stdout.write(text)

@@ -18,12 +18,20 @@ ghost use Rattle.request.specs.Answer.{numberOf, fitted, leftIn, request
 
 const HEADER: usize = 48;
 
+// A field starts with its type and its length.
+const HEAD: usize = 4;
+
 // The types of the fields that a request carries.
 const UID: u16 = 0x0104;
 
 const COOKIE: u16 = 0x0204;
 
 const PLACEHOLDER: u16 = 0x0304;
+
+// How long the uid's field is, and all that stands in front of the cookie's.
+const UID_FIELD: usize = 36;
+
+const IN_FRONT: usize = 84;
 
 // The longest cookie, and the most new ones that a request asks for.
 const MAX_COOKIE: usize = 724;
@@ -109,7 +117,7 @@ fn field_length(len: usize) -> usize
     requires { ⌜ len ≤ 724 ⌝ }
     ensures { λ r. ⌜ r ≡ fieldLength len ⌝ }
 {
-    let long = (len + 7) / 4 * 4;
+    let long = (HEAD + len + 3) / 4 * 4;
     if long < 16 { 16 } else { long }
 }
 
@@ -158,7 +166,7 @@ fn put_field(out: &mut [u8], at: usize, kind: u16, len: usize, body: &[u8]) -> u
 {
     put(out, at, &words::be16_bytes(kind), 2);
     put(out, at + 2, &words::be16_bytes(len as u16), 2);
-    put(out, at + 4, body, len - 4);
+    put(out, at + HEAD, body, len - HEAD);
     at + len
 }
 
@@ -188,7 +196,7 @@ fn put_fields(out: &mut [u8], uid: [u8; 32], cookie: &[u8], len: usize, asked: u
     requires { ⌜ (84 + asked * len ≤ length (now out)) × (len ≡ fieldLength (length (now cookie))) × (length (now cookie) ≤ 724) × (1 ≤ asked) ⌝ }
     ensures { λ r. ⌜ (r ≡ 84 + asked * len) × (now (out .exit) ≡ placed (now (out .entry)) 48 (allBytes (fieldsFor uid (now (cookie .entry)) asked))) ⌝ }
 {
-    let first = put_field(out, HEADER, UID, 36, &uid);
+    let first = put_field(out, HEADER, UID, UID_FIELD, &uid);
     let second = put_field(out, first, COOKIE, len, cookie);
     put_placeholders(out, second, len, asked - 1)
 }
@@ -211,7 +219,7 @@ fn write_nts(front: [u8; 48], uid: [u8; 32], cookie: &[u8], asked: u8, out: &mut
 {
     let len = field_length(cookie.len());
     let new = asked as usize;
-    if out.len() < 84 + new * len {
+    if out.len() < IN_FRONT + new * len {
         return Requested::ShortBuffer;
     }
     put(out, 0, &front, HEADER);

@@ -1,10 +1,11 @@
-// Runs the cases of the wire (document 01, parts 6 to 9) and prints a line for each; tools/wire_cases.py writes what must be printed.
+// Runs the cases of the wire (document 01, parts 6 to 9; document 02, No. 1) and prints a line for each; tools/wire_cases.py writes what must be printed.
 mod build;
 mod collector_cases;
 mod header_cases;
 mod kiss_cases;
 mod out;
 mod pieces;
+mod request_cases;
 mod sweep;
 mod uid_cases;
 mod walk_cases;
@@ -20,4 +21,5 @@ fn main() {
     uid_cases::matches();
     let mut room = [0u8; 256];
     collector_cases::run(&mut bytes, &mut room);
+    sweep::run(Sweep::Requests, &mut bytes, 0, 12);
 }

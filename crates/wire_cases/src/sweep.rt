@@ -1,6 +1,7 @@
 // Cases that are run for each number of a range.
 use crate::header_cases;
 use crate::kiss_cases;
+use crate::request_cases;
 use crate::walk_cases;
 
 pub enum Sweep {
@@ -14,6 +15,7 @@ pub enum Sweep {
     PacketPasts,
     PlainPasts,
     Places(usize),
+    Requests,
 }
 
 fn low_byte(n: usize) -> u8 {
@@ -32,6 +34,7 @@ fn turn(sweep: Sweep, bytes: &mut [u8], n: usize) {
         Sweep::PacketPasts => walk_cases::packet_past_case(bytes, n),
         Sweep::PlainPasts => walk_cases::plain_past_case(bytes, n),
         Sweep::Places(count) => walk_cases::place_case(bytes, count, n),
+        Sweep::Requests => request_cases::turn(bytes, n),
     }
 }
 

@@ -9,6 +9,9 @@ use Rattle.request.proofs.field_length.Tie as tie
 add-long : tie.Need-add-long
 add-long c = search needs
 
+add-long-2 : tie.Need-add-long-2
+add-long-2 c = search needs
+
 mul-long : tie.Need-mul-long
 mul-long c = search needs
 
@@ -21,4 +24,4 @@ unfolding fieldLength
 returns-2 c = omega arith
 
 pub field-length-spec : {M : Type 1} → statement M
-field-length-spec = tie.close (tie.spec add-long mul-long returns returns-2)
+field-length-spec = tie.close (tie.spec add-long add-long-2 mul-long returns returns-2)
