@@ -157,7 +157,7 @@ def packet_field_at(data, at):
     return field_at(data, at, 16, 24)
 
 
-def plain_field_at(data, at):
+def decrypted_field_at(data, at):
     return field_at(data, at, 4, 0)
 
 
@@ -178,8 +178,8 @@ def packet_walk(data):
     return walk(data, 48, packet_field_at)
 
 
-def plain_walk(data):
-    return walk(data, 0, plain_field_at)
+def decrypted_walk(data):
+    return walk(data, 0, decrypted_field_at)
 
 
 def show_step(step):
@@ -208,7 +208,7 @@ def tails():
     for n in range(61):
         say('tail of %d: %s' % (n, show_walk(packet_walk(HEADER + bytes(n)))))
     for n in range(9):
-        say('plain tail of %d: %s' % (n, show_walk(plain_walk(bytes(n)))))
+        say('plain tail of %d: %s' % (n, show_walk(decrypted_walk(bytes(n)))))
 
 
 # ---- 5. lengths
@@ -219,10 +219,10 @@ def lengths():
         say('packet field of length %d: %s, walk %s' % (n, show_step(packet_field_at(packet, 48)), show_walk(packet_walk(packet))))
     for n in range(37):
         plain = struct.pack('>HH', 0x0104, n) + bytes(28)
-        say('plain field of length %d: %s, walk %s' % (n, show_step(plain_field_at(plain, 0)), show_walk(plain_walk(plain))))
+        say('plain field of length %d: %s, walk %s' % (n, show_step(decrypted_field_at(plain, 0)), show_walk(decrypted_walk(plain))))
     # the two bytes of a type and of a length are read big-endian
     plain = struct.pack('>HH', 0xabcd, 0x0100) + bytes(252)
-    say('plain field of length 256: %s, walk %s' % (show_step(plain_field_at(plain, 0)), show_walk(plain_walk(plain))))
+    say('plain field of length 256: %s, walk %s' % (show_step(decrypted_field_at(plain, 0)), show_walk(decrypted_walk(plain))))
 
 
 # ---- 6. edges
@@ -233,11 +233,11 @@ def edges():
         say('packet field past the end by %d: %s, walk %s' % (past, show_step(packet_field_at(packet, 48)), show_walk(packet_walk(packet))))
     for past in range(5):
         plain = field(0x0104, bytes(4))[:8 - past]
-        say('plain field past the end by %d: %s, walk %s' % (past, show_step(plain_field_at(plain, 0)), show_walk(plain_walk(plain))))
+        say('plain field past the end by %d: %s, walk %s' % (past, show_step(decrypted_field_at(plain, 0)), show_walk(decrypted_walk(plain))))
     for at in (48, 49, 50, 2 ** 64 - 1):
         say('offset %d of 48: packet %s' % (at, show_step(packet_field_at(HEADER, at))))
     for at in (8, 9, 10, 2 ** 64 - 1):
-        say('offset %d of 8: plain %s' % (at, show_step(plain_field_at(bytes(8), at))))
+        say('offset %d of 8: plain %s' % (at, show_step(decrypted_field_at(bytes(8), at))))
     three = HEADER + field(0x0104, bytes(12)) + field(0x0204, bytes(16)) + field(0x0404, bytes(24)) + bytes(20)
     for name, packet in (('three fields', three), ('a tail alone', HEADER + bytes(20)), ('a header alone', HEADER)):
         found, end = packet_walk(packet)
@@ -271,27 +271,27 @@ def show_packet_uid(name, packet, end):
     say('uid %s: authenticated %s untrusted %s' % (name, group(found, 48, end), group(found, end, len(packet))))
 
 
-def show_plain_uid(name, plain):
-    found, _ = plain_walk(plain)
+def show_decrypted_uid(name, plain):
+    found, _ = decrypted_walk(plain)
     say('uid %s: encrypted %s' % (name, group(found, 0, len(plain))))
 
 
 def uids():
     cover = field(0x0404, bytes(28))  # a field of another type, 32 bytes
     show_packet_uid('none', HEADER + cover + cover, 80)
-    show_plain_uid('none', cover)
+    show_decrypted_uid('none', cover)
     for name, body in BODIES:
         uid = field(0x0104, body)
         show_packet_uid(name + ' in front', HEADER + uid + cover, 48 + len(uid))
         show_packet_uid(name + ' behind', HEADER + cover + uid, 80)
-        show_plain_uid(name, uid)
+        show_decrypted_uid(name, uid)
     good, bad = field(0x0104, UID), field(0x0104, OTHER)
     for name, a, b in (('agree agree', good, good), ('agree disagree', good, bad), ('disagree agree', bad, good)):
         packet = HEADER + a + b
         show_packet_uid(name + ' in front', packet, 120)
         show_packet_uid(name + ' parted', packet, 84)
         show_packet_uid(name + ' behind', packet, 48)
-        show_plain_uid(name, a + b)
+        show_decrypted_uid(name, a + b)
 
 
 def matches():
@@ -314,7 +314,7 @@ FILL = 0xee
 def collected(plain, size):
     """The number, the list, and the buffer after."""
     buffer = bytes([FILL]) * size
-    found, end = plain_walk(plain)
+    found, end = decrypted_walk(plain)
     if end is None:
         return 1, b'', buffer
     cookies = [body for _, kind, body in found if kind == 0x0204]

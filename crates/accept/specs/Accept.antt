@@ -38,7 +38,7 @@ loops stratum id local bloom = (not (eqb stratum 1) && among id local) || isPres
 unfoldable pub acceptOf : Association → ℕ → List ℕ → Bloom → AcceptAnswer
 acceptOf a stratum local bloom =
     cond (wholeOf a)
-    (cond (leb stratum (a .source .stratum)) Stratum
-    (cond (loops (a .source .stratum) (a .settings .source .0) local bloom) Loop
-    (cond (reachableOf (a .effort .reach)) Accepted Unreachable)))
+    (cond (leb stratum (a .state .source .stratum)) Stratum
+    (cond (loops (a .state .source .stratum) (a .settings .source .0) local bloom) Loop
+    (cond (reachableOf (a .state .effort .reach)) Accepted Unreachable)))
     NotWhole

@@ -76,7 +76,8 @@ pub fn accept(a: Association, stratum: u8, local: &[u32], bloom: Bloom) -> Accep
     if !a.whole() {
         return AcceptAnswer::NotWhole;
     }
-    let source = a.source;
+    let state = a.state;
+    let source = state.source;
     if stratum <= source.stratum {
         return AcceptAnswer::Stratum;
     }
@@ -85,7 +86,7 @@ pub fn accept(a: Association, stratum: u8, local: &[u32], bloom: Bloom) -> Accep
     if is_loop(source.stratum, own.0, local, bloom) {
         return AcceptAnswer::Loop;
     }
-    let effort = a.effort;
+    let effort = state.effort;
     let reach = effort.reach;
     if !reach.is_reachable() {
         return AcceptAnswer::Unreachable;

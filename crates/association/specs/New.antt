@@ -3,34 +3,21 @@
 use mathlib.Core.Bool.{not, _&&_, cond}
 use mathlib.Core.List.{List}
 use Prim.Native.Nat.{ℕ}
-use Rattle.cookiestash.specs.declared.CookieStash.{CookieStash}
-use Rattle.cookiestash.specs.List.{isWhole, cookiesIn, storeListOf}
+use Rattle.cookielist.specs.List.{isWhole, cookiesIn}
+use Rattle.cookiestash.specs.StoreList.{storeListOf}
 use Rattle.association.specs.declared.Settings.{Settings}
 use Rattle.association.specs.declared.Association.{Association}
 use Rattle.association.specs.declared.NewAnswer.{NewAnswer}
 use Rattle.association.specs.declared.NewAnswer.the-variants.{Made, BadSettings, BrokenList}
 use Rattle.association.specs.declared.NewOut.{NewOut}
-use Rattle.association.specs.Settings.{settingsHold}
-use Rattle.association.specs.Record.{blankOf, freshOf}
+use Rattle.association.specs.Settings.{settingsValid}
+use Rattle.association.specs.Record.{blankOf, freshOf, withStash}
 
 -- 0: association made; 30: settings outside the ranges; 33: broken cookie list (NTS only)
 abbrev pub numberOf : NewAnswer → ℕ
 numberOf Made = 0
 numberOf BadSettings = 30
 numberOf BrokenList = 33
-
--- the record with another stash
-unfoldable pub withStash : Association → CookieStash → Association
-withStash a s =
-    record {
-      settings = a .settings;
-      stash = s;
-      effort = a .effort;
-      version = a .version;
-      polls = a .polls;
-      source = a .source;
-      request = a .request;
-    }
 
 -- with NTS it takes a first cookie list
 unfoldable pub madeOf : Settings → List ℕ → Association
@@ -39,7 +26,7 @@ madeOf s list = cond (s .nts) (withStash (freshOf s) (storeListOf 8 (freshOf s .
 -- in order 30, 33; a refusal leaves the blank record
 unfoldable pub newOf : Settings → List ℕ → NewOut
 newOf s list =
-    cond (settingsHold s)
+    cond (settingsValid s)
     (cond (s .nts && not (isWhole (cookiesIn list)))
     (record { answer = BrokenList; association = blankOf })
     (record { answer = Made; association = madeOf s list }))

@@ -9,18 +9,22 @@ use lib.ListN.{replicate}
 use Rattle.words.specs.Bytes.{zeros}
 use Rattle.identifiers.specs.Names.{named, xnon}
 use Rattle.reach.specs.Register.{neverOf}
-use Rattle.cookiestash.specs.Stash as stash
-use Rattle.cookiestash.specs.Whole as stash-whole
+use Rattle.cookiestash.specs.declared.CookieStash.{CookieStash}
+use Rattle.cookiestash.specs.declared.Seen.{Seen}
+use Rattle.cookiestash.specs.Stash.{newOf}
+use Rattle.cookiestash.specs.Whole.{seenOf}
 use Rattle.version.specs.declared.ProtocolVersion.the-variants.{V4}
 use Rattle.version.specs.Upgrade.{version}
 use Rattle.time_types.specs.Poll.{interval}
 use Rattle.association.specs.declared.Settings.{Settings}
-use Rattle.association.specs.declared.Request.{Request}
+use Rattle.association.specs.declared.Pending.{Pending}
+use Rattle.association.specs.declared.State.{State}
 use Rattle.association.specs.declared.Association.{Association}
-use Rattle.association.specs.Settings.{settingsHold}
+use Rattle.association.specs.Settings.{settingsValid}
 
-unfoldable pub noRequest : Request
-noRequest = record { present = false; id = 0; uid = replicate 32 0; deadline = 0 }
+-- nothing is pending: absent things are zero
+unfoldable pub noPending : Pending
+noPending = record { present = false; id = 0; uid = replicate 32 0; deadline = 0 }
 
 -- the blank record: all zero, V4
 unfoldable pub blankOf : Association
@@ -32,17 +36,20 @@ blankOf =
             max = interval (pos 0);
             startup = 0;
             window = 0;
-            mark = 0;
+            upgrademark = 0;
             start = version V4;
             nts = false;
             source = named 0;
           };
-      stash = stash.newOf;
-      effort = record { reach = neverOf; tries = 0 };
-      version = version V4;
-      polls = record { last = interval (pos 0); remote = interval (pos 0) };
-      source = record { stratum = 0; reference = named 0; denial = false };
-      request = noRequest;
+      stash = newOf;
+      state =
+          record {
+            effort = record { reach = neverOf; tries = 0 };
+            version = version V4;
+            polls = record { last = interval (pos 0); remote = interval (pos 0) };
+            source = record { stratum = 0; refid = named 0; denial = false };
+            request = noPending;
+          };
     }
 
 -- a new association has reach 0, tries 0, stratum 16, reference identifier XNON, both poll values at min, nothing pending, no denial noted
@@ -50,23 +57,36 @@ unfoldable pub freshOf : Settings → Association
 freshOf s =
     record {
       settings = s;
-      stash = stash.newOf;
-      effort = record { reach = neverOf; tries = 0 };
-      version = s .start;
-      polls = record { last = s .min; remote = s .min };
-      source = record { stratum = 16; reference = named xnon; denial = false };
-      request = noRequest;
+      stash = newOf;
+      state =
+          record {
+            effort = record { reach = neverOf; tries = 0 };
+            version = s .start;
+            polls = record { last = s .min; remote = s .min };
+            source = record { stratum = 16; refid = named xnon; denial = false };
+            request = noPending;
+          };
     }
 
+-- the record with another stash, and with another state
+abbrev pub withStash : Association → CookieStash → Association
+withStash a s = record { settings = a .settings; stash = s; state = a .state }
+
+abbrev pub withState : Association → State → Association
+withState a s = record { settings = a .settings; stash = a .stash; state = s }
+
 -- absent things are zero
-unfoldable pub requestHolds : Request → Bool
-requestHolds r = r .present || (eqb (r .id) 0 && (eqb (r .deadline) 0 && zeros (r .uid)))
+unfoldable pub pendingValid : Pending → Bool
+pendingValid r = r .present || (eqb (r .id) 0 && (eqb (r .deadline) 0 && zeros (r .uid)))
 
 -- without NTS read, held and uid are zero
-unfoldable pub idleHolds : Bool → ℕ → ℕ → List ℕ → Bool
-idleHolds nts read held uid = nts || (eqb read 0 && (eqb held 0 && zeros uid))
+unfoldable pub idleValid : Bool → ℕ → ℕ → List ℕ → Bool
+idleValid nts read held uid = nts || (eqb read 0 && (eqb held 0 && zeros uid))
 
 -- a record is whole if its settings hold, its stash is whole (read < 8, held ≤ 8, free slots have length 0, bytes past a slot's stored bytes are zero), absent things are zero,
 -- and without NTS read, held and uid are zero
+unfoldable pub wholeSeen : Settings → Seen → Pending → Bool
+wholeSeen s v q = settingsValid s && (v .whole && (pendingValid q && idleValid (s .nts) (v .read) (v .held) (q .uid)))
+
 unfoldable pub wholeOf : Association → Bool
-wholeOf a = settingsHold (a .settings) && (stash-whole.wholeOf 8 (a .stash) && (requestHolds (a .request) && idleHolds (a .settings .nts) (a .stash .read) (a .stash .held) (a .request .uid)))
+wholeOf a = wholeSeen (a .settings) (seenOf 8 (a .stash)) (a .state .request)

@@ -1,13 +1,15 @@
 // The association's settings and record, when a record is whole, and how a new one is made (document 01, "Settings and a whole record").
+use cookiestash::CAPACITY;
 use cookiestash::CookieStash;
+use cookiestash::Seen;
 use identifiers::ReferenceId;
 use reach::Reach;
 use time_types::PollInterval;
 use version::ProtocolVersion;
 use version::Version;
 ghost use mathlib.Core.Path.{_≡_};
-ghost use Rattle.association.specs.Settings.{within, limitsHold, settingsHold};
-ghost use Rattle.association.specs.Record.{requestHolds, idleHolds, wholeOf, noRequest, blankOf, freshOf};
+ghost use Rattle.association.specs.Settings.{within, limitsValid, settingsValid};
+ghost use Rattle.association.specs.Record.{noPending, pendingValid, idleValid, wholeSeen, wholeOf, blankOf, freshOf};
 ghost use Rattle.association.specs.New.{numberOf, newOf};
 
 // The largest poll exponent that a limit may be.
@@ -25,7 +27,7 @@ pub struct Settings {
     // How long a request stays live, in nanoseconds.
     pub window: u64,
     // The reference timestamp of an upgrade request and of an upgrade reply.
-    pub mark: u64,
+    pub upgrademark: u64,
     pub start: Version,
     pub nts: bool,
     // The source's own identifier.
@@ -47,26 +49,32 @@ pub struct Polls {
 // What the source last said of itself, and whether it denied service since.
 pub struct Source {
     pub stratum: u8,
-    pub reference: ReferenceId,
+    pub refid: ReferenceId,
     pub denial: bool,
 }
 
 // The pending request; where none is, all is zero.
-pub struct Request {
+pub struct Pending {
     pub present: bool,
     pub id: u64,
     pub uid: [u8; 32],
     pub deadline: u64,
 }
 
-pub struct Association {
-    pub settings: Settings,
-    pub stash: CookieStash,
+// What the calls change of an association, but for its cookies.
+pub struct State {
     pub effort: Effort,
     pub version: Version,
     pub polls: Polls,
     pub source: Source,
-    pub request: Request,
+    pub request: Pending,
+}
+
+// The settings never change, the cookies are many bytes and rarely touched, the state is small and changed by every call.
+pub struct Association {
+    pub settings: Settings,
+    pub stash: CookieStash,
+    pub state: State,
 }
 
 // Whether a number is neither below one bound nor above the other.
@@ -77,8 +85,8 @@ fn between(low: u64, x: u64, high: u64) -> bool
 }
 
 // Whether poll limits stand in their order, from 0 to the largest.
-fn limits_hold(min: i8, max: i8) -> bool
-    ensures { λ r. ⌜ r ≡ limitsHold min max ⌝ }
+fn limits_valid(min: i8, max: i8) -> bool
+    ensures { λ r. ⌜ r ≡ limitsValid min max ⌝ }
 {
     if 0 <= min {
         if min <= max { max <= MAX_POLL } else { false }
@@ -89,12 +97,12 @@ fn limits_hold(min: i8, max: i8) -> bool
 
 impl Settings {
     // Whether the settings are within their ranges.
-    pub fn hold(self) -> bool
-        ensures { λ r. ⌜ r ≡ settingsHold self ⌝ }
+    pub fn valid(self) -> bool
+        ensures { λ r. ⌜ r ≡ settingsValid self ⌝ }
     {
         let min = self.min;
         let max = self.max;
-        if !limits_hold(min.0, max.0) {
+        if !limits_valid(min.0, max.0) {
             return false;
         }
         if !between(1, self.startup as u64, 8) {
@@ -104,12 +112,12 @@ impl Settings {
     }
 }
 
-impl Request {
+impl Pending {
     // No request is pending.
-    pub fn none() -> Request
-        ensures { λ r. ⌜ r ≡ noRequest ⌝ }
+    pub fn none() -> Pending
+        ensures { λ r. ⌜ r ≡ noPending ⌝ }
     {
-        Request {
+        Pending {
             present: false,
             id: 0,
             uid: [0u8; 32],
@@ -118,8 +126,8 @@ impl Request {
     }
 
     // Whether an absent request is zero.
-    pub fn holds(self) -> bool
-        ensures { λ r. ⌜ r ≡ requestHolds self ⌝ }
+    pub fn valid(self) -> bool
+        ensures { λ r. ⌜ r ≡ pendingValid self ⌝ }
     {
         if self.present {
             return true;
@@ -136,8 +144,8 @@ impl Request {
 }
 
 // Whether what only NTS uses is zero where there is no NTS.
-fn idle_holds(nts: bool, read: usize, held: usize, uid: [u8; 32]) -> bool
-    ensures { λ r. ⌜ r ≡ idleHolds nts read held uid ⌝ }
+fn idle_valid(nts: bool, read: usize, held: usize, uid: [u8; 32]) -> bool
+    ensures { λ r. ⌜ r ≡ idleValid nts read held uid ⌝ }
 {
     if nts {
         return true;
@@ -151,6 +159,23 @@ fn idle_holds(nts: bool, read: usize, held: usize, uid: [u8; 32]) -> bool
     words::zeros_from(&uid, 0)
 }
 
+// Whether a record is whole, of its settings, of what is seen of its stash, and of its pending request.
+pub fn whole_seen(settings: Settings, seen: Seen, request: Pending) -> bool
+    ensures { λ r. ⌜ r ≡ wholeSeen settings seen request ⌝ }
+{
+    if !settings.valid() {
+        return false;
+    }
+    if !seen.whole {
+        return false;
+    }
+    if !request.valid() {
+        return false;
+    }
+    let uid = request.uid;
+    idle_valid(settings.nts, seen.read, seen.held, uid)
+}
+
 impl Association {
     // The blank record: all zero, V4.
     pub fn blank() -> Association
@@ -161,34 +186,36 @@ impl Association {
             kind: ProtocolVersion::V4,
         };
         let stash = CookieStash::new();
-        let request = Request::none();
+        let request = Pending::none();
         Association {
             settings: Settings {
                 min: zero,
                 max: zero,
                 startup: 0,
                 window: 0,
-                mark: 0,
+                upgrademark: 0,
                 start: version,
                 nts: false,
                 source: ReferenceId(0),
             },
             stash,
-            effort: Effort {
-                reach: Reach(0),
-                tries: 0,
+            state: State {
+                effort: Effort {
+                    reach: Reach(0),
+                    tries: 0,
+                },
+                version,
+                polls: Polls {
+                    last: zero,
+                    remote: zero,
+                },
+                source: Source {
+                    stratum: 0,
+                    refid: ReferenceId(0),
+                    denial: false,
+                },
+                request,
             },
-            version,
-            polls: Polls {
-                last: zero,
-                remote: zero,
-            },
-            source: Source {
-                stratum: 0,
-                reference: ReferenceId(0),
-                denial: false,
-            },
-            request,
         }
     }
 
@@ -197,19 +224,10 @@ impl Association {
         ensures { λ r. ⌜ r ≡ wholeOf self ⌝ }
     {
         let settings = self.settings;
-        if !settings.hold() {
-            return false;
-        }
         let stash = self.stash;
-        if !stash.whole() {
-            return false;
-        }
-        let request = self.request;
-        if !request.holds() {
-            return false;
-        }
-        let uid = request.uid;
-        idle_holds(settings.nts, stash.read, stash.held, uid)
+        let state = self.state;
+        let request = state.request;
+        whole_seen(settings, stash.seen(CAPACITY), request)
     }
 
     // A new association with its settings, before it has a cookie.
@@ -219,25 +237,27 @@ impl Association {
         let stash = CookieStash::new();
         let version = settings.start;
         let min = settings.min;
-        let request = Request::none();
+        let request = Pending::none();
         Association {
             settings,
             stash,
-            effort: Effort {
-                reach: Reach::never(),
-                tries: 0,
+            state: State {
+                effort: Effort {
+                    reach: Reach::never(),
+                    tries: 0,
+                },
+                version,
+                polls: Polls {
+                    last: min,
+                    remote: min,
+                },
+                source: Source {
+                    stratum: 16,
+                    refid: ReferenceId::NONE,
+                    denial: false,
+                },
+                request,
             },
-            version,
-            polls: Polls {
-                last: min,
-                remote: min,
-            },
-            source: Source {
-                stratum: 16,
-                reference: ReferenceId::NONE,
-                denial: false,
-            },
-            request,
         }
     }
 
@@ -245,7 +265,7 @@ impl Association {
     pub fn new(settings: Settings, list: &[u8]) -> NewOut
         ensures { λ r. ⌜ r ≡ newOf settings (now (list .entry)) ⌝ }
     {
-        if !settings.hold() {
+        if !settings.valid() {
             let blank = Association::blank();
             return NewOut {
                 answer: NewAnswer::BadSettings,
@@ -254,7 +274,7 @@ impl Association {
         }
         let mut made = Association::fresh(settings);
         if settings.nts {
-            if !cookiestash::list_whole(list) {
+            if !cookielist::list_whole(list) {
                 let blank = Association::blank();
                 return NewOut {
                     answer: NewAnswer::BrokenList,
@@ -262,7 +282,7 @@ impl Association {
                 };
             }
             let empty = made.stash;
-            let stash = empty.store_list(list);
+            let stash = empty.store_list(CAPACITY, list);
             made.stash = stash;
             return NewOut {
                 answer: NewAnswer::Made,

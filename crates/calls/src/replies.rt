@@ -1,14 +1,14 @@
 // The loop over the reply.
 use crate::inputs;
 use association::Association;
-use association::Request;
+use association::Pending;
 use reply::ReplyOut;
 use time_types::NtpTimestamp;
 
 // The request that the reply answers; its unique identifier counts only with NTS.
-fn pending(nts: bool) -> Request {
+fn pending(nts: bool) -> Pending {
     let byte = if nts { inputs::UID_BYTE } else { 0 };
-    Request {
+    Pending {
         present: true,
         id: inputs::ID,
         uid: [byte; 32],
@@ -16,10 +16,10 @@ fn pending(nts: bool) -> Request {
     }
 }
 
-fn call(a: Association, packet: &[u8], end: usize, plain: &[u8], list: &[u8]) -> ReplyOut {
+fn call(a: Association, packet: &[u8], end: usize, decrypted: &[u8], list: &[u8]) -> ReplyOut {
     let t1 = NtpTimestamp(0x100000000);
     let t4 = NtpTimestamp(0x400000000);
-    reply::reply_lent(a, packet, end, plain, list, t1, t4, 2000)
+    reply::reply_owned(a, packet, end, decrypted, list, t1, t4, 2000)
 }
 
 // So many calls, each on the record that the last one left with the request put back; with `base` all but the calls.
@@ -30,7 +30,7 @@ fn run(
     base: bool,
     packet: &[u8],
     end: usize,
-    plain: &[u8],
+    decrypted: &[u8],
     list: &[u8],
 ) -> u8 {
     let mut next = a;
@@ -38,9 +38,11 @@ fn run(
     let mut left = calls;
     while 0 < left {
         let request = pending(nts);
-        next.request = request;
+        let mut state = next.state;
+        state.request = request;
+        next.state = state;
         if !base {
-            let out = call(next, packet, end, plain, list);
+            let out = call(next, packet, end, decrypted, list);
             let answer = out.answer;
             number = answer.number();
             next = out.association;
@@ -54,12 +56,12 @@ fn run(
 pub fn answer(a: Association, nts: bool, calls: u64, base: bool) -> u8 {
     let mut packet = [0u8; 228];
     inputs::put_packet(&mut packet);
-    let mut plain = [9u8; 104];
-    inputs::put_plain(&mut plain);
+    let mut decrypted = [9u8; 104];
+    inputs::put_decrypted(&mut decrypted);
     let mut list = [9u8; 104];
     inputs::put_list(&mut list);
     if nts {
-        return run(a, nts, calls, base, &packet, 84, &plain, &list);
+        return run(a, nts, calls, base, &packet, 84, &decrypted, &list);
     }
     run(
         a,

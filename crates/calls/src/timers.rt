@@ -2,6 +2,7 @@
 use crate::inputs;
 use association::Association;
 use association::Effort;
+use cookiestash::CAPACITY;
 use time_types::PollInterval;
 use timer::TimerOut;
 
@@ -13,7 +14,7 @@ fn untried(effort: Effort) -> Effort {
 
 fn call(a: Association, buffer: &mut [u8]) -> TimerOut {
     let uid = [inputs::UID_BYTE; 32];
-    timer::timer_lent(a, 1000, PollInterval(6), inputs::ID, uid, buffer)
+    timer::timer_owned(a, 1000, PollInterval(6), inputs::ID, uid, buffer)
 }
 
 // So many calls, each on the record that the last one left with what it took put back; with `base` all but the calls.
@@ -22,12 +23,14 @@ fn run(a: Association, nts: bool, calls: u64, base: bool, cookie: &[u8], buffer:
     let mut number = 0;
     let mut left = calls;
     while 0 < left {
-        let tried = next.effort;
+        let mut state = next.state;
+        let tried = state.effort;
         let effort = untried(tried);
-        next.effort = effort;
+        state.effort = effort;
+        next.state = state;
         if nts {
             let held = next.stash;
-            let stash = held.store(cookie);
+            let stash = held.store(CAPACITY, cookie);
             next.stash = stash;
         }
         if !base {

@@ -9,16 +9,17 @@ use lib.Dec.{eqb}
 use Rattle.words.specs.Bytes.{zeros}
 use Rattle.cookiestash.specs.declared.Slot.{Slot}
 use Rattle.cookiestash.specs.declared.CookieStash.{CookieStash}
-use Rattle.cookiestash.specs.Stash.{stored, emptySlot, slotAt, wrap, inRange}
+use Rattle.cookiestash.specs.declared.Seen.{Seen}
+use Rattle.cookiestash.specs.Stash.{stored, emptySlot, slotAt, wrap, inRange, gapOf, getOf}
 use Rattle.cookiestash.specs.Queue.{walk}
 
 -- the bytes past the stored ones are zero
-unfoldable pub tidy : Slot → Bool
-tidy x = zeros (drop (stored (x .len)) (x .bytes))
+unfoldable pub padded : Slot → Bool
+padded x = zeros (drop (stored (x .len)) (x .bytes))
 
-abbrev pub allTidy : List Slot → Bool
-allTidy [] = true
-allTidy (x ∷ xs) = tidy x && allTidy xs
+abbrev pub allPadded : List Slot → Bool
+allPadded [] = true
+allPadded (x ∷ xs) = padded x && allPadded xs
 
 abbrev pub allFree : List Slot → Bool
 allFree [] = true
@@ -28,20 +29,33 @@ allFree (x ∷ xs) = eqb (x .len) 0 && allFree xs
 unfoldable pub freeSlots : ℕ → CookieStash → List Slot
 freeSlots cap s = walk cap (s .slots) (wrap cap (s .read + s .held)) (cap - s .held) ++ drop cap (s .slots)
 
--- the test: in range, tidy, and free slots have length 0
+-- the test: in range, padded, and free slots have length 0
 unfoldable pub wholeOf : ℕ → CookieStash → Bool
-wholeOf cap s = inRange cap s && (allTidy (s .slots) && allFree (freeSlots cap s))
+wholeOf cap s = inRange cap s && (allPadded (s .slots) && allFree (freeSlots cap s))
+
+-- what the rules read of a stash: whether it is whole; whether it has a cookie, the length of the oldest, and the gap, counted after the take; the place and the count
+abbrev pub seenOf : ℕ → CookieStash → Seen
+seenOf cap s =
+    record {
+      whole = wholeOf cap s;
+      found = getOf cap s .found;
+      len = getOf cap s .slot .len;
+      gap = gapOf cap (getOf cap s .stash);
+      read = s .read;
+      held = s .held;
+    }
 
 -- the statement, of a slot
 pub record WholeSlot (x : Slot) : Type 0 where
   pub short : x .len ≤ 65535
   pub sized : length (x .bytes) ≡ 724
-  pub tidied : drop (stored (x .len)) (x .bytes) ≡ replicate (724 - stored (x .len)) 0
+  pub padded : drop (stored (x .len)) (x .bytes) ≡ replicate (724 - stored (x .len)) 0
 
 -- and of a stash
 pub record Whole (cap : ℕ) (s : CookieStash) : Type 0 where
   pub reads : s .read < cap
-  pub holds : s .held ≤ cap
+  pub counts : s .held ≤ cap
+  pub most : cap ≤ 8
   pub room : cap ≤ length (s .slots)
   pub each : (k : ℕ) → k < length (s .slots) → WholeSlot (slotAt (s .slots) k)
   pub free : (k : ℕ) → s .held ≤ k → k < cap → slotAt (s .slots) (wrap cap (s .read + k)) ≡ emptySlot

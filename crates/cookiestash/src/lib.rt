@@ -1,28 +1,28 @@
-// The cookies that a client holds, given out oldest first, and the list in which cookies come (document 01, part 3).
+// The cookies that a client holds, given out oldest first (document 01, part 3).
+use cookielist::Entry;
 ghost use mathlib.Core.Path.{_≡_};
 ghost use mathlib.Core.Bool.{_&&_};
+ghost use mathlib.Core.List.{List};
 ghost use Prim.Native.Nat.{ℕ, _≤_, _<_};
 ghost use lib.Dec.{ltb, leb};
-ghost use lib.ListN.{length, getD};
+ghost use lib.ListN.{length, getD, drop};
 ghost use Rattle.words.specs.Bytes.{zeros};
+ghost use Rattle.cookiestash.specs.declared.Slot.{Slot};
 ghost use Rattle.cookiestash.specs.Stash.{stored, slotAt, slotOf, emptySlot, newOf, wrap, gapOf, putOf, storeOf, getOf};
-ghost use Rattle.cookiestash.specs.Whole.{tidy, allTidy, allFree, freeSlots, wholeOf};
-ghost use Rattle.cookiestash.specs.List.{entryAt, isWhole, cookiesIn, storeListOf};
+ghost use Rattle.cookiestash.specs.Whole.{padded, allPadded, allFree, freeSlots, wholeOf, seenOf};
+ghost use Rattle.cookiestash.specs.StoreList.{storeListOf};
 
-// How many bytes a slot has.
-pub const SLOT_BYTES: usize = 724;
+// How many bytes a slot has: those of the longest cookie that is kept.
+pub const SLOT_BYTES: usize = cookielist::MAX_COOKIE;
 
-// How many cookies a stash holds at most.
+// How many slots a stash has, and so the largest capacity.
 pub const MAX_COOKIES: usize = 8;
+
+// How many cookies a stash holds.
+pub const CAPACITY: u8 = 8;
 
 // The longest cookie that a slot's length can name.
 pub const MAX_LENGTH: usize = 65535;
-
-// The mark that every record of a cookie list starts with.
-pub const MARK: u16 = 0xC00E;
-
-// The bytes of a record before the cookie: the mark and the length.
-pub const HEAD_BYTES: usize = 4;
 
 // One cookie: its length, and its bytes from the start, with zeros behind. Of a cookie longer than a slot only the length is kept.
 pub struct Slot {
@@ -44,6 +44,16 @@ pub struct Taken {
     pub stash: CookieStash,
 }
 
+// What the rules read of a stash: whether it is whole; whether it has a cookie, how long the oldest is, and how many more there is room for once that is taken; its place and count.
+pub struct Seen {
+    pub whole: bool,
+    pub found: bool,
+    pub len: u16,
+    pub gap: u8,
+    pub read: usize,
+    pub held: usize,
+}
+
 // How many of a cookie's bytes a slot stores.
 fn stored_bytes(length: usize) -> usize
     ensures { λ r. ⌜ r ≡ stored length ⌝ }
@@ -52,25 +62,34 @@ fn stored_bytes(length: usize) -> usize
 }
 
 // The place after the last is the first.
-fn wrapped(place: usize) -> usize
-    ensures { λ r. ⌜ r ≡ wrap 8 place ⌝ }
+fn wrapped(cap: usize, place: usize) -> usize
+    ensures { λ r. ⌜ r ≡ wrap cap place ⌝ }
 {
-    if place < MAX_COOKIES {
-        place
-    } else {
-        place - MAX_COOKIES
-    }
+    if place < cap { place } else { place - cap }
 }
 
-// Whether a place and a count are those of a stash.
-fn in_range(read: usize, held: usize) -> bool
-    ensures { λ r. ⌜ r ≡ (ltb read 8 && leb held 8) ⌝ }
+// Whether a place and a count are those of a stash of a capacity, which has no more slots than there are.
+fn in_range(cap: usize, read: usize, held: usize) -> bool
+    ensures { λ r. ⌜ r ≡ (leb cap 8 && (ltb read cap && leb held cap)) ⌝ }
 {
-    if read < MAX_COOKIES {
-        held <= MAX_COOKIES
-    } else {
-        false
+    if MAX_COOKIES < cap {
+        return false;
     }
+    if read < cap { held <= cap } else { false }
+}
+
+// Whether the lengths from a place on are all zero.
+fn unused(lens: [u16; 8], from: usize) -> bool
+    ensures { λ r. ⌜ ((s : List Slot) → length s ≡ 8 → ((k : ℕ) → k < 8 → getD lens k 0 ≡ slotAt s k .len) → r ≡ allFree (drop from s)) ⌝ }
+{
+    let mut i = from;
+    while i < MAX_COOKIES {
+        if lens[i] != 0 {
+            return false;
+        }
+        i += 1;
+    }
+    true
 }
 
 impl Slot {
@@ -110,8 +129,8 @@ impl Slot {
     }
 
     // Whether the bytes past the stored ones are all zero. An empty slot is tested whole: where the bounds are known the compiler copies nothing.
-    fn tidy(self) -> bool
-        ensures { λ r. ⌜ r ≡ tidy self ⌝ }
+    fn padded(self) -> bool
+        ensures { λ r. ⌜ r ≡ padded self ⌝ }
     {
         let len = self.len as usize;
         if len == 0 {
@@ -135,41 +154,43 @@ impl CookieStash {
     }
 
     // A slot goes behind the newest; when all are held the oldest falls out.
-    fn put(mut self, slot: Slot) -> CookieStash
-        requires { ⌜ (self .read < 8) × (self .held ≤ 8) ⌝ }
-        ensures { λ r. ⌜ r ≡ putOf 8 self slot ⌝ }
+    fn put(mut self, cap: usize, slot: Slot) -> CookieStash
+        requires { ⌜ (cap ≤ 8) × (self .read < cap) × (self .held ≤ cap) ⌝ }
+        ensures { λ r. ⌜ r ≡ putOf cap self slot ⌝ }
     {
         let read = self.read;
         let held = self.held;
-        let at = wrapped(read + held);
+        let at = wrapped(cap, read + held);
         self.slots[at] = slot;
-        if held < MAX_COOKIES {
+        if held < cap {
             self.held = held + 1;
         } else {
-            self.read = wrapped(read + 1);
+            self.read = wrapped(cap, read + 1);
         }
         self
     }
 
     // A stash that is out of range, or a cookie whose length no slot can name, changes nothing.
-    pub fn store(self, cookie: &[u8]) -> CookieStash
-        ensures { λ r. ⌜ r ≡ storeOf 8 self (now (cookie .entry)) ⌝ }
+    pub fn store(self, capacity: u8, cookie: &[u8]) -> CookieStash
+        ensures { λ r. ⌜ r ≡ storeOf capacity self (now (cookie .entry)) ⌝ }
     {
-        if !in_range(self.read, self.held) || MAX_LENGTH < cookie.len() {
+        let cap = capacity as usize;
+        if !in_range(cap, self.read, self.held) || MAX_LENGTH < cookie.len() {
             return self;
         }
         let slot = Slot::filled(cookie);
-        self.put(slot)
+        self.put(cap, slot)
     }
 
     // The oldest cookie, whose slot is cleared.
-    pub fn get(mut self) -> Taken
-        ensures { λ r. ⌜ r ≡ getOf 8 self ⌝ }
+    pub fn get(mut self, capacity: u8) -> Taken
+        ensures { λ r. ⌜ r ≡ getOf capacity self ⌝ }
     {
+        let cap = capacity as usize;
         let read = self.read;
         let held = self.held;
         let blank = Slot::empty();
-        if !in_range(read, held) || held == 0 {
+        if !in_range(cap, read, held) || held == 0 {
             return Taken {
                 found: false,
                 slot: blank,
@@ -178,7 +199,7 @@ impl CookieStash {
         }
         let slot = self.slots[read];
         self.slots[read] = blank;
-        self.read = wrapped(read + 1);
+        self.read = wrapped(cap, read + 1);
         self.held = held - 1;
         Taken {
             found: true,
@@ -188,25 +209,22 @@ impl CookieStash {
     }
 
     // How many more cookies there is room for.
-    pub fn gap(self) -> u8
-        ensures { λ r. ⌜ r ≡ gapOf 8 self ⌝ }
+    pub fn gap(self, capacity: u8) -> u8
+        ensures { λ r. ⌜ r ≡ gapOf capacity self ⌝ }
     {
+        let cap = capacity as usize;
         let held = self.held;
-        if held < MAX_COOKIES {
-            (MAX_COOKIES - held) as u8
-        } else {
-            0
-        }
+        if held < cap { (cap - held) as u8 } else { 0 }
     }
 
     // Whether no slot has bytes past its stored ones.
-    fn tidied(self) -> bool
-        ensures { λ r. ⌜ r ≡ allTidy (self .slots) ⌝ }
+    fn all_padded(self) -> bool
+        ensures { λ r. ⌜ r ≡ allPadded (self .slots) ⌝ }
     {
         let mut i: usize = 0;
         while i < MAX_COOKIES {
             let slot = self.slots[i];
-            if !slot.tidy() {
+            if !slot.padded() {
                 return false;
             }
             i += 1;
@@ -229,103 +247,86 @@ impl CookieStash {
     }
 
     // Whether the slots that hold no cookie have length 0.
-    fn freed(self) -> bool
-        requires { ⌜ (self .read < 8) × (self .held ≤ 8) ⌝ }
-        ensures { λ r. ⌜ r ≡ allFree (freeSlots 8 self) ⌝ }
+    fn freed(self, cap: usize) -> bool
+        requires { ⌜ (cap ≤ 8) × (self .read < cap) × (self .held ≤ cap) ⌝ }
+        ensures { λ r. ⌜ r ≡ allFree (freeSlots cap self) ⌝ }
     {
         let lens = self.lengths();
+        if !unused(lens, cap) {
+            return false;
+        }
         let mut n = self.held;
-        let mut at = wrapped(self.read + self.held);
-        while n < MAX_COOKIES {
+        let mut at = wrapped(cap, self.read + self.held);
+        while n < cap {
             if lens[at] != 0 {
                 return false;
             }
-            at = wrapped(at + 1);
+            at = wrapped(cap, at + 1);
             n += 1;
         }
         true
     }
 
     // Whether the place and the count are in range, free slots have length 0, and bytes past the stored ones are zero.
-    pub fn whole(self) -> bool
-        ensures { λ r. ⌜ r ≡ wholeOf 8 self ⌝ }
+    pub fn whole(self, capacity: u8) -> bool
+        ensures { λ r. ⌜ r ≡ wholeOf capacity self ⌝ }
     {
-        if !in_range(self.read, self.held) || !self.tidied() {
+        let cap = capacity as usize;
+        if !in_range(cap, self.read, self.held) || !self.all_padded() {
             return false;
         }
-        self.freed()
+        self.freed(cap)
     }
 }
 
-// What stands at an offset of a cookie list: a cookie, whose bytes are those from start and before end; nothing more; or neither.
-pub enum Entry {
-    Cookie { start: usize, end: usize },
-    End,
-    Broken,
-}
-
-// Past the bytes, and where no whole record stands, the list is broken.
-pub fn entry_at(list: &[u8], at: usize) -> Entry
-    ensures { λ r. ⌜ r ≡ entryAt (now (list .entry)) at ⌝ }
-{
-    if list.len() < at {
-        return Entry::Broken;
-    }
-    let rest = list.len() - at;
-    if rest == 0 {
-        return Entry::End;
-    }
-    if rest < HEAD_BYTES {
-        return Entry::Broken;
-    }
-    if words::be16_at(list, at) != MARK {
-        return Entry::Broken;
-    }
-    let len = words::be16_at(list, at + 2) as usize;
-    if rest - HEAD_BYTES < len {
-        return Entry::Broken;
-    }
-    let start = at + HEAD_BYTES;
-    Entry::Cookie {
-        start,
-        end: start + len,
-    }
-}
-
-// Whether a list of bytes is a cookie list.
-pub fn list_whole(list: &[u8]) -> bool
-    ensures { λ r. ⌜ r ≡ isWhole (cookiesIn (now (list .entry))) ⌝ }
-{
-    let mut at: usize = 0;
-    loop {
-        match entry_at(list, at) {
-            Entry::Cookie { start: _, end } => {
-                at = end;
-            }
-            Entry::End => {
-                return true;
-            }
-            Entry::Broken => {
-                return false;
-            }
+impl CookieStash {
+    // What the rules read of a stash. The oldest cookie's length is looked up among the lengths: no slot is taken, and none cleared.
+    pub fn seen(self, capacity: u8) -> Seen
+        ensures { λ r. ⌜ r ≡ seenOf capacity self ⌝ }
+    {
+        let cap = capacity as usize;
+        let read = self.read;
+        let held = self.held;
+        let whole = self.whole(capacity);
+        if !in_range(cap, read, held) || held == 0 {
+            let gap = self.gap(capacity);
+            return Seen {
+                whole,
+                found: false,
+                len: 0,
+                gap,
+                read,
+                held,
+            };
+        }
+        let lens = self.lengths();
+        let len = lens[read];
+        let gap = (cap - (held - 1)) as u8;
+        Seen {
+            whole,
+            found: true,
+            len,
+            gap,
+            read,
+            held,
         }
     }
 }
 
 impl CookieStash {
     // Stores the cookies of a list in order; of a broken list it stores nothing.
-    pub fn store_list(mut self, list: &[u8]) -> CookieStash
-        ensures { λ r. ⌜ r ≡ storeListOf 8 self (now (list .entry)) ⌝ }
+    pub fn store_list(mut self, capacity: u8, list: &[u8]) -> CookieStash
+        ensures { λ r. ⌜ r ≡ storeListOf capacity self (now (list .entry)) ⌝ }
     {
-        if !list_whole(list) {
+        if !cookielist::list_whole(list) {
             return self;
         }
         let mut at: usize = 0;
         loop {
-            let Entry::Cookie { start, end } = entry_at(list, at) else {
+            let Entry::Cookie { start, end } = cookielist::entry_at(list, at) else {
                 return self;
             };
-            self = self.store(&list[start..end]);
+            self = self.store(capacity, &list[start..end]);
             at = end;
         }
     }

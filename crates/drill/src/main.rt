@@ -1,22 +1,50 @@
 // Replays a log against the association and answers each of its lines.
-mod calls;
-mod keys;
-mod polls;
-mod print;
-mod record;
-mod replies;
-mod requests;
-mod text;
-mod value;
-
 use association::Association;
+use drill_calls::Ran;
+use drill_calls::calls;
+use drill_calls::polls;
+use drill_calls::record;
+use drill_calls::replies;
+use drill_calls::requests;
+use drill_text::print;
+use drill_text::text;
+use drill_text::text::Found;
 use libc::STDIN_FILENO;
 use libc::STDOUT_FILENO;
 
-// What a line's run leaves: the association, and where its answer ends in the buffer.
-pub struct Ran {
-    pub association: Association,
-    pub end: usize,
+// How many bytes a line and an answer may have.
+const MAX_LINE: usize = 32768;
+
+const MAX_ANSWER: usize = 16384;
+
+// The first argument that names a log; before it stands the program's own name.
+const FIRST_LOG: usize = 1;
+
+// The commands, by their places in their table.
+mod command {
+    pub const NEW: usize = 0;
+
+    pub const TIMER: usize = 1;
+
+    pub const REPLY: usize = 2;
+
+    pub const REPLY5: usize = 3;
+
+    pub const ACCEPT: usize = 4;
+
+    pub const COLLECT: usize = 5;
+
+    pub const SHOW: usize = 6;
+
+    pub const COOKIES: usize = 7;
+
+    pub const BLANK: usize = 8;
+
+    pub const POKE: usize = 9;
+
+    pub const REQUEST: usize = 10;
+
+    pub const UNKNOWN: usize = 11;
 }
 
 // A log as far as it is read: the association, the number of the line, how many bytes of it are there, whether it is too long,
@@ -43,27 +71,30 @@ fn start() -> Log {
 }
 
 // Which command a line's word is.
-fn command(word: &[u8]) -> usize {
-    text::index_of(
+fn command_of(word: &[u8]) -> usize {
+    match text::index_of(
         b"new timer reply reply5 accept collect show cookies blank poke request",
         word,
-    )
+    ) {
+        Found::At(i) => i,
+        Found::Nowhere => command::UNKNOWN,
+    }
 }
 
 fn answer(a: Association, line: &[u8], number: u64, out: &mut [u8]) -> Ran {
     let word = text::part(line, 0, text::find(line, 0, b' ', b' '));
-    match command(word) {
-        0 => calls::new(a, line, number, out),
-        1 => polls::timer(a, line, number, out),
-        2 => replies::reply(a, line, number, out),
-        3 => replies::reply5(a, line, number, out),
-        4 => calls::accept(a, line, number, out),
-        5 => calls::collect(a, line, number, out),
-        6 => record::show(a, line, number, out),
-        7 => record::cookies(a, line, number, out),
-        8 => record::blank(a, line, number, out),
-        9 => record::poke(a, line, number, out),
-        10 => requests::request(a, line, number, out),
+    match command_of(word) {
+        command::NEW => calls::new(a, line, number, out),
+        command::TIMER => polls::timer(a, line, number, out),
+        command::REPLY => replies::reply(a, line, number, out),
+        command::REPLY5 => replies::reply5(a, line, number, out),
+        command::ACCEPT => calls::accept(a, line, number, out),
+        command::COLLECT => calls::collect(a, line, number, out),
+        command::SHOW => record::show(a, line, number, out),
+        command::COOKIES => record::cookies(a, line, number, out),
+        command::BLANK => record::blank(a, line, number, out),
+        command::POKE => record::poke(a, line, number, out),
+        command::REQUEST => requests::request(a, line, number, out),
         _ => {
             let end = print::error(out, number, b"unknown command", b"");
             Ran {
@@ -227,7 +258,7 @@ fn replay_argument(i: usize, line: &mut [u8], out: &mut [u8]) {
 }
 
 fn replay_arguments(count: usize, line: &mut [u8], out: &mut [u8]) {
-    let mut i = 1;
+    let mut i = FIRST_LOG;
     while i < count {
         replay_argument(i, line, out);
         i += 1;
@@ -236,10 +267,10 @@ fn replay_arguments(count: usize, line: &mut [u8], out: &mut [u8]) {
 
 // With no arguments the log is the standard input; else each argument names a log.
 fn main() {
-    let mut line = [0u8; 32768];
-    let mut out = [0u8; 16384];
+    let mut line = [0u8; MAX_LINE];
+    let mut out = [0u8; MAX_ANSWER];
     let count = os::arg_count();
-    if count < 2 {
+    if count <= FIRST_LOG {
         replay(STDIN_FILENO, &mut line, &mut out);
         return;
     }

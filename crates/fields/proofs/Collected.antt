@@ -11,10 +11,10 @@ use lib.ListN.{length, take, drop}
 use lib.Seq.{take-at, drop-at}
 use Rattle.words.specs.Bytes.{part}
 use Rattle.words.proofs.Bytes.{Bytes, length-part}
-use Rattle.cookiestash.specs.Queue.{AllShort}
-use Rattle.cookiestash.specs.List.{cookiesIn, whole}
-use Rattle.cookiestash.proofs.RoundTrip.{list-read}
-use Rattle.fields.specs.Walk.{walkOf, plainWalk, whole as unbroken, fieldsOf, bodiesOf}
+use Rattle.cookielist.specs.List.{AllShort}
+use Rattle.cookielist.specs.List.{cookiesIn, whole}
+use Rattle.cookielist.proofs.RoundTrip.{list-read}
+use Rattle.fields.specs.Walk.{walkOf, decryptedWalk, whole as unbroken, fieldsOf, bodiesOf}
 use Rattle.fields.specs.Collector.{cookieKind, cookiesOf, listIn, collectOf, leftIn, bufferOf, numberOf}
 use Rattle.fields.specs.declared.collector.Collected.{Collected}
 use Rattle.fields.specs.declared.collector.Collected.the-variants.{Done, Broken, TooLong}
@@ -51,7 +51,7 @@ done-length false u n m e = let z : _≡_ {A = ℕ} 0 1 = cc in absurd (omega ar
 pub done-buffer : (p out : List ℕ) (n : ℕ) → collectOf p (length out) ≡ Done n → (take n (bufferOf p out) ≡ listIn p) × (drop n (bufferOf p out) ≡ drop n out)
 unfolding bufferOf collectOf
 done-buffer p out n e =
-    let m : length (listIn p) ≡ n = done-length (unbroken (plainWalk p)) (leb (length (listIn p)) (length out)) (length (listIn p)) n e in
+    let m : length (listIn p) ≡ n = done-length (unbroken (decryptedWalk p)) (leb (length (listIn p)) (length out)) (length (listIn p)) n e in
     let b : bufferOf p out ≡ listIn p ++ drop n out = ap (leftIn (listIn p) out) e in
     (rw b (take-at (listIn p) (drop n out) n m), rw b (drop-at (listIn p) (drop n out) n m))
 

@@ -3,18 +3,17 @@
 use mathlib.Core.Path.{_≡_, refl, sym, _∙_, ap}
 use mathlib.Core.Bool.{Bool, true, false, cond}
 use mathlib.Core.List.{List, [], _∷_, _++_, append-assoc, append-nil}
-use Prim.Native.Nat.{ℕ, suc, _+_, _-_, _/_, _%_, _≤_, _<_}
+use Prim.Native.Nat.{ℕ, suc, _+_, _-_, _≤_, _<_}
 use native.Mathlib.Omega.{arith}
-use native.Mathlib.Nat.{div-one}
 use lib.Dec.{eqb, lit≤}
-use lib.ListN.{length, take, drop, set, length-append, length-take, length-drop, drop-of-length-le}
+use lib.ListN.{length, getD, take, drop, set, length-append, length-take, length-drop, drop-of-length-le}
 use lib.Seq.{take-add, length-take-le, sets-eq, take-at, drop-at, take-all, take-length, drop-drop}
 use borrow.Author.Tests.{eq-eqb, ne-eqb}
 use borrow.Rule.Slice.PartMut.{putMid}
-use Rattle.words.specs.Bytes.{part}
+use Rattle.words.specs.Bytes.{part, toBe}
 use Rattle.words.proofs.Bytes.{Bytes, bytes-part, length-part, be-below}
-use Rattle.cookiestash.specs.List.{recordOf, listOf}
-use Rattle.fields.specs.Field.{lengthAt, plainStep}
+use Rattle.cookielist.specs.List.{recordOf, listOf}
+use Rattle.fields.specs.Field.{lengthAt, decryptedStep}
 use Rattle.fields.specs.Walk.{walkOf, fieldsOf, bodiesOf}
 use Rattle.fields.specs.Collector.{cookieKind, listIn}
 use Rattle.fields.specs.declared.Step.{Step}
@@ -34,7 +33,7 @@ listed : (t : Bool) (b : List ℕ) (bs : List (List ℕ)) → listOf (cond t (b 
 listed true b bs = refl
 listed false b bs = refl
 
-module _ (p : List ℕ) (at kind start len next : ℕ) (e : plainStep p at ≡ Field kind start len next) where
+module _ (p : List ℕ) (at kind start len next : ℕ) (e : decryptedStep p at ≡ Field kind start len next) where
   pub here : Placed p at 4 start len next
   here = placed p at 4 0 (lit≤ tt) kind start len next e
 
@@ -56,7 +55,7 @@ module _ (p : List ℕ) (at kind start len next : ℕ) (e : plainStep p at ≡ F
   length-record = omega (arith, length-body)
 
 -- an answer that is no field ends the list
-pub stop-turn : (p : List ℕ) (at : ℕ) (s : Step) → plainStep p at ≡ s → NoField s → listFrom p at ≡ []
+pub stop-turn : (p : List ℕ) (at : ℕ) (s : Step) → decryptedStep p at ≡ s → NoField s → listFrom p at ≡ []
 unfolding listFrom
 stop-turn p at s e n =
     rw (walk-turn p at 4 0 (lit≤ tt), e) (ap (λ fs. listOf (bodiesOf cookieKind p fs)) (no-fields (λ next. walkOf p next 4 0) at s n))
@@ -71,12 +70,16 @@ body-short p bytes at least start len next w =
 
 -- ---- a record written by four stores and a copy
 
-module _ (out body : List ℕ) (to : ℕ) (fits : to + 4 + length body ≤ length out) (small : length body < 65536) where
+pub put-long : (out body : List ℕ) (to : ℕ) → to + 4 + length body ≤ length out → length (take to out ++ recordOf body ++ drop (to + 4 + length body) out) ≡ length out
+unfolding recordOf
+put-long out body to fits = simp (length-append, length-take, length-drop) (omega arith)
+
+module _ (out body mark size : List ℕ) (to : ℕ) (fits : to + 4 + length body ≤ length out) (marked : mark ≡ toBe 2 0xC00E) (sized : size ≡ toBe 2 (length body)) where
   abbrev four : List ℕ
-  four = 0xC0 ∷ 0x0E ∷ length body / 256 ∷ length body % 256 ∷ []
+  four = getD mark 0 0 ∷ getD mark 1 0 ∷ getD size 0 0 ∷ getD size 1 0 ∷ []
 
   abbrev stored : List ℕ
-  stored = set (set (set (set out to 0xC0) (to + 1) 0x0E) (to + 2) (length body / 256)) (to + 3) (length body % 256)
+  stored = set (set (set (set out to (getD mark 0 0)) (to + 1) (getD mark 1 0)) (to + 2) (getD size 0 0)) (to + 3) (getD size 1 0)
 
   head : List ℕ
   head = take to out ++ four
@@ -95,7 +98,7 @@ module _ (out body : List ℕ) (to : ℕ) (fits : to + 4 + length body ≤ lengt
 
   header-is : four ++ body ≡ recordOf body
   unfolding recordOf
-  header-is = let a : length body / 256 % 256 ≡ length body / 256 = omega arith in simp (a, div-one)
+  header-is = rw (marked, sized)
 
   joins : (b r : List ℕ) → head ++ ((b ++ r) ++ []) ≡ take to out ++ (four ++ b) ++ r
   unfolding head
@@ -110,10 +113,6 @@ module _ (out body : List ℕ) (to : ℕ) (fits : to + 4 + length body ≤ lengt
       let a : take (length stored - (to + 4)) (drop (to + 4) stored) ≡ drop (to + 4) stored = take-all (length stored - (to + 4)) (drop (to + 4) stored) (simp length-drop (omega arith)) in
       let y : ys ≡ body ++ drop (to + 4 + length body) out = e ∙ rw (a, d, take-length, drop-drop) in
       rw (k, t, y, ← header-is) (joins body (drop (to + 4 + length body) out))
-
-  pub put-long : length (take to out ++ recordOf body ++ drop (to + 4 + length body) out) ≡ length out
-  unfolding recordOf
-  put-long = simp (length-append, length-take, length-drop) (omega arith)
 
 -- ---- the list L, whose first elements are in the buffer, goes on with a record R
 
@@ -141,7 +140,7 @@ pub record Along (p out₀ out : List ℕ) (at to : ℕ) : Type 0 where
   pub long : length out ≡ length out₀
 
 -- a turn at a field
-module _ (p out₀ out : List ℕ) (at to kind start len next : ℕ) (i : Along p out₀ out at to) (e : plainStep p at ≡ Field kind start len next) where
+module _ (p out₀ out : List ℕ) (at to kind start len next : ℕ) (i : Along p out₀ out at to) (e : decryptedStep p at ≡ Field kind start len next) where
   pub pass : (kind ≡ cookieKind → ⊥) → Along p out₀ out next to
   pass q = record { upto = i .upto; left = i .left ∙ other-turn p at kind start len next e q; buffer = i .buffer; long = i .long }
 

@@ -11,7 +11,7 @@ use lib.Dec.{leb, eqb, lit≤}
 use lib.ListN.{length}
 use borrow.Author.Tests.{eq-eqb, eqb-true, lt-ltb, le-ltb, le-leb, leb-true, leb-false}
 use Rattle.words.proofs.Tests.{both}
-use Rattle.fields.specs.Walk.{Found, Walk, field, ends, broken, onStep, walkOf, packetWalk, plainWalk, walkedOf, whole, placeIn, isPlace, fieldsOf, between}
+use Rattle.fields.specs.Walk.{Found, Walk, field, ends, broken, onStep, walkOf, packetWalk, decryptedWalk, walkedOf, whole, placeIn, isPlace, fieldsOf, between}
 use Rattle.fields.specs.Sound.{One, InLine, Sound, Place}
 use Rattle.fields.specs.declared.Step.{Step}
 use Rattle.fields.specs.declared.Step.the-variants.{Field, End, Broken}
@@ -66,8 +66,8 @@ pub packet-sound : (p : List ℕ) (end : ℕ) → walkedOf (packetWalk p) ≡ W.
 packet-sound p end e = walk-sound p 16 24 (lit≤ tt) 48 end e
 
 -- decrypted fields fill their bytes
-pub plain-sound : (p : List ℕ) (end : ℕ) → walkedOf (plainWalk p) ≡ W.Ends end → Sound p 0 4 0 (length p) (fieldsOf (plainWalk p))
-plain-sound p end e =
+pub decrypted-sound : (p : List ℕ) (end : ℕ) → walkedOf (decryptedWalk p) ≡ W.Ends end → Sound p 0 4 0 (length p) (fieldsOf (decryptedWalk p))
+decrypted-sound p end e =
     let s = walk-sound p 4 0 (lit≤ tt) 0 end e in
     let q : end ≡ length p = omega (arith, s .within, s .left) in
     rw q at s

@@ -5,8 +5,8 @@ use mathlib.Core.List.{List, _++_}
 use mathlib.Core.Bool.{cond}
 use lib.ListN.{length, drop}
 use lib.Dec.{leb}
-use Rattle.cookiestash.specs.List.{listOf}
-use Rattle.fields.specs.Walk.{plainWalk, whole, fieldsOf, bodiesOf}
+use Rattle.cookielist.specs.List.{listOf}
+use Rattle.fields.specs.Walk.{decryptedWalk, whole, fieldsOf, bodiesOf}
 use Rattle.fields.specs.declared.collector.Collected.{Collected}
 use Rattle.fields.specs.declared.collector.Collected.the-variants.{Done, Broken, TooLong}
 
@@ -16,14 +16,14 @@ cookieKind = 0x0204
 
 -- the cookies: whole bodies, padding counted
 abbrev pub cookiesOf : List ℕ → List (List ℕ)
-cookiesOf p = bodiesOf cookieKind p (fieldsOf (plainWalk p))
+cookiesOf p = bodiesOf cookieKind p (fieldsOf (decryptedWalk p))
 
 unfoldable pub listIn : List ℕ → List ℕ
 listIn p = listOf (cookiesOf p)
 
 -- refused for broken fields, then for a list longer than the buffer; else the list's length
 unfoldable pub collectOf : List ℕ → ℕ → Collected
-collectOf p room = cond (whole (plainWalk p)) (cond (leb (length (listIn p)) room) (Done (length (listIn p))) TooLong) Broken
+collectOf p room = cond (whole (decryptedWalk p)) (cond (leb (length (listIn p)) room) (Done (length (listIn p))) TooLong) Broken
 
 -- the list from the start on and the bytes past it untouched, or nothing written
 abbrev pub leftIn : List ℕ → List ℕ → Collected → List ℕ

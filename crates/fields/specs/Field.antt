@@ -1,7 +1,7 @@
 -- What stands at an offset of a run of extension fields (document 01, part 7; RFC 7822, section 3).
 -- Assumes nothing.
 use Prim.Native.Nat.{ℕ, _+_, _-_, _%_}
-use mathlib.Core.List.{List, []}
+use mathlib.Core.List.{List}
 use mathlib.Core.Bool.{Bool, _&&_, cond}
 use lib.ListN.{length}
 use lib.Dec.{ltb, leb, eqb}
@@ -34,9 +34,5 @@ abbrev pub packetStep : List ℕ → ℕ → Step
 packetStep p at = stepAt p at 16 24
 
 -- decrypted fields: at least 4, and no tail
-abbrev pub plainStep : List ℕ → ℕ → Step
-plainStep p at = stepAt p at 4 0
-
--- the len bytes from start on, or none where they run past the end
-unfoldable pub bodyOf : List ℕ → ℕ → ℕ → List ℕ
-bodyOf p start len = cond (leb start (length p) && leb len (length p - start)) (part p start len) []
+abbrev pub decryptedStep : List ℕ → ℕ → Step
+decryptedStep p at = stepAt p at 4 0

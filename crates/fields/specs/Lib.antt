@@ -3,5 +3,4 @@ pub mod Field
 pub mod Walk
 pub mod Matching
 pub mod Sound
-pub mod Walker
 pub mod Collector

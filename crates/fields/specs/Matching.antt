@@ -4,7 +4,7 @@ use Prim.Native.Nat.{ℕ}
 use mathlib.Core.List.{List, [], _∷_}
 use mathlib.Core.Bool.{Bool, true, false, not, _&&_, _||_, cond}
 use lib.Dec.{eqb}
-use Rattle.fields.specs.Walk.{packetWalk, plainWalk, fieldsOf, between, bodiesOf}
+use Rattle.fields.specs.Walk.{packetWalk, decryptedWalk, fieldsOf, between, bodiesOf}
 use Rattle.fields.specs.declared.matching.Uid.{Uid}
 use Rattle.fields.specs.declared.matching.Uid.the-variants.{Absent, Agree, Disagree}
 
@@ -32,8 +32,8 @@ unfoldable pub packetUid : List ℕ → ℕ → ℕ → List ℕ → Uid
 packetUid p from to u = uidOf u (bodiesOf uidKind p (between from to (fieldsOf (packetWalk p))))
 
 -- all decrypted fields
-unfoldable pub plainUid : List ℕ → List ℕ → Uid
-plainUid p u = uidOf u (bodiesOf uidKind p (fieldsOf (plainWalk p)))
+unfoldable pub decryptedUid : List ℕ → List ℕ → Uid
+decryptedUid p u = uidOf u (bodiesOf uidKind p (fieldsOf (decryptedWalk p)))
 
 abbrev pub disagrees : Uid → Bool
 disagrees Absent = false

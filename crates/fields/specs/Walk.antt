@@ -45,8 +45,8 @@ abbrev pub packetWalk : List ℕ → Walk
 packetWalk p = walkOf p 48 16 24
 
 -- that over decrypted fields starts at their first byte
-abbrev pub plainWalk : List ℕ → Walk
-plainWalk p = walkOf p 0 4 0
+abbrev pub decryptedWalk : List ℕ → Walk
+decryptedWalk p = walkOf p 0 4 0
 
 -- where a walk ends, or that it is broken
 abbrev pub walkedOf : Walk → Walked

@@ -3,13 +3,12 @@ ghost use mathlib.Core.Path.{_≡_};
 ghost use mathlib.Core.List.{_++_};
 ghost use Prim.Native.Nat.{_+_, _≤_, _<_};
 ghost use lib.ListN.{length, take, drop};
-ghost use Rattle.cookiestash.specs.List.{recordOf};
+ghost use Rattle.cookielist.specs.List.{recordOf};
 ghost use Rattle.fields.specs.Collector.{listIn, collectOf, bufferOf, numberOf};
 use crate::Step;
 use crate::Walked;
-
-// The type of a field that carries a cookie.
-const COOKIE: u16 = 0x0204;
+use cookielist::HEAD_BYTES;
+use cookielist::RECORD_MARK;
 
 // The list's length where it is in the buffer, or why nothing was written.
 pub enum Collected {
@@ -31,8 +30,8 @@ impl Collected {
 }
 
 // How long the list is.
-fn list_length(plain: &[u8]) -> usize
-    ensures { λ r. ⌜ r ≡ length (listIn (now (plain .entry))) ⌝ }
+fn list_length(decrypted: &[u8]) -> usize
+    ensures { λ r. ⌜ r ≡ length (listIn (now (decrypted .entry))) ⌝ }
 {
     let mut at = 0;
     let mut n = 0;
@@ -42,12 +41,12 @@ fn list_length(plain: &[u8]) -> usize
             start: _,
             len,
             next,
-        } = crate::plain_field_at(plain, at)
+        } = crate::decrypted_field_at(decrypted, at)
         else {
             return n;
         };
-        if kind == COOKIE {
-            n = n + 4 + len;
+        if kind == crate::COOKIE_KIND {
+            n = n + HEAD_BYTES + len;
         }
         at = next;
     }
@@ -59,23 +58,25 @@ fn put_record(out: &mut [u8], to: usize, body: &[u8]) -> usize
     ensures { λ r. ⌜ (r ≡ to + 4 + length (now (body .entry))) × (now (out .exit) ≡ take to (now (out .entry)) ++ recordOf (now (body .entry)) ++ drop (to + 4 + length (now (body .entry))) (now (out .entry))) ⌝ }
 {
     let n = body.len();
-    out[to] = 0xC0;
-    out[to + 1] = 0x0E;
-    out[to + 2] = (n / 256) as u8;
-    out[to + 3] = (n % 256) as u8;
-    let from = to + 4;
+    let mark = words::be16_bytes(RECORD_MARK);
+    let len = words::be16_bytes(n as u16);
+    out[to] = mark[0];
+    out[to + 1] = mark[1];
+    out[to + 2] = len[0];
+    out[to + 3] = len[1];
+    let from = to + HEAD_BYTES;
     bytes::copy(body, &mut out[from..]);
     from + n
 }
 
 // Writes the list of the cookies from the buffer's start on; broken fields are refused first, then a list longer than the buffer.
-pub fn collect(plain: &[u8], out: &mut [u8]) -> Collected
-    ensures { λ r. ⌜ (r ≡ collectOf (now (plain .entry)) (length (now (out .entry)))) × (now (out .exit) ≡ bufferOf (now (plain .entry)) (now (out .entry))) ⌝ }
+pub fn collect(decrypted: &[u8], out: &mut [u8]) -> Collected
+    ensures { λ r. ⌜ (r ≡ collectOf (now (decrypted .entry)) (length (now (out .entry)))) × (now (out .exit) ≡ bufferOf (now (decrypted .entry)) (now (out .entry))) ⌝ }
 {
-    let Walked::Ends(_) = crate::plain_walk(plain) else {
+    let Walked::Ends(_) = crate::decrypted_walk(decrypted) else {
         return Collected::Broken;
     };
-    if out.len() < list_length(plain) {
+    if out.len() < list_length(decrypted) {
         return Collected::TooLong;
     }
     let mut at = 0;
@@ -86,13 +87,13 @@ pub fn collect(plain: &[u8], out: &mut [u8]) -> Collected
             start,
             len,
             next,
-        } = crate::plain_field_at(plain, at)
+        } = crate::decrypted_field_at(decrypted, at)
         else {
             return Collected::Done(to);
         };
-        if kind == COOKIE {
+        if kind == crate::COOKIE_KIND {
             let end = start + len;
-            to = put_record(out, to, &plain[start..end]);
+            to = put_record(out, to, &decrypted[start..end]);
         }
         at = next;
     }

@@ -1,15 +1,18 @@
 // Extension fields (RFC 7822): what stands at an offset, the walk over them, and its places.
+use header::HEADER_BYTES;
 ghost use mathlib.Core.Path.{_≡_};
 ghost use Prim.Native.Nat.{_≤_};
-ghost use Rattle.fields.specs.Field.{stepAt, packetStep, plainStep};
-ghost use Rattle.fields.specs.Walk.{broken, onStep, walkOf, packetWalk, plainWalk, walkedOf, isPlace};
+ghost use Rattle.fields.specs.Field.{stepAt, packetStep, decryptedStep};
+ghost use Rattle.fields.specs.Walk.{broken, onStep, walkOf, packetWalk, decryptedWalk, walkedOf, isPlace};
 
 pub mod collector;
 pub mod matching;
-pub mod walker;
 
-// A packet's fields start behind its header.
-const HEADER: usize = 48;
+// The type of a field that carries the unique identifier.
+pub const UID_KIND: u16 = 0x0104;
+
+// The type of a field that carries a cookie.
+pub const COOKIE_KIND: u16 = 0x0204;
 
 // The length that a field of a packet has at least, and that a tail has at most.
 const PACKET_LEAST: usize = 16;
@@ -17,9 +20,9 @@ const PACKET_LEAST: usize = 16;
 const PACKET_TAIL: usize = 24;
 
 // Decrypted fields have a head at least, and no tail.
-const PLAIN_LEAST: usize = 4;
+const DECRYPTED_LEAST: usize = 4;
 
-const PLAIN_TAIL: usize = 0;
+const DECRYPTED_TAIL: usize = 0;
 
 // What stands at an offset: a field, whose body is `len` bytes from `start` and which ends at `next`; the end of the walk; or neither.
 pub enum Step {
@@ -75,10 +78,10 @@ pub fn packet_field_at(p: &[u8], at: usize) -> Step
 }
 
 // What stands at an offset of decrypted fields.
-pub fn plain_field_at(p: &[u8], at: usize) -> Step
-    ensures { λ r. ⌜ r ≡ plainStep (now (p .entry)) at ⌝ }
+pub fn decrypted_field_at(p: &[u8], at: usize) -> Step
+    ensures { λ r. ⌜ r ≡ decryptedStep (now (p .entry)) at ⌝ }
 {
-    field_at(p, at, PLAIN_LEAST, PLAIN_TAIL)
+    field_at(p, at, DECRYPTED_LEAST, DECRYPTED_TAIL)
 }
 
 // Where a walk ends, or that it is broken.
@@ -128,14 +131,14 @@ fn walk_from(p: &[u8], first: usize, least: usize, tail: usize) -> Walked
 pub fn packet_walk(p: &[u8]) -> Walked
     ensures { λ r. ⌜ r ≡ walkedOf (packetWalk (now (p .entry))) ⌝ }
 {
-    walk_from(p, HEADER, PACKET_LEAST, PACKET_TAIL)
+    walk_from(p, HEADER_BYTES, PACKET_LEAST, PACKET_TAIL)
 }
 
 // The walk over decrypted fields.
-pub fn plain_walk(p: &[u8]) -> Walked
-    ensures { λ r. ⌜ r ≡ walkedOf (plainWalk (now (p .entry))) ⌝ }
+pub fn decrypted_walk(p: &[u8]) -> Walked
+    ensures { λ r. ⌜ r ≡ walkedOf (decryptedWalk (now (p .entry))) ⌝ }
 {
-    walk_from(p, 0, PLAIN_LEAST, PLAIN_TAIL)
+    walk_from(p, 0, DECRYPTED_LEAST, DECRYPTED_TAIL)
 }
 
 // Whether `end` is the packet's first place, a place where a field starts, or the place where the walk ends; a broken walk has none.
@@ -145,7 +148,7 @@ pub fn is_place(p: &[u8], end: usize) -> bool
     let Walked::Ends(_) = packet_walk(p) else {
         return false;
     };
-    let mut at = HEADER;
+    let mut at = HEADER_BYTES;
     while at != end {
         let Step::Field {
             kind: _,

@@ -4,11 +4,8 @@ ghost use mathlib.Core.Bool.{_&&_, cond};
 ghost use Prim.Native.Nat.{_≤_};
 ghost use lib.Dec.{ltb, leb, eqb};
 ghost use Rattle.fields.specs.Walk.{walkOf, fieldsOf, between, bodiesOf};
-ghost use Rattle.fields.specs.Matching.{uidKind, startsWith, uidOf, packetUid, plainUid, agrees, joined, uidMatches};
+ghost use Rattle.fields.specs.Matching.{uidKind, startsWith, uidOf, packetUid, decryptedUid, agrees, joined, uidMatches};
 use crate::Step;
-
-// The type of a field that carries the unique identifier.
-const UID: u16 = 0x0104;
 
 // A group of fields has no identifier, only ones that agree with the one asked for, or one that does not.
 pub enum Uid {
@@ -43,7 +40,7 @@ fn counts(kind: u16, at: usize, from: usize, to: usize) -> bool
     if to <= at {
         return false;
     }
-    kind == UID
+    kind == crate::UID_KIND
 }
 
 // What the uid fields that start at `from` or later and before `to` say, of the walk from `first` on.
@@ -88,7 +85,7 @@ pub fn packet_uid(p: &[u8], from: usize, to: usize, uid: [u8; 32]) -> Uid
 {
     uid_among(
         p,
-        crate::HEADER,
+        header::HEADER_BYTES,
         crate::PACKET_LEAST,
         crate::PACKET_TAIL,
         from,
@@ -98,10 +95,18 @@ pub fn packet_uid(p: &[u8], from: usize, to: usize, uid: [u8; 32]) -> Uid
 }
 
 // What decrypted fields say, all of them.
-pub fn plain_uid(p: &[u8], uid: [u8; 32]) -> Uid
-    ensures { λ r. ⌜ r ≡ plainUid (now (p .entry)) uid ⌝ }
+pub fn decrypted_uid(p: &[u8], uid: [u8; 32]) -> Uid
+    ensures { λ r. ⌜ r ≡ decryptedUid (now (p .entry)) uid ⌝ }
 {
-    uid_among(p, 0, crate::PLAIN_LEAST, crate::PLAIN_TAIL, 0, p.len(), uid)
+    uid_among(
+        p,
+        0,
+        crate::DECRYPTED_LEAST,
+        crate::DECRYPTED_TAIL,
+        0,
+        p.len(),
+        uid,
+    )
 }
 
 fn agrees(group: Uid) -> bool

@@ -13,10 +13,10 @@ pub record Fit (h : Header) : Type 0 where
   pub stratum : h .stratum < 2 ^ 8
   pub poll : SFits w8 (h .poll .0)
   pub precision : SFits w8 (h .precision)
-  pub delay : h .delay < 2 ^ 32
-  pub dispersion : h .dispersion < 2 ^ 32
+  pub rootdelay : h .rootdelay < 2 ^ 32
+  pub rootdisp : h .rootdisp < 2 ^ 32
   pub refid : h .refid .0 < 2 ^ 32
-  pub reference : h .reference .0 < 2 ^ 64
+  pub reftime : h .reftime .0 < 2 ^ 64
   pub origin : h .origin .0 < 2 ^ 64
   pub receive : h .receive .0 < 2 ^ 64
   pub transmit : h .transmit .0 < 2 ^ 64
@@ -28,10 +28,10 @@ types-fit h vs is =
       stratum = search needs;
       poll = search needs;
       precision = search needs;
-      delay = search needs;
-      dispersion = search needs;
+      rootdelay = search needs;
+      rootdisp = search needs;
       refid = search needs;
-      reference = search needs;
+      reftime = search needs;
       origin = search needs;
       receive = search needs;
       transmit = search needs;

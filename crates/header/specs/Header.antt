@@ -78,10 +78,10 @@ fields v p =
       stratum = getD p 1 0;
       poll = interval (signed (2 ^ 7) (getD p 2 0));
       precision = signed (2 ^ 7) (getD p 3 0);
-      delay = be (part p 4 4);
-      dispersion = be (part p 8 4);
+      rootdelay = be (part p 4 4);
+      rootdisp = be (part p 8 4);
       refid = named (be (part p 12 4));
-      reference = timestamp (be (part p 16 8));
+      reftime = timestamp (be (part p 16 8));
       origin = timestamp (be (part p 24 8));
       receive = timestamp (be (part p 32 8));
       transmit = timestamp (be (part p 40 8));
@@ -109,10 +109,10 @@ bytesOf h =
     ∷ h .stratum
     ∷ unsigned (2 ^ 7) (h .poll .0)
     ∷ unsigned (2 ^ 7) (h .precision)
-    ∷ (toBe 4 (h .delay)
-    ++ toBe 4 (h .dispersion)
+    ∷ (toBe 4 (h .rootdelay)
+    ++ toBe 4 (h .rootdisp)
     ++ toBe 4 (h .refid .0)
-    ++ toBe 8 (h .reference .0)
+    ++ toBe 8 (h .reftime .0)
     ++ toBe 8 (h .origin .0)
     ++ toBe 8 (h .receive .0)
     ++ toBe 8 (h .transmit .0))

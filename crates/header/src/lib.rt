@@ -9,6 +9,9 @@ ghost use Rattle.words.specs.Bytes.{toBe};
 ghost use Rattle.header.specs.Header.{leapOf, modeOf, leapCode, modeCode, versionCode, firstByte, fields, headerOf, numberOf, placed, bytesOf};
 ghost use Rattle.header.specs.Kiss.{kissesOf};
 
+// The bytes of a header.
+pub const HEADER_BYTES: usize = 48;
+
 // The versions whose header has this form.
 pub enum HeaderVersion {
     V3,
@@ -41,10 +44,10 @@ pub struct Header {
     pub stratum: u8,
     pub poll: PollInterval,
     pub precision: i8,
-    pub delay: u32,
-    pub dispersion: u32,
+    pub rootdelay: u32,
+    pub rootdisp: u32,
     pub refid: ReferenceId,
-    pub reference: NtpTimestamp,
+    pub reftime: NtpTimestamp,
     pub origin: NtpTimestamp,
     pub receive: NtpTimestamp,
     pub transmit: NtpTimestamp,
@@ -139,10 +142,10 @@ fn fields_of(version: HeaderVersion, p: &[u8]) -> Header
     let stratum = p[1];
     let poll = PollInterval(words::u8_as_i8(p[2]));
     let precision = words::u8_as_i8(p[3]);
-    let delay = words::be32_at(p, 4);
-    let dispersion = words::be32_at(p, 8);
+    let rootdelay = words::be32_at(p, 4);
+    let rootdisp = words::be32_at(p, 8);
     let refid = ReferenceId(words::be32_at(p, 12));
-    let reference = NtpTimestamp(words::be64_at(p, 16));
+    let reftime = NtpTimestamp(words::be64_at(p, 16));
     let origin = NtpTimestamp(words::be64_at(p, 24));
     let receive = NtpTimestamp(words::be64_at(p, 32));
     let transmit = NtpTimestamp(words::be64_at(p, 40));
@@ -153,10 +156,10 @@ fn fields_of(version: HeaderVersion, p: &[u8]) -> Header
         stratum,
         poll,
         precision,
-        delay,
-        dispersion,
+        rootdelay,
+        rootdisp,
         refid,
-        reference,
+        reftime,
         origin,
         receive,
         transmit,
@@ -167,7 +170,7 @@ fn fields_of(version: HeaderVersion, p: &[u8]) -> Header
 pub fn read_header(p: &[u8]) -> HeaderRead
     ensures { λ r. ⌜ r ≡ headerOf (now (p .entry)) ⌝ }
 {
-    if p.len() < 48 {
+    if p.len() < HEADER_BYTES {
         return HeaderRead::Undecodable;
     }
     match p[0] / 8 % 8 {
@@ -223,10 +226,10 @@ pub fn write_header(h: Header) -> [u8; 48]
     out[1] = h.stratum;
     out[2] = words::i8_as_u8(h.poll.0);
     out[3] = words::i8_as_u8(h.precision);
-    let out = put32(out, 4, h.delay);
-    let out = put32(out, 8, h.dispersion);
+    let out = put32(out, 4, h.rootdelay);
+    let out = put32(out, 8, h.rootdisp);
     let out = put32(out, 12, h.refid.0);
-    let out = put64(out, 16, h.reference.0);
+    let out = put64(out, 16, h.reftime.0);
     let out = put64(out, 24, h.origin.0);
     let out = put64(out, 32, h.receive.0);
     put64(out, 40, h.transmit.0)

@@ -14,11 +14,11 @@ use Rattle.header.specs.declared.HeaderRead.the-variants as H
 use Rattle.header.specs.Header.{versionCode, versionBits, fields, headerOf}
 use Rattle.header.proofs.RoundTrip.{Read, short, other, read, view}
 use Rattle.fields.specs.declared.Walked.the-variants as W
-use Rattle.fields.specs.Walk.{Walk, field, ends, broken, plainWalk, walkedOf, whole, isPlace}
+use Rattle.fields.specs.Walk.{Walk, field, ends, broken, decryptedWalk, walkedOf, whole, isPlace}
 use Rattle.fields.proofs.Sound.{not-whole, place-iff}
 use Rattle.incoming.specs.declared.Reply.{Reply}
 use Rattle.incoming.specs.declared.ReplyRead.the-variants.{Decoded, Undecodable}
-use Rattle.incoming.specs.Incoming.{endHolds, plainHolds, bytesRead, onHeader, readOf}
+use Rattle.incoming.specs.Incoming.{endValid, decryptedValid, bytesRead, onHeader, readOf}
 use Rattle.incoming.specs.Refused.{Refused}
 
 -- a test is not both true and false
@@ -41,21 +41,21 @@ is-broken (field f w) e = is-broken w e
 is-broken (ends at) e = absurd (not-both true refl e)
 is-broken broken e = refl
 
-module _ (nts : Bool) (p : List ℕ) (end : ℕ) (plain : List ℕ) where
-  end-refused : (v : HeaderVersion) → versionBits p ≡ versionCode v → endHolds v p end ≡ false → Refused nts p end plain
+module _ (nts : Bool) (p : List ℕ) (end : ℕ) (decrypted : List ℕ) where
+  end-refused : (v : HeaderVersion) → versionBits p ≡ versionCode v → endValid v p end ≡ false → Refused nts p end decrypted
   end-refused V3 e f = inr (inl (e, eqb-false end 48 f))
   end-refused V4 e f = inr (inr (inl (e, λ q. not-both (isPlace p end) (place-iff p end .1 q) f)))
 
-  plain-refused : plainHolds nts plain ≡ false → Refused nts p end plain
-  plain-refused f = by nts refl f
+  decrypted-refused : decryptedValid nts decrypted ≡ false → Refused nts p end decrypted
+  decrypted-refused f = by nts refl f
     where
-      by : (b : Bool) → nts ≡ b → plainHolds b plain ≡ false → Refused nts p end plain
-      by true e f = inr (inr (inr (e, is-broken (plainWalk plain) f)))
+      by : (b : Bool) → nts ≡ b → decryptedValid b decrypted ≡ false → Refused nts p end decrypted
+      by true e f = inr (inr (inr (e, is-broken (decryptedWalk decrypted) f)))
       by false e f = absurd (not-both true refl f)
 
   -- of what is refused and has a header that is read, the end or the decrypted fields do not hold
-  which-fails : (v : HeaderVersion) → versionBits p ≡ versionCode v → (headerOf p ≡ H.Undecodable → ⊥) → Refused nts p end plain
-      → (endHolds v p end ≡ false) ⊎ (plainHolds nts plain ≡ false)
+  which-fails : (v : HeaderVersion) → versionBits p ≡ versionCode v → (headerOf p ≡ H.Undecodable → ⊥) → Refused nts p end decrypted
+      → (endValid v p end ≡ false) ⊎ (decryptedValid nts decrypted ≡ false)
   which-fails v e n (inl h) = absurd (n h)
   which-fails V3 e n (inr (inl f)) = inl (ne-eqb end 48 (f .1))
   which-fails V4 e n (inr (inl f)) = absurd (omega arith)
@@ -65,18 +65,18 @@ module _ (nts : Bool) (p : List ℕ) (end : ℕ) (plain : List ℕ) where
       no-place : (t : Bool) → isPlace p end ≡ t → t ≡ false
       no-place true q = absurd (f .1 (place-iff p end .0 q))
       no-place false q = refl
-  which-fails v e n (inr (inr (inr f))) = inr (rw (f .0) (not-whole (plainWalk plain) (f .1)))
+  which-fails v e n (inr (inr (inr f))) = inr (rw (f .0) (not-whole (decryptedWalk decrypted) (f .1)))
 
-  pub undecodable : (uid : List ℕ) (mark : ℕ) → (readOf nts uid mark p end plain ≡ Undecodable) ↔ Refused nts p end plain
+  pub undecodable : (uid : List ℕ) (upgrademark : ℕ) → (readOf nts uid upgrademark p end decrypted ≡ Undecodable) ↔ Refused nts p end decrypted
   unfolding readOf bytesRead fields
-  undecodable uid mark = (there (headerOf p) (view p) refl, back (headerOf p) (view p) refl)
+  undecodable uid upgrademark = (there (headerOf p) (view p) refl, back (headerOf p) (view p) refl)
     where
-      there : (r : HeaderRead) → Read p r → headerOf p ≡ r → onHeader (bytesRead nts uid mark p end plain) r ≡ Undecodable → Refused nts p end plain
+      there : (r : HeaderRead) → Read p r → headerOf p ≡ r → onHeader (bytesRead nts uid upgrademark p end decrypted) r ≡ Undecodable → Refused nts p end decrypted
       there _ (short l) e q = inl e
       there _ (other a b) e q = inl e
-      there _ (read v l b) e q = ⊎-elim (end-refused v b) plain-refused (one-fails (endHolds v p end) (plainHolds nts plain) _ q)
+      there _ (read v l b) e q = ⊎-elim (end-refused v b) decrypted-refused (one-fails (endValid v p end) (decryptedValid nts decrypted) _ q)
 
-      back : (r : HeaderRead) → Read p r → headerOf p ≡ r → Refused nts p end plain → onHeader (bytesRead nts uid mark p end plain) r ≡ Undecodable
+      back : (r : HeaderRead) → Read p r → headerOf p ≡ r → Refused nts p end decrypted → onHeader (bytesRead nts uid upgrademark p end decrypted) r ≡ Undecodable
       back _ (short l) e q = refl
       back _ (other a b) e q = refl
-      back _ (read v l b) e q = then-refused (endHolds v p end) (plainHolds nts plain) _ (which-fails v b (λ u. let z : _≡_ {A = ℕ} 0 1 = cc in omega arith) q)
+      back _ (read v l b) e q = then-refused (endValid v p end) (decryptedValid nts decrypted) _ (which-fails v b (λ u. let z : _≡_ {A = ℕ} 0 1 = cc in omega arith) q)

@@ -21,8 +21,8 @@ use Rattle.header.specs.Header.{headerOf, versionCode}
 use Rattle.header.specs.Kiss.{kissesOf}
 use Rattle.fields.specs.declared.matching.Uid.{Uid}
 use Rattle.fields.specs.declared.matching.Uid.the-variants.{Absent}
-use Rattle.fields.specs.Walk.{isPlace, plainWalk, whole}
-use Rattle.fields.specs.Matching.{packetUid, plainUid}
+use Rattle.fields.specs.Walk.{isPlace, decryptedWalk, whole}
+use Rattle.fields.specs.Matching.{packetUid, decryptedUid}
 use Rattle.incoming.specs.declared.NtpLeapIndicator.{NtpLeapIndicator}
 use Rattle.incoming.specs.declared.NtpLeapIndicator.the-variants as I
 use Rattle.incoming.specs.declared.Reply.{Reply}
@@ -58,13 +58,13 @@ isServer M.Control = false
 isServer M.Private = false
 
 -- the authenticated end: V3 has only tail, so that 48 is its walk's only place; V4's is a place of a walk that is not broken
-abbrev pub endHolds : HeaderVersion → List ℕ → ℕ → Bool
-endHolds V3 p end = eqb end 48
-endHolds V4 p end = isPlace p end
+abbrev pub endValid : HeaderVersion → List ℕ → ℕ → Bool
+endValid V3 p end = eqb end 48
+endValid V4 p end = isPlace p end
 
 -- decrypted field bytes are read only with NTS; broken: 1
-abbrev pub plainHolds : Bool → List ℕ → Bool
-plainHolds nts plain = not nts || whole (plainWalk plain)
+abbrev pub decryptedValid : Bool → List ℕ → Bool
+decryptedValid nts decrypted = not nts || whole (decryptedWalk decrypted)
 
 -- the groups, which only NTS looks at: fields before the authenticated end are authenticated, after it untrusted; V3 has none
 abbrev pub groupOf : Bool → HeaderVersion → List ℕ → ℕ → ℕ → List ℕ → Uid
@@ -72,11 +72,11 @@ groupOf nts V3 p from to uid = Absent
 groupOf nts V4 p from to uid = cond nts (packetUid p from to uid) Absent
 
 abbrev pub encryptedOf : Bool → List ℕ → List ℕ → Uid
-encryptedOf nts plain uid = cond nts (plainUid plain uid) Absent
+encryptedOf nts decrypted uid = cond nts (decryptedUid decrypted uid) Absent
 
 -- the value of a header and its groups; root values are in the short format
 unfoldable pub valueOf : Header → ℕ → Uid → Uid → Uid → Reply
-valueOf h mark authenticated encrypted untrusted =
+valueOf h upgrademark authenticated encrypted untrusted =
     record {
       version = versionCode (h .version);
       leap = leapOf (h .leap);
@@ -84,13 +84,13 @@ valueOf h mark authenticated encrypted untrusted =
       stratum = h .stratum;
       poll = h .poll;
       precision = h .precision;
-      delay = duration (shortOf (h .delay));
-      dispersion = duration (shortOf (h .dispersion));
-      reference = h .refid;
+      rootdelay = duration (shortOf (h .rootdelay));
+      rootdisp = duration (shortOf (h .rootdisp));
+      refid = h .refid;
       origin = h .origin .0;
       receive = h .receive;
       transmit = h .transmit;
-      upgrade = upgradeReply (versionCode (h .version)) (h .reference .0) mark;
+      upgrade = upgradeReply (versionCode (h .version)) (h .reftime .0) upgrademark;
       kisses = kissesOf h;
       authenticated = authenticated;
       encrypted = encrypted;
@@ -99,9 +99,9 @@ valueOf h mark authenticated encrypted untrusted =
 
 -- the byte form of a header that is read
 unfoldable pub bytesRead : Bool → List ℕ → ℕ → List ℕ → ℕ → List ℕ → Header → ReplyRead
-bytesRead nts uid mark p end plain h =
-    cond (endHolds (h .version) p end && plainHolds nts plain)
-    (Decoded (valueOf h mark (groupOf nts (h .version) p 48 end uid) (encryptedOf nts plain uid) (groupOf nts (h .version) p end (length p) uid)))
+bytesRead nts uid upgrademark p end decrypted h =
+    cond (endValid (h .version) p end && decryptedValid nts decrypted)
+    (Decoded (valueOf h upgrademark (groupOf nts (h .version) p 48 end uid) (encryptedOf nts decrypted uid) (groupOf nts (h .version) p end (length p) uid)))
     Undecodable
 
 abbrev pub onHeader : (Header → ReplyRead) → HeaderRead → ReplyRead
@@ -110,7 +110,7 @@ onHeader f H.Undecodable = Undecodable
 
 -- the byte form: undecodable header, authenticated end that is no place, and broken decrypted fields are refused
 unfoldable pub readOf : Bool → List ℕ → ℕ → List ℕ → ℕ → List ℕ → ReplyRead
-readOf nts uid mark p end plain = onHeader (bytesRead nts uid mark p end plain) (headerOf p)
+readOf nts uid upgrademark p end decrypted = onHeader (bytesRead nts uid upgrademark p end decrypted) (headerOf p)
 
 -- document 01's number: 1 for packet bytes that are not decodable, 0 for a reply that is read, which is no refusal
 abbrev pub numberOf : ReplyRead → ℕ
@@ -131,9 +131,9 @@ decodedOf d =
       stratum = d .stratum;
       poll = d .poll;
       precision = d .precision;
-      delay = d .delay;
-      dispersion = d .dispersion;
-      reference = named xnon;
+      rootdelay = d .rootdelay;
+      rootdisp = d .rootdisp;
+      refid = named xnon;
       origin = d .cookie;
       receive = d .receive;
       transmit = d .transmit;

@@ -8,13 +8,13 @@ use Prim.Native.Nat.{ℕ}
 use Rattle.header.specs.declared.HeaderRead.the-variants.{Undecodable}
 use Rattle.header.specs.Header.{versionBits, headerOf}
 use Rattle.fields.specs.declared.Walked.the-variants.{Broken}
-use Rattle.fields.specs.Walk.{plainWalk, walkedOf}
+use Rattle.fields.specs.Walk.{decryptedWalk, walkedOf}
 use Rattle.fields.specs.Sound.{Place}
 
 -- the header is not decodable; the authenticated end is no place, where V3 has only 48 and V4 the places of a walk that ends; or, with NTS, the decrypted fields are broken
 abbrev pub Refused : Bool → List ℕ → ℕ → List ℕ → Type 0
-Refused nts p end plain =
+Refused nts p end decrypted =
     (headerOf p ≡ Undecodable)
     ⊎ (((versionBits p ≡ 3) × (end ≡ 48 → ⊥))
     ⊎ (((versionBits p ≡ 4) × (Place p end → ⊥))
-    ⊎ ((nts ≡ true) × (walkedOf (plainWalk plain) ≡ Broken))))
+    ⊎ ((nts ≡ true) × (walkedOf (decryptedWalk decrypted) ≡ Broken))))

@@ -1,6 +1,7 @@
 // What a reply says, as one value, and how both of its forms come down to it (document 01, parts 6 to 9 and 11).
 use fields::Walked;
 use fields::matching::Uid;
+use header::HEADER_BYTES;
 use header::Header;
 use header::HeaderRead;
 use header::HeaderVersion;
@@ -12,10 +13,7 @@ use time_types::NtpDuration;
 use time_types::NtpTimestamp;
 use time_types::PollInterval;
 ghost use mathlib.Core.Path.{_≡_};
-ghost use Rattle.incoming.specs.Incoming.{leapCode, leapOf, isServer, isResponse, endHolds, plainHolds, groupOf, encryptedOf, valueOf, readOf, numberOf, decodedOf};
-
-// A packet's fields start behind its header.
-const HEADER: usize = 48;
+ghost use Rattle.incoming.specs.Incoming.{leapCode, leapOf, isServer, isResponse, endValid, decryptedValid, groupOf, encryptedOf, valueOf, readOf, numberOf, decodedOf};
 
 // The leap kinds of a measurement: a header's four, and Unknown, which only the decoded form can carry.
 pub enum NtpLeapIndicator {
@@ -36,9 +34,9 @@ pub struct Reply {
     pub poll: PollInterval,
     pub precision: i8,
     // Root delay and root dispersion.
-    pub delay: NtpDuration,
-    pub dispersion: NtpDuration,
-    pub reference: ReferenceId,
+    pub rootdelay: NtpDuration,
+    pub rootdisp: NtpDuration,
+    pub refid: ReferenceId,
     // The 64 bits that answer the request's: the origin timestamp, or V5's client cookie.
     pub origin: u64,
     pub receive: NtpTimestamp,
@@ -69,8 +67,8 @@ pub struct DecodedReply {
     pub stratum: u8,
     pub poll: PollInterval,
     pub precision: i8,
-    pub delay: NtpDuration,
-    pub dispersion: NtpDuration,
+    pub rootdelay: NtpDuration,
+    pub rootdisp: NtpDuration,
     pub receive: NtpTimestamp,
     pub transmit: NtpTimestamp,
     // The client cookie.
@@ -123,23 +121,23 @@ fn is_server(mode: Mode) -> bool
 }
 
 // Whether the caller's authenticated end is a place of the packet's walk.
-fn end_holds(version: HeaderVersion, p: &[u8], end: usize) -> bool
-    ensures { λ r. ⌜ r ≡ endHolds version (now (p .entry)) end ⌝ }
+fn end_valid(version: HeaderVersion, p: &[u8], end: usize) -> bool
+    ensures { λ r. ⌜ r ≡ endValid version (now (p .entry)) end ⌝ }
 {
     match version {
-        HeaderVersion::V3 => end == HEADER,
+        HeaderVersion::V3 => end == HEADER_BYTES,
         HeaderVersion::V4 => fields::is_place(p, end),
     }
 }
 
 // Whether the decrypted fields are whole, which only NTS asks.
-fn plain_holds(nts: bool, plain: &[u8]) -> bool
-    ensures { λ r. ⌜ r ≡ plainHolds nts (now (plain .entry)) ⌝ }
+fn decrypted_valid(nts: bool, decrypted: &[u8]) -> bool
+    ensures { λ r. ⌜ r ≡ decryptedValid nts (now (decrypted .entry)) ⌝ }
 {
     if !nts {
         return true;
     }
-    match fields::plain_walk(plain) {
+    match fields::decrypted_walk(decrypted) {
         Walked::Ends(_) => true,
         Walked::Broken => false,
     }
@@ -162,19 +160,19 @@ fn group(nts: bool, version: HeaderVersion, p: &[u8], from: usize, to: usize, ui
 }
 
 // What the decrypted fields say of the identifier, which only NTS asks.
-fn encrypted(nts: bool, plain: &[u8], uid: [u8; 32]) -> Uid
-    ensures { λ r. ⌜ r ≡ encryptedOf nts (now (plain .entry)) uid ⌝ }
+fn encrypted(nts: bool, decrypted: &[u8], uid: [u8; 32]) -> Uid
+    ensures { λ r. ⌜ r ≡ encryptedOf nts (now (decrypted .entry)) uid ⌝ }
 {
     if nts {
-        fields::matching::plain_uid(plain, uid)
+        fields::matching::decrypted_uid(decrypted, uid)
     } else {
         Uid::Absent
     }
 }
 
 // The value of a header and its groups.
-fn value(h: Header, mark: u64, authenticated: Uid, encrypted: Uid, untrusted: Uid) -> Reply
-    ensures { λ r. ⌜ r ≡ valueOf h mark authenticated encrypted untrusted ⌝ }
+fn value(h: Header, upgrademark: u64, authenticated: Uid, encrypted: Uid, untrusted: Uid) -> Reply
+    ensures { λ r. ⌜ r ≡ valueOf h upgrademark authenticated encrypted untrusted ⌝ }
 {
     let header_version = h.version;
     let version = header_version.number();
@@ -183,12 +181,12 @@ fn value(h: Header, mark: u64, authenticated: Uid, encrypted: Uid, untrusted: Ui
     let mode = h.mode;
     let server = is_server(mode);
     let poll = h.poll;
-    let delay = NtpDuration::from_short(h.delay);
-    let dispersion = NtpDuration::from_short(h.dispersion);
-    let reference = h.refid;
+    let rootdelay = NtpDuration::from_short(h.rootdelay);
+    let rootdisp = NtpDuration::from_short(h.rootdisp);
+    let refid = h.refid;
     let receive = h.receive;
     let transmit = h.transmit;
-    let upgrade = version::is_upgrade_reply(version, h.reference.0, mark);
+    let upgrade = version::is_upgrade_reply(version, h.reftime.0, upgrademark);
     let kisses = h.kisses();
     Reply {
         version,
@@ -197,9 +195,9 @@ fn value(h: Header, mark: u64, authenticated: Uid, encrypted: Uid, untrusted: Ui
         stratum: h.stratum,
         poll,
         precision: h.precision,
-        delay,
-        dispersion,
-        reference,
+        rootdelay,
+        rootdisp,
+        refid,
         origin: h.origin.0,
         receive,
         transmit,
@@ -215,27 +213,27 @@ fn value(h: Header, mark: u64, authenticated: Uid, encrypted: Uid, untrusted: Ui
 pub fn read_reply(
     nts: bool,
     uid: [u8; 32],
-    mark: u64,
+    upgrademark: u64,
     packet: &[u8],
     end: usize,
-    plain: &[u8],
+    decrypted: &[u8],
 ) -> ReplyRead
-    ensures { λ r. ⌜ r ≡ readOf nts uid mark (now (packet .entry)) end (now (plain .entry)) ⌝ }
+    ensures { λ r. ⌜ r ≡ readOf nts uid upgrademark (now (packet .entry)) end (now (decrypted .entry)) ⌝ }
 {
     let HeaderRead::Decoded(h) = header::read_header(packet) else {
         return ReplyRead::Undecodable;
     };
     let version = h.version;
-    if !end_holds(version, packet, end) {
+    if !end_valid(version, packet, end) {
         return ReplyRead::Undecodable;
     }
-    if !plain_holds(nts, plain) {
+    if !decrypted_valid(nts, decrypted) {
         return ReplyRead::Undecodable;
     }
-    let authenticated = group(nts, version, packet, HEADER, end, uid);
-    let encrypted = encrypted(nts, plain, uid);
+    let authenticated = group(nts, version, packet, HEADER_BYTES, end, uid);
+    let encrypted = encrypted(nts, decrypted, uid);
     let untrusted = group(nts, version, packet, end, packet.len(), uid);
-    ReplyRead::Decoded(value(h, mark, authenticated, encrypted, untrusted))
+    ReplyRead::Decoded(value(h, upgrademark, authenticated, encrypted, untrusted))
 }
 
 impl ReplyRead {
@@ -268,8 +266,8 @@ impl DecodedReply {
         let mode = self.mode;
         let server = is_response(mode);
         let poll = self.poll;
-        let delay = self.delay;
-        let dispersion = self.dispersion;
+        let rootdelay = self.rootdelay;
+        let rootdisp = self.rootdisp;
         let receive = self.receive;
         let transmit = self.transmit;
         let kisses = self.kisses;
@@ -283,9 +281,9 @@ impl DecodedReply {
             stratum: self.stratum,
             poll,
             precision: self.precision,
-            delay,
-            dispersion,
-            reference: ReferenceId::none(),
+            rootdelay,
+            rootdisp,
+            refid: ReferenceId::none(),
             origin: self.cookie,
             receive,
             transmit,

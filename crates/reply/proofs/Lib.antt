@@ -1,5 +1,5 @@
 -- Laws that belong to no one function.
-pub mod Unread
 pub mod Numbers
+pub mod After
 pub mod Kept
 pub mod Determined

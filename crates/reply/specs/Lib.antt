@@ -1,6 +1,3 @@
--- The definitions that the contracts of `reply` cite.
-pub mod Answer
-pub mod Judge
-pub mod Parts
+-- The definitions that the contracts of `reply` cite, and the statements that its laws are of.
 pub mod Reply
 pub mod Numbers

@@ -2,23 +2,23 @@
 -- A reply of either form comes down to what is read of it.
 -- Assumes nothing.
 use mathlib.Core.Path.{_≡_}
-use mathlib.Core.Bool.{true, false, not, _&&_, _||_}
-use mathlib.Core.List.{List}
+use mathlib.Core.Bool.{true, false, cond}
 use Prim.Native.Nat.{ℕ}
 use lib.Dec.{ltb}
-use Rattle.cookiestash.specs.List.{isWhole, cookiesIn}
+use Rattle.cookiestash.specs.StoreList.{storeListOf}
 use Rattle.version.specs.Upgrade.{expectsOf}
-use Rattle.time_types.specs.declared.NtpTimestamp.{NtpTimestamp}
 use Rattle.association.specs.declared.Association.{Association}
-use Rattle.association.specs.Record.{wholeOf}
+use Rattle.association.specs.Record.{wholeOf, withState, withStash}
 use Rattle.incoming.specs.declared.Reply.{Reply}
 use Rattle.incoming.specs.declared.ReplyRead.{ReplyRead}
 use Rattle.incoming.specs.declared.ReplyRead.the-variants as R
-use Rattle.reply.specs.declared.ReplyAnswer.the-variants.{Measured, Undecodable, UnexpectedVersion, NoLiveRequest, NoMatch, Rate, Denied, DeniedNts, Ntsn, OtherKiss, BadStratum, NotServer, NotWhole, BrokenList}
+use Rattle.reply_rules.specs.declared.ReplyAnswer.the-variants.{Measured, Undecodable, UnexpectedVersion, NoLiveRequest, NoMatch, Rate, Denied, DeniedNts, Ntsn, OtherKiss, BadStratum, NotServer, NotWhole, BrokenList}
 use Rattle.reply.specs.declared.ReplyOut.{ReplyOut}
-use Rattle.reply.specs.Judge.{out, live, answers, steppedRecord, afterRateKiss, afterDenial, afterMeasured, measurementOf}
+use Rattle.reply_rules.specs.After.{Arrival, live, answers, denies, stepped, afterRateKiss, afterDenial, afterMeasured, measurementOf}
+use Rattle.reply_rules.specs.Judge.{listBroken}
+use Rattle.reply.specs.Reply.{out}
 
-module _ (a : Association) (read : ReplyRead) (list : List ℕ) (t1 t4 : NtpTimestamp) (time : ℕ) where
+module _ (a : Association) (read : ReplyRead) (t : Arrival) where
   -- ---- the tests that a reply has passed, each with those before it
 
   -- neither 32 nor 1
@@ -29,22 +29,22 @@ module _ (a : Association) (read : ReplyRead) (list : List ℕ) (t1 t4 : NtpTime
   -- nor 33
   pub record Listed (r : Reply) : Type 0 where
     pub read-as : Read r
-    pub cookies : (a .settings .nts && not (isWhole (cookiesIn list))) ≡ false
+    pub cookies : listBroken (a .settings .nts) (t .list) ≡ false
 
   -- nor 2
   pub record Expected (r : Reply) : Type 0 where
     pub listed : Listed r
-    pub version : expectsOf (a .version) (r .version) ≡ true
+    pub version : expectsOf (a .state .version) (r .version) ≡ true
 
   -- nor 3
   pub record InTime (r : Reply) : Type 0 where
     pub expected : Expected r
-    pub pending : live (a .request) time ≡ true
+    pub pending : live (a .state .request) (t .time) ≡ true
 
   -- nor 4: a matching reply
   pub record Matching (r : Reply) : Type 0 where
     pub in-time : InTime r
-    pub identifiers : answers (a .settings .nts) (a .request .id) r ≡ true
+    pub identifiers : answers (a .settings .nts) (a .state .request .id) r ≡ true
 
   -- nor 5
   pub record Unlimited (r : Reply) : Type 0 where
@@ -54,7 +54,7 @@ module _ (a : Association) (read : ReplyRead) (list : List ℕ) (t1 t4 : NtpTime
   -- nor 6 and 7
   pub record Undenied (r : Reply) : Type 0 where
     pub unlimited : Unlimited r
-    pub denial : (r .kisses .deny || r .kisses .rstr) ≡ false
+    pub denial : denies r ≡ false
 
   -- nor 8
   pub record Acknowledged (r : Reply) : Type 0 where
@@ -75,18 +75,19 @@ module _ (a : Association) (read : ReplyRead) (list : List ℕ) (t1 t4 : NtpTime
   pub data Given : ℕ → ReplyOut → Type 0 where
     not-whole : wholeOf a ≡ false → Given 32 (out NotWhole a)
     undecodable : wholeOf a ≡ true → read ≡ R.Undecodable → Given 1 (out Undecodable a)
-    broken-list : {r : Reply} → Read r → (a .settings .nts && not (isWhole (cookiesIn list))) ≡ true → Given 33 (out BrokenList a)
-    unexpected-version : {r : Reply} → Listed r → expectsOf (a .version) (r .version) ≡ false → Given 2 (out UnexpectedVersion a)
-    no-live-request : {r : Reply} → Expected r → live (a .request) time ≡ false → Given 3 (out NoLiveRequest a)
-    no-match : {r : Reply} → InTime r → answers (a .settings .nts) (a .request .id) r ≡ false → Given 4 (out NoMatch a)
-    rate : {r : Reply} → Matching r → r .kisses .rate ≡ true → Given 5 (out Rate (afterRateKiss (steppedRecord a (r .upgrade))))
-    denied : {r : Reply} → Unlimited r → (r .kisses .deny || r .kisses .rstr) ≡ true → a .settings .nts ≡ false →
-        Given 6 (out Denied (afterDenial (steppedRecord a (r .upgrade))))
-    denied-nts : {r : Reply} → Unlimited r → (r .kisses .deny || r .kisses .rstr) ≡ true → a .settings .nts ≡ true →
-        Given 7 (out DeniedNts (steppedRecord a (r .upgrade)))
-    ntsn : {r : Reply} → Undenied r → r .kisses .ntsn ≡ true → Given 8 (out Ntsn (steppedRecord a (r .upgrade)))
-    other-kiss : {r : Reply} → Acknowledged r → r .kisses .any ≡ true → Given 9 (out OtherKiss (steppedRecord a (r .upgrade)))
-    bad-stratum : {r : Reply} → Unkissed r → ltb 16 (r .stratum) ≡ true → Given 10 (out BadStratum (steppedRecord a (r .upgrade)))
-    not-server : {r : Reply} → Ranked r → r .server ≡ false → Given 11 (out NotServer (steppedRecord a (r .upgrade)))
+    broken-list : {r : Reply} → Read r → listBroken (a .settings .nts) (t .list) ≡ true → Given 33 (out BrokenList a)
+    unexpected-version : {r : Reply} → Listed r → expectsOf (a .state .version) (r .version) ≡ false → Given 2 (out UnexpectedVersion a)
+    no-live-request : {r : Reply} → Expected r → live (a .state .request) (t .time) ≡ false → Given 3 (out NoLiveRequest a)
+    no-match : {r : Reply} → InTime r → answers (a .settings .nts) (a .state .request .id) r ≡ false → Given 4 (out NoMatch a)
+    rate : {r : Reply} → Matching r → r .kisses .rate ≡ true → Given 5 (out Rate (withState a (afterRateKiss (a .settings) (stepped (a .state) (r .upgrade)))))
+    denied : {r : Reply} → Unlimited r → denies r ≡ true → a .settings .nts ≡ false →
+        Given 6 (out Denied (withState a (afterDenial (stepped (a .state) (r .upgrade)))))
+    denied-nts : {r : Reply} → Unlimited r → denies r ≡ true → a .settings .nts ≡ true →
+        Given 7 (out DeniedNts (withState a (stepped (a .state) (r .upgrade))))
+    ntsn : {r : Reply} → Undenied r → r .kisses .ntsn ≡ true → Given 8 (out Ntsn (withState a (stepped (a .state) (r .upgrade))))
+    other-kiss : {r : Reply} → Acknowledged r → r .kisses .any ≡ true → Given 9 (out OtherKiss (withState a (stepped (a .state) (r .upgrade))))
+    bad-stratum : {r : Reply} → Unkissed r → ltb 16 (r .stratum) ≡ true → Given 10 (out BadStratum (withState a (stepped (a .state) (r .upgrade))))
+    not-server : {r : Reply} → Ranked r → r .server ≡ false → Given 11 (out NotServer (withState a (stepped (a .state) (r .upgrade))))
+    -- with NTS the cookies are stored in order
     measured : {r : Reply} → Ranked r → r .server ≡ true →
-        Given 0 (out (Measured (measurementOf r t1 t4 time)) (afterMeasured (steppedRecord a (r .upgrade)) r list))
+        Given 0 (out (Measured (measurementOf r t)) (withStash (withState a (afterMeasured (stepped (a .state) (r .upgrade)) r)) (cond (a .settings .nts) (storeListOf 8 (a .stash) (t .list)) (a .stash))))

@@ -1,31 +1,36 @@
--- Document 01, part 11: both forms of the call. In order 32, 1 (byte form), and then the judge.
+-- Document 01, part 11: the answer and the next record of both forms of the call.
 -- Assumes nothing.
 use mathlib.Core.Bool.{cond}
 use mathlib.Core.List.{List}
 use Prim.Native.Nat.{ℕ}
-use Rattle.time_types.specs.declared.NtpTimestamp.{NtpTimestamp}
+use Rattle.cookiestash.specs.StoreList.{storeListOf}
+use Rattle.cookiestash.specs.Whole.{seenOf}
 use Rattle.association.specs.declared.Association.{Association}
-use Rattle.association.specs.Record.{wholeOf}
-use Rattle.incoming.specs.declared.Reply.{Reply}
 use Rattle.incoming.specs.declared.ReplyRead.{ReplyRead}
-use Rattle.incoming.specs.declared.ReplyRead.the-variants as R
+use Rattle.incoming.specs.declared.ReplyRead.the-variants.{Decoded}
 use Rattle.incoming.specs.declared.DecodedReply.{DecodedReply}
-use Rattle.incoming.specs.Incoming.{readOf, decodedOf}
-use Rattle.reply.specs.declared.ReplyAnswer.the-variants.{Undecodable, NotWhole}
+use Rattle.incoming.specs.Incoming.{decodedOf}
+use Rattle.reply_rules.specs.declared.ReplyAnswer.{ReplyAnswer}
+use Rattle.reply_rules.specs.declared.Verdict.{Verdict}
+use Rattle.reply_rules.specs.After.{Arrival}
+use Rattle.reply_rules.specs.Judge.{verdictOf, readWith}
 use Rattle.reply.specs.declared.ReplyOut.{ReplyOut}
-use Rattle.reply.specs.Judge.{out, judgeOf}
 
-abbrev pub onRead : Association → (Reply → ReplyOut) → ReplyRead → ReplyOut
-onRead a judge (R.Decoded r) = judge r
-onRead a judge R.Undecodable = out Undecodable a
+abbrev pub out : ReplyAnswer → Association → ReplyOut
+out r a = record { answer = r; association = a }
+
+-- the record after a verdict: the settings, the stash, with the list's cookies stored in order where they are, and the next state
+abbrev pub judged : Association → List ℕ → Verdict → ReplyOut
+judged a list v = out (v .answer) (record { settings = a .settings; stash = cond (v .stores) (storeListOf 8 (a .stash) list) (a .stash); state = v .state })
+
+-- what either form gives, of what was read
+unfoldable pub repliedOf : Association → ReplyRead → Arrival → ReplyOut
+repliedOf a read t = judged a (t .list) (verdictOf (a .settings) (a .state) (seenOf 8 (a .stash)) read t)
 
 -- the byte form (V3, V4)
-unfoldable pub replyOf : Association → List ℕ → ℕ → List ℕ → List ℕ → NtpTimestamp → NtpTimestamp → ℕ → ReplyOut
-replyOf a packet end plain list t1 t4 time =
-    cond (wholeOf a)
-    (onRead a (λ r. judgeOf a r list t1 t4 time) (readOf (a .settings .nts) (a .request .uid) (a .settings .mark) packet end plain))
-    (out NotWhole a)
+abbrev pub replyOf : Association → List ℕ → ℕ → List ℕ → Arrival → ReplyOut
+replyOf a packet end decrypted t = repliedOf a (readWith (a .settings) (a .state) packet end decrypted) t
 
 -- the decoded form (V5 only)
-unfoldable pub replyDecodedOf : Association → DecodedReply → List ℕ → NtpTimestamp → NtpTimestamp → ℕ → ReplyOut
-replyDecodedOf a d list t1 t4 time = cond (wholeOf a) (judgeOf a (decodedOf d) list t1 t4 time) (out NotWhole a)
+abbrev pub replyDecodedOf : Association → DecodedReply → Arrival → ReplyOut
+replyDecodedOf a d t = repliedOf a (Decoded (decodedOf d)) t

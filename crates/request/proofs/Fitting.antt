@@ -11,8 +11,8 @@ use lib.ListN.{length, take, drop}
 use lib.Seq.{take-at, drop-at}
 use borrow.Author.Tests.{lt-ltb, le-ltb}
 use Rattle.time_types.specs.declared.PollInterval.{PollInterval}
-use Rattle.timer.specs.declared.SendKind.{SendKind}
-use Rattle.request.specs.Request.{isV5, hasNts, askHolds, packetOf}
+use Rattle.version.specs.declared.SendKind.{SendKind}
+use Rattle.request.specs.Request.{isV5, hasNts, askValid, packetOf}
 use Rattle.request.specs.Answer.{numberOf, fitted, requestOf, leftIn, bufferOf}
 use Rattle.request.specs.declared.Requested.{Requested}
 use Rattle.request.specs.declared.Requested.the-variants.{Written, VersionFive, ShortBuffer, CookieOrCount}
@@ -34,23 +34,23 @@ written-long false true v n m e = let z : _≡_ {A = ℕ} 0 1 = cc in absurd (om
 written-long false false true n m e = let z : _≡_ {A = ℕ} 0 1 = cc in absurd (omega arith)
 written-long false false false n m e = cc
 
-module _ (kind : SendKind) (poll : PollInterval) (id mark : ℕ) (uid cookie : List ℕ) (asked : ℕ) (out : List ℕ) where
+module _ (kind : SendKind) (poll : PollInterval) (id upgrademark : ℕ) (uid cookie : List ℕ) (asked : ℕ) (out : List ℕ) where
   -- where the answer is a length, so many bytes of the buffer are the packet, and those past them are untouched
-  pub written-buffer : (n : ℕ) → requestOf kind poll id mark uid cookie asked (length out) ≡ Written n
-      → (take n (bufferOf kind poll id mark uid cookie asked out) ≡ packetOf kind poll id mark uid cookie asked) × (drop n (bufferOf kind poll id mark uid cookie asked out) ≡ drop n out)
+  pub written-buffer : (n : ℕ) → requestOf kind poll id upgrademark uid cookie asked (length out) ≡ Written n
+      → (take n (bufferOf kind poll id upgrademark uid cookie asked out) ≡ packetOf kind poll id upgrademark uid cookie asked) × (drop n (bufferOf kind poll id upgrademark uid cookie asked out) ≡ drop n out)
   unfolding bufferOf requestOf
   written-buffer n e =
-      let p = packetOf kind poll id mark uid cookie asked in
-      let m : length p ≡ n = written-long (isV5 kind) (hasNts kind && not (askHolds (length cookie) asked)) (ltb (length out) (length p)) (length p) n e in
-      let b : bufferOf kind poll id mark uid cookie asked out ≡ p ++ drop n out = ap (leftIn p out) e in
+      let p = packetOf kind poll id upgrademark uid cookie asked in
+      let m : length p ≡ n = written-long (isV5 kind) (hasNts kind && not (askValid (length cookie) asked)) (ltb (length out) (length p)) (length p) n e in
+      let b : bufferOf kind poll id upgrademark uid cookie asked out ≡ p ++ drop n out = ap (leftIn p out) e in
       (rw b (take-at p (drop n out) n m), rw b (drop-at p (drop n out) n m))
 
   -- where it is refused, nothing is written
-  pub refused-buffer : (numberOf (requestOf kind poll id mark uid cookie asked (length out)) ≡ 0 → ⊥) → bufferOf kind poll id mark uid cookie asked out ≡ out
+  pub refused-buffer : (numberOf (requestOf kind poll id upgrademark uid cookie asked (length out)) ≡ 0 → ⊥) → bufferOf kind poll id upgrademark uid cookie asked out ≡ out
   unfolding bufferOf
-  refused-buffer h = go (requestOf kind poll id mark uid cookie asked (length out)) h
+  refused-buffer h = go (requestOf kind poll id upgrademark uid cookie asked (length out)) h
     where
-      go : (r : Requested) → (numberOf r ≡ 0 → ⊥) → leftIn (packetOf kind poll id mark uid cookie asked) out r ≡ out
+      go : (r : Requested) → (numberOf r ≡ 0 → ⊥) → leftIn (packetOf kind poll id upgrademark uid cookie asked) out r ≡ out
       go (Written n) h = absurd (h refl)
       go VersionFive h = refl
       go ShortBuffer h = refl

@@ -31,10 +31,10 @@ use Rattle.fields.specs.declared.matching.Uid.the-variants.{Agree}
 use Rattle.fields.proofs.Walks.{walk-turn, walk-induction}
 use Rattle.fields.proofs.Groups.{ahead, ahead-field, ahead-stop}
 use Rattle.fields.proofs.Uids.{agree-iff}
-use Rattle.timer.specs.declared.SendKind.{SendKind}
-use Rattle.timer.specs.declared.SendKind.the-variants.{V4, V4Upgrade, V5, NtsV4, NtsV5}
+use Rattle.version.specs.declared.SendKind.{SendKind}
+use Rattle.version.specs.declared.SendKind.the-variants.{V4, V4Upgrade, V5, NtsV4, NtsV5}
 use Rattle.request.specs.Extension.{Extension, filled, fieldLength, extensionBytes, allBytes}
-use Rattle.request.specs.Request.{hasNts, referenceOf, headerFor, carrying, placeholder, fieldsFor, withFields, packetOf}
+use Rattle.request.specs.Request.{hasNts, reftimeOf, headerFor, carrying, placeholder, fieldsFor, withFields, packetOf}
 use Rattle.request.specs.Reading.{Legible, foundAt, walkedBy}
 use Rattle.request.proofs.Placing.{length-filled, filled-full, length-extension}
 use Rattle.request.proofs.Sizes.{length-header, field-covers, field-least, field-fours, field-most}
@@ -215,49 +215,49 @@ behind-other cookie asked =
 
 -- ---- the packet
 
-reference-fits : (kind : SendKind) (mark : ℕ) → mark < 2 ^ 64 → referenceOf kind mark < 2 ^ 64
-reference-fits V4 mark h = lit< tt
-reference-fits V4Upgrade mark h = h
-reference-fits V5 mark h = lit< tt
-reference-fits NtsV4 mark h = lit< tt
-reference-fits NtsV5 mark h = lit< tt
+reftime-fits : (kind : SendKind) (upgrademark : ℕ) → upgrademark < 2 ^ 64 → reftimeOf kind upgrademark < 2 ^ 64
+reftime-fits V4 upgrademark h = lit< tt
+reftime-fits V4Upgrade upgrademark h = h
+reftime-fits V5 upgrademark h = lit< tt
+reftime-fits NtsV4 upgrademark h = lit< tt
+reftime-fits NtsV5 upgrademark h = lit< tt
 
-module _ (kind : SendKind) (poll : PollInterval) (id mark : ℕ) (uid cookie : List ℕ) (asked : ℕ) where
+module _ (kind : SendKind) (poll : PollInterval) (id upgrademark : ℕ) (uid cookie : List ℕ) (asked : ℕ) where
   abbrev packet : List ℕ
-  packet = packetOf kind poll id mark uid cookie asked
+  packet = packetOf kind poll id upgrademark uid cookie asked
 
   abbrev front : List ℕ
-  front = bytesOf (headerFor kind poll id mark)
+  front = bytesOf (headerFor kind poll id upgrademark)
 
   front-long : length front ≡ 48
-  front-long = length-header (headerFor kind poll id mark)
+  front-long = length-header (headerFor kind poll id upgrademark)
 
-  fit : SFits w8 (poll .0) → id < 2 ^ 64 → mark < 2 ^ 64 → Fit (headerFor kind poll id mark)
+  fit : SFits w8 (poll .0) → id < 2 ^ 64 → upgrademark < 2 ^ 64 → Fit (headerFor kind poll id upgrademark)
   unfolding headerFor
   fit p i m =
       record {
         stratum = lit< tt;
         poll = p;
         precision = record { sfits = lit< tt };
-        delay = lit< tt;
-        dispersion = lit< tt;
+        rootdelay = lit< tt;
+        rootdisp = lit< tt;
         refid = lit< tt;
-        reference = reference-fits kind mark m;
+        reftime = reftime-fits kind upgrademark m;
         origin = lit< tt;
         receive = lit< tt;
         transmit = i;
       }
 
   -- the same header, of every kind and whatever stands behind
-  pub header-read : SFits w8 (poll .0) → id < 2 ^ 64 → mark < 2 ^ 64 → (rest : List ℕ) → headerOf (packet ++ rest) ≡ Decoded (headerFor kind poll id mark)
+  pub header-read : SFits w8 (poll .0) → id < 2 ^ 64 → upgrademark < 2 ^ 64 → (rest : List ℕ) → headerOf (packet ++ rest) ≡ Decoded (headerFor kind poll id upgrademark)
   unfolding packetOf withFields
   header-read p i m rest = go (hasNts kind)
     where
-      go : (t : Bool) → headerOf (cond t (withFields front uid cookie asked) front ++ rest) ≡ Decoded (headerFor kind poll id mark)
+      go : (t : Bool) → headerOf (cond t (withFields front uid cookie asked) front ++ rest) ≡ Decoded (headerFor kind poll id upgrademark)
       go true =
           let fs = allBytes (fieldsFor uid cookie asked) in
-          ap headerOf (append-assoc front fs rest) ∙ header-front front (fs ++ rest) (omega (arith, front-long)) ∙ read-write (headerFor kind poll id mark) (fit p i m)
-      go false = header-front front rest (omega (arith, front-long)) ∙ read-write (headerFor kind poll id mark) (fit p i m)
+          ap headerOf (append-assoc front fs rest) ∙ header-front front (fs ++ rest) (omega (arith, front-long)) ∙ read-write (headerFor kind poll id upgrademark) (fit p i m)
+      go false = header-front front rest (omega (arith, front-long)) ∙ read-write (headerFor kind poll id upgrademark) (fit p i m)
 
   module _ (nts : hasNts kind ≡ true) (size : length uid ≡ 32) (short : length cookie ≤ 724) (rest : List ℕ) where
     laid : packet ++ rest ≡ front ++ (allBytes (fieldsFor uid cookie asked) ++ rest)

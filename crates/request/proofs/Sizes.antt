@@ -15,7 +15,7 @@ use Rattle.header.specs.Header.{bytesOf, placed}
 use Rattle.fields.specs.Matching.{uidKind}
 use Rattle.fields.specs.Collector.{cookieKind}
 use Rattle.request.specs.Extension.{extension, filled, fieldLength, extensionBytes, allBytes}
-use Rattle.request.specs.Request.{askHolds, carrying, placeholder, fieldsFor, withFields}
+use Rattle.request.specs.Request.{askValid, carrying, placeholder, fieldsFor, withFields}
 use Rattle.request.proofs.Placing.{placed-behind, placed-front, filled-full, length-extension, length-placeholders}
 
 -- ---- a field's length: it covers head and body, is at least 16 and a multiple of four
@@ -42,7 +42,7 @@ unfolding bytesOf
 length-header h = refl
 
 -- what a request may ask for, and that its fields are few bytes
-pub asks : (len asked : ℕ) → askHolds len asked ≡ true → (len ≤ 724) × (1 ≤ asked) × (asked ≤ 8)
+pub asks : (len asked : ℕ) → askValid len asked ≡ true → (len ≤ 724) × (1 ≤ asked) × (asked ≤ 8)
 asks len asked e =
     let a = both (leb len 724) (leb 1 asked && leb asked 8) e in
     let b = both (leb 1 asked) (leb asked 8) (a .1) in

@@ -6,8 +6,8 @@ use mathlib.Core.List.{List, _++_}
 use lib.Dec.{ltb}
 use lib.ListN.{length, drop}
 use Rattle.time_types.specs.declared.PollInterval.{PollInterval}
-use Rattle.timer.specs.declared.SendKind.{SendKind}
-use Rattle.request.specs.Request.{isV5, hasNts, askHolds, packetOf}
+use Rattle.version.specs.declared.SendKind.{SendKind}
+use Rattle.request.specs.Request.{isV5, hasNts, askValid, packetOf}
 use Rattle.request.specs.declared.Requested.{Requested}
 use Rattle.request.specs.declared.Requested.the-variants.{Written, VersionFive, ShortBuffer, CookieOrCount}
 
@@ -24,10 +24,10 @@ fitted long room = cond (ltb room long) ShortBuffer (Written long)
 
 -- 50, then with NTS 52, then 51; else the length up to the authenticator's place
 unfoldable pub requestOf : SendKind → PollInterval → ℕ → ℕ → List ℕ → List ℕ → ℕ → ℕ → Requested
-requestOf kind poll id mark uid cookie asked room =
+requestOf kind poll id upgrademark uid cookie asked room =
     cond (isV5 kind) VersionFive
-    (cond (hasNts kind && not (askHolds (length cookie) asked)) CookieOrCount
-    (fitted (length (packetOf kind poll id mark uid cookie asked)) room))
+    (cond (hasNts kind && not (askValid (length cookie) asked)) CookieOrCount
+    (fitted (length (packetOf kind poll id upgrademark uid cookie asked)) room))
 
 -- the packet from the start on and the bytes past it untouched, or nothing written
 abbrev pub leftIn : List ℕ → List ℕ → Requested → List ℕ
@@ -36,6 +36,13 @@ leftIn packet out VersionFive = out
 leftIn packet out ShortBuffer = out
 leftIn packet out CookieOrCount = out
 
+-- of a packet: what is answered, and what is left in the buffer
+abbrev pub answerFor : List ℕ → List ℕ → Requested
+answerFor packet out = fitted (length packet) (length out)
+
+abbrev pub bufferFor : List ℕ → List ℕ → List ℕ
+bufferFor packet out = leftIn packet out (answerFor packet out)
+
 unfoldable pub bufferOf : SendKind → PollInterval → ℕ → ℕ → List ℕ → List ℕ → ℕ → List ℕ → List ℕ
-bufferOf kind poll id mark uid cookie asked out =
-    leftIn (packetOf kind poll id mark uid cookie asked) out (requestOf kind poll id mark uid cookie asked (length out))
+bufferOf kind poll id upgrademark uid cookie asked out =
+    leftIn (packetOf kind poll id upgrademark uid cookie asked) out (requestOf kind poll id upgrademark uid cookie asked (length out))

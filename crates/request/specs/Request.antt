@@ -16,8 +16,8 @@ use Rattle.header.specs.declared.Mode.the-variants as mode
 use Rattle.header.specs.Header.{bytesOf}
 use Rattle.fields.specs.Matching.{uidKind}
 use Rattle.fields.specs.Collector.{cookieKind}
-use Rattle.timer.specs.declared.SendKind.{SendKind}
-use Rattle.timer.specs.declared.SendKind.the-variants.{V4, V4Upgrade, V5, NtsV4, NtsV5}
+use Rattle.version.specs.declared.SendKind.{SendKind}
+use Rattle.version.specs.declared.SendKind.the-variants.{V4, V4Upgrade, V5, NtsV4, NtsV5}
 use Rattle.request.specs.Extension.{Extension, extension, fieldLength, allBytes}
 
 -- ---- the five kinds
@@ -37,22 +37,22 @@ hasNts NtsV4 = true
 hasNts NtsV5 = true
 
 -- a cookie of at most 724 bytes, and 1 to 8 asked for
-abbrev pub askHolds : ℕ → ℕ → Bool
-askHolds len asked = leb len 724 && (leb 1 asked && leb asked 8)
+abbrev pub askValid : ℕ → ℕ → Bool
+askValid len asked = leb len 724 && (leb 1 asked && leb asked 8)
 
 -- ---- the header
 
 -- the upgrade request has the mark as reference timestamp
-abbrev pub referenceOf : SendKind → ℕ → ℕ
-referenceOf V4 mark = 0
-referenceOf V4Upgrade mark = mark
-referenceOf V5 mark = 0
-referenceOf NtsV4 mark = 0
-referenceOf NtsV5 mark = 0
+abbrev pub reftimeOf : SendKind → ℕ → ℕ
+reftimeOf V4 upgrademark = 0
+reftimeOf V4Upgrade upgrademark = upgrademark
+reftimeOf V5 upgrademark = 0
+reftimeOf NtsV4 upgrademark = 0
+reftimeOf NtsV5 upgrademark = 0
 
 -- leap 0, version 4, mode 3, the last poll, the pending 64 bits as transmit timestamp; all else is zero
 unfoldable pub headerFor : SendKind → PollInterval → ℕ → ℕ → Header
-headerFor kind poll id mark =
+headerFor kind poll id upgrademark =
     record {
       version = version.V4;
       leap = leap.NoWarning;
@@ -60,10 +60,10 @@ headerFor kind poll id mark =
       stratum = 0;
       poll = poll;
       precision = pos 0;
-      delay = 0;
-      dispersion = 0;
+      rootdelay = 0;
+      rootdisp = 0;
       refid = named 0;
-      reference = timestamp (referenceOf kind mark);
+      reftime = timestamp (reftimeOf kind upgrademark);
       origin = timestamp 0;
       receive = timestamp 0;
       transmit = timestamp id;
@@ -94,7 +94,7 @@ withFields front uid cookie asked = front ++ allBytes (fieldsFor uid cookie aske
 
 -- the header, and with NTS the fields
 unfoldable pub packetOf : SendKind → PollInterval → ℕ → ℕ → List ℕ → List ℕ → ℕ → List ℕ
-packetOf kind poll id mark uid cookie asked =
+packetOf kind poll id upgrademark uid cookie asked =
     cond (hasNts kind)
-    (withFields (bytesOf (headerFor kind poll id mark)) uid cookie asked)
-    (bytesOf (headerFor kind poll id mark))
+    (withFields (bytesOf (headerFor kind poll id upgrademark)) uid cookie asked)
+    (bytesOf (headerFor kind poll id upgrademark))

@@ -1,4 +1,8 @@
 // The request writer (document 02, No. 1): the packet of a poll, up to the place where the caller's authenticator goes.
+use cookielist::MAX_COOKIE;
+use fields::COOKIE_KIND;
+use fields::UID_KIND;
+use header::HEADER_BYTES;
 use header::Header;
 use header::HeaderVersion;
 use header::Leap;
@@ -6,36 +10,28 @@ use header::Mode;
 use identifiers::ReferenceId;
 use time_types::NtpTimestamp;
 use time_types::PollInterval;
-use timer::SendKind;
+use version::SendKind;
 ghost use mathlib.Core.Path.{_≡_};
 ghost use mathlib.Core.Bool.{true};
 ghost use Prim.Native.Nat.{_+_, _*_, _-_, _≤_, _<_};
 ghost use lib.ListN.{length, getD, replicate};
 ghost use Rattle.header.specs.Header.{placed, bytesOf};
 ghost use Rattle.request.specs.Extension.{extension, filled, fieldLength, extensionBytes, allBytes};
-ghost use Rattle.request.specs.Request.{isV5, hasNts, askHolds, referenceOf, headerFor, placeholder, fieldsFor, withFields};
-ghost use Rattle.request.specs.Answer.{numberOf, fitted, leftIn, requestOf, bufferOf};
-
-const HEADER: usize = 48;
+ghost use Rattle.request.specs.Request.{isV5, hasNts, askValid, reftimeOf, headerFor, placeholder, fieldsFor, withFields};
+ghost use Rattle.request.specs.Answer.{numberOf, answerFor, bufferFor, requestOf, bufferOf};
 
 // A field starts with its type and its length.
 const HEAD: usize = 4;
 
-// The types of the fields that a request carries.
-const UID: u16 = 0x0104;
-
-const COOKIE: u16 = 0x0204;
-
-const PLACEHOLDER: u16 = 0x0304;
+// The type of a field that asks for one cookie more.
+const PLACEHOLDER_KIND: u16 = 0x0304;
 
 // How long the uid's field is, and all that stands in front of the cookie's.
 const UID_FIELD: usize = 36;
 
 const IN_FRONT: usize = 84;
 
-// The longest cookie, and the most new ones that a request asks for.
-const MAX_COOKIE: usize = 724;
-
+// The most new cookies that a request asks for.
 const MAX_ASKED: u8 = 8;
 
 // The packet's length where it is in the buffer, or why nothing was written.
@@ -85,12 +81,12 @@ fn has_nts(kind: SendKind) -> bool
 }
 
 // The mark stands in an upgrade request, and nothing in any other.
-fn reference(kind: SendKind, mark: u64) -> u64
-    ensures { λ r. ⌜ r ≡ referenceOf kind mark ⌝ }
+fn reftime(kind: SendKind, upgrademark: u64) -> u64
+    ensures { λ r. ⌜ r ≡ reftimeOf kind upgrademark ⌝ }
 {
     match kind {
         SendKind::V4 => 0,
-        SendKind::V4Upgrade => mark,
+        SendKind::V4Upgrade => upgrademark,
         SendKind::V5 => 0,
         SendKind::NtsV4 => 0,
         SendKind::NtsV5 => 0,
@@ -98,8 +94,8 @@ fn reference(kind: SendKind, mark: u64) -> u64
 }
 
 // Whether a cookie of a length may be sent and so many new ones be asked for.
-fn ask_holds(len: usize, asked: u8) -> bool
-    ensures { λ r. ⌜ r ≡ askHolds len asked ⌝ }
+fn ask_valid(len: usize, asked: u8) -> bool
+    ensures { λ r. ⌜ r ≡ askValid len asked ⌝ }
 {
     if len <= MAX_COOKIE {
         if 1 <= asked {
@@ -121,8 +117,8 @@ fn field_length(len: usize) -> usize
     if long < 16 { 16 } else { long }
 }
 
-fn request_header(kind: SendKind, poll: PollInterval, id: u64, mark: u64) -> Header
-    ensures { λ r. ⌜ r ≡ headerFor kind poll id mark ⌝ }
+fn request_header(kind: SendKind, poll: PollInterval, id: u64, upgrademark: u64) -> Header
+    ensures { λ r. ⌜ r ≡ headerFor kind poll id upgrademark ⌝ }
 {
     Header {
         version: HeaderVersion::V4,
@@ -131,10 +127,10 @@ fn request_header(kind: SendKind, poll: PollInterval, id: u64, mark: u64) -> Hea
         stratum: 0,
         poll,
         precision: 0,
-        delay: 0,
-        dispersion: 0,
+        rootdelay: 0,
+        rootdisp: 0,
         refid: ReferenceId(0),
-        reference: NtpTimestamp(reference(kind, mark)),
+        reftime: NtpTimestamp(reftime(kind, upgrademark)),
         origin: NtpTimestamp(0),
         receive: NtpTimestamp(0),
         transmit: NtpTimestamp(id),
@@ -178,17 +174,17 @@ fn put_placeholders(out: &mut [u8], first: usize, len: usize, n: usize) -> usize
     let mut at = first;
     let mut i = 0;
     while i < n {
-        at = put_field(out, at, PLACEHOLDER, len, b"");
+        at = put_field(out, at, PLACEHOLDER_KIND, len, b"");
         i += 1;
     }
     at
 }
 
 // The header's bytes.
-fn header_bytes(kind: SendKind, poll: PollInterval, id: u64, mark: u64) -> [u8; 48]
-    ensures { λ r. ⌜ r ≡ bytesOf (headerFor kind poll id mark) ⌝ }
+fn header_bytes(kind: SendKind, poll: PollInterval, id: u64, upgrademark: u64) -> [u8; 48]
+    ensures { λ r. ⌜ r ≡ bytesOf (headerFor kind poll id upgrademark) ⌝ }
 {
-    header::write_header(request_header(kind, poll, id, mark))
+    header::write_header(request_header(kind, poll, id, upgrademark))
 }
 
 // The fields behind the header, of which the cookie's has a length; gives the offset behind them.
@@ -196,33 +192,33 @@ fn put_fields(out: &mut [u8], uid: [u8; 32], cookie: &[u8], len: usize, asked: u
     requires { ⌜ (84 + asked * len ≤ length (now out)) × (len ≡ fieldLength (length (now cookie))) × (length (now cookie) ≤ 724) × (1 ≤ asked) ⌝ }
     ensures { λ r. ⌜ (r ≡ 84 + asked * len) × (now (out .exit) ≡ placed (now (out .entry)) 48 (allBytes (fieldsFor uid (now (cookie .entry)) asked))) ⌝ }
 {
-    let first = put_field(out, HEADER, UID, UID_FIELD, &uid);
-    let second = put_field(out, first, COOKIE, len, cookie);
+    let first = put_field(out, HEADER_BYTES, UID_KIND, UID_FIELD, &uid);
+    let second = put_field(out, first, COOKIE_KIND, len, cookie);
     put_placeholders(out, second, len, asked - 1)
 }
 
 // A packet that is a header alone.
 fn write_plain(front: [u8; 48], out: &mut [u8]) -> Requested
-    ensures { λ r. ⌜ (r ≡ fitted (length front) (length (now (out .entry)))) × (now (out .exit) ≡ leftIn front (now (out .entry)) (fitted (length front) (length (now (out .entry))))) ⌝ }
+    ensures { λ r. ⌜ (r ≡ answerFor front (now (out .entry))) × (now (out .exit) ≡ bufferFor front (now (out .entry))) ⌝ }
 {
-    if out.len() < HEADER {
+    if out.len() < HEADER_BYTES {
         return Requested::ShortBuffer;
     }
-    put(out, 0, &front, HEADER);
-    Requested::Written(HEADER)
+    put(out, 0, &front, HEADER_BYTES);
+    Requested::Written(HEADER_BYTES)
 }
 
 // A packet of a header and the fields of NTS.
 fn write_nts(front: [u8; 48], uid: [u8; 32], cookie: &[u8], asked: u8, out: &mut [u8]) -> Requested
-    requires { ⌜ askHolds (length (now cookie)) asked ≡ true ⌝ }
-    ensures { λ r. ⌜ (r ≡ fitted (length (withFields front uid (now (cookie .entry)) asked)) (length (now (out .entry)))) × (now (out .exit) ≡ leftIn (withFields front uid (now (cookie .entry)) asked) (now (out .entry)) (fitted (length (withFields front uid (now (cookie .entry)) asked)) (length (now (out .entry))))) ⌝ }
+    requires { ⌜ askValid (length (now cookie)) asked ≡ true ⌝ }
+    ensures { λ r. ⌜ (r ≡ answerFor (withFields front uid (now (cookie .entry)) asked) (now (out .entry))) × (now (out .exit) ≡ bufferFor (withFields front uid (now (cookie .entry)) asked) (now (out .entry))) ⌝ }
 {
     let len = field_length(cookie.len());
     let new = asked as usize;
     if out.len() < IN_FRONT + new * len {
         return Requested::ShortBuffer;
     }
-    put(out, 0, &front, HEADER);
+    put(out, 0, &front, HEADER_BYTES);
     Requested::Written(put_fields(out, uid, cookie, len, new))
 }
 
@@ -231,20 +227,20 @@ pub fn write_request(
     kind: SendKind,
     poll: PollInterval,
     id: u64,
-    mark: u64,
+    upgrademark: u64,
     uid: [u8; 32],
     cookie: &[u8],
     asked: u8,
     out: &mut [u8],
 ) -> Requested
-    ensures { λ r. ⌜ (r ≡ requestOf kind poll id mark uid (now (cookie .entry)) asked (length (now (out .entry)))) × (now (out .exit) ≡ bufferOf kind poll id mark uid (now (cookie .entry)) asked (now (out .entry))) ⌝ }
+    ensures { λ r. ⌜ (r ≡ requestOf kind poll id upgrademark uid (now (cookie .entry)) asked (length (now (out .entry)))) × (now (out .exit) ≡ bufferOf kind poll id upgrademark uid (now (cookie .entry)) asked (now (out .entry))) ⌝ }
 {
     if is_v5(kind) {
         return Requested::VersionFive;
     }
-    let front = header_bytes(kind, poll, id, mark);
+    let front = header_bytes(kind, poll, id, upgrademark);
     if has_nts(kind) {
-        if !ask_holds(cookie.len(), asked) {
+        if !ask_valid(cookie.len(), asked) {
             return Requested::CookieOrCount;
         }
         return write_nts(front, uid, cookie, asked, out);

@@ -1,100 +1,86 @@
--- What the timer leaves: on 21, 22, 31 and 32 the record; on every number but 20 the pending request, the poll values and the buffer; always the settings and what the source said.
--- On 20 the request and the poll value are the new ones.
+-- What the timer leaves: on 21, 22, 31 and 32 the record; on every number but 20 the pending request, the poll values and the buffer;
+-- always the settings and what the source said. On 20 the request and the poll value are the new ones.
 -- Assumes nothing.
-use mathlib.Core.Path.{_≡_, refl}
-use mathlib.Core.Bool.{Bool, true, _||_}
+use mathlib.Core.Path.{_≡_, refl, ap, _∙_}
+use mathlib.Core.Bool.{Bool, _||_, cond}
 use mathlib.Core.List.{List}
 use Prim.Native.Nat.{ℕ}
-use native.Mathlib.Omega.{arith}
-use lib.Dec.{eqb}
+use lib.Dec.{T, eqb}
 use lib.ListN.{length}
-use Rattle.cookiestash.specs.Stash.{getOf}
-use Rattle.time_types.specs.declared.PollInterval.{PollInterval}
+use borrow.Author.Tests.{eq-eqb, ne-eqb}
+use Rattle.words.proofs.Tests.{when, unless}
 use Rattle.association.specs.declared.Association.{Association}
-use Rattle.association.specs.New.{withStash}
+use Rattle.association.specs.declared.Polls.{Polls}
+use Rattle.timer_rules.specs.declared.TimerInput.{TimerInput}
+use Rattle.timer_rules.specs.Answer.{numberOf}
+use Rattle.timer_rules.specs.Poll.{triedOf, pollOf, pendingOf, sentOf}
 use Rattle.timer.specs.declared.TimerOut.{TimerOut}
-use Rattle.timer.specs.Answer.{numberOf}
-use Rattle.timer.specs.Poll.{triedOf, pollOf, requestOf, sentOf}
-use Rattle.timer.specs.Timer.{timerOf, written, bufferOf}
-use Rattle.timer.proofs.Cases.{Case, cases, not-whole, short-buffer, demobilize, reset, no-cookie, too-large, sent, sent-nts}
-use Rattle.timer.proofs.Numbers.{never}
+use Rattle.timer.specs.Timer.{handed, timerOf, bufferOf}
+use Rattle.timer.specs.Numbers.{Given, not-whole, short-buffer, demobilize, reset, no-cookie, too-large, sent, sent-nts}
+use Rattle.timer.proofs.Numbers.{given}
 
 -- the numbers that leave the record as it was
 abbrev pub leaves : ℕ → Bool
 leaves n = eqb n 21 || eqb n 22 || eqb n 31 || eqb n 32
 
--- what holds on every number, and on those but 20
+-- what a timer that gives the number n leaves
+pub record Rang (a : Association) (i : TimerInput) (n : ℕ) (o : TimerOut) : Type 0 where
+  pub settings : o .association .settings ≡ a .settings
+  pub source : o .association .state .source ≡ a .state .source
+  pub request : o .association .state .request ≡ cond (eqb n 20) (pendingOf (a .settings .nts) (a .settings .window) i) (a .state .request)
+  pub polls : o .association .state .polls ≡ cond (eqb n 20) (record { last = pollOf (i .desired) (a .state .polls .remote); remote = a .state .polls .remote }) (a .state .polls)
+  pub same : T (leaves n) → o .association ≡ a
+  pub nothing : (n ≡ 20 → ⊥) → handed (o .answer) ≡ 0
+
+module _ (a : Association) (i : TimerInput) (room : ℕ) where
+  rung : {n : ℕ} {o : TimerOut} → Given a i room n o → Rang a i n o
+  unfolding triedOf sentOf
+  rung (not-whole w) = record { settings = refl; source = refl; request = refl; polls = refl; same = λ _. refl; nothing = λ _. refl }
+  rung (short-buffer w s) = record { settings = refl; source = refl; request = refl; polls = refl; same = λ _. refl; nothing = λ _. refl }
+  rung (demobilize c o d) = record { settings = refl; source = refl; request = refl; polls = refl; same = λ _. refl; nothing = λ _. refl }
+  rung (reset c o d) = record { settings = refl; source = refl; request = refl; polls = refl; same = λ _. refl; nothing = λ _. refl }
+  rung (no-cookie t n h) = record { settings = refl; source = refl; request = refl; polls = refl; same = absurd; nothing = λ _. refl }
+  rung (too-large k z) = record { settings = refl; source = refl; request = refl; polls = refl; same = absurd; nothing = λ _. refl }
+  rung (sent t n) = record { settings = refl; source = refl; request = refl; polls = refl; same = absurd; nothing = λ u. absurd (u refl) }
+  rung (sent-nts k z) = record { settings = refl; source = refl; request = refl; polls = refl; same = absurd; nothing = λ u. absurd (u refl) }
+
+  pub rang : Rang a i (numberOf (timerOf a i room .answer)) (timerOf a i room)
+  rang = rung (given a i room)
+
+-- ---- number by number
+
+-- what holds on every number, on those but 20, and on 20
 pub record Stays (a next : Association) : Type 0 where
   pub settings : next .settings ≡ a .settings
-  pub source : next .source ≡ a .source
+  pub source : next .state .source ≡ a .state .source
 
 pub record Waits (a next : Association) (buffer last : List ℕ) : Type 0 where
-  pub request : next .request ≡ a .request
-  pub polls : next .polls ≡ a .polls
+  pub request : next .state .request ≡ a .state .request
+  pub polls : next .state .polls ≡ a .state .polls
   pub untouched : last ≡ buffer
 
-pub record Asks (a next : Association) (time : ℕ) (desired : PollInterval) (id : ℕ) (uid : List ℕ) : Type 0 where
-  pub request : next .request ≡ requestOf (a .settings .nts) time (a .settings .window) id uid
-  pub last : next .polls .last ≡ pollOf desired (a .polls .remote)
-  pub remote : next .polls .remote ≡ a .polls .remote
+pub record Asks (a next : Association) (i : TimerInput) : Type 0 where
+  pub request : next .state .request ≡ pendingOf (a .settings .nts) (a .settings .window) i
+  pub last : next .state .polls .last ≡ pollOf (i .desired) (a .state .polls .remote)
+  pub remote : next .state .polls .remote ≡ a .state .polls .remote
 
-module _ (a : Association) (time : ℕ) (desired : PollInterval) (id : ℕ) (uid : List ℕ) (room : ℕ) where
-  same : (o : TimerOut) → Case a time desired id uid room o → leaves (numberOf (o .answer)) ≡ true → o .association ≡ a
-  same o (not-whole w) e = refl
-  same o (short-buffer w s) e = refl
-  same o (demobilize w s v d) e = refl
-  same o (reset w s v d) e = refl
-  same o (no-cookie w s v n f) e = never _ e refl
-  same o (too-large w s v n f z) e = never _ e refl
-  same o (sent w s v n) e = never _ e refl
-  same o (sent-nts w s v n f z) e = never _ e refl
+module _ (a : Association) (i : TimerInput) (buffer : List ℕ) where
+  pub record-left : T (leaves (numberOf (timerOf a i (length buffer) .answer))) → timerOf a i (length buffer) .association ≡ a
+  record-left t = rang a i (length buffer) .same t
 
-  stays : (o : TimerOut) → Case a time desired id uid room o → Stays a (o .association)
-  unfolding triedOf withStash sentOf
-  stays o (not-whole w) = record { settings = refl; source = refl }
-  stays o (short-buffer w s) = record { settings = refl; source = refl }
-  stays o (demobilize w s v d) = record { settings = refl; source = refl }
-  stays o (reset w s v d) = record { settings = refl; source = refl }
-  stays o (no-cookie w s v n f) = record { settings = refl; source = refl }
-  stays o (too-large w s v n f z) = record { settings = refl; source = refl }
-  stays o (sent w s v n) = record { settings = refl; source = refl }
-  stays o (sent-nts w s v n f z) = record { settings = refl; source = refl }
+  pub settings-left : Stays a (timerOf a i (length buffer) .association)
+  settings-left = let r = rang a i (length buffer) in record { settings = r .settings; source = r .source }
 
-  waits : (cookie buffer : List ℕ) (o : TimerOut) → Case a time desired id uid room o → (numberOf (o .answer) ≡ 20 → ⊥) → Waits a (o .association) buffer (written (a .settings .nts) cookie (o .answer) buffer)
-  unfolding triedOf withStash
-  waits k b o (not-whole w) u = record { request = refl; polls = refl; untouched = refl }
-  waits k b o (short-buffer w s) u = record { request = refl; polls = refl; untouched = refl }
-  waits k b o (demobilize w s v d) u = record { request = refl; polls = refl; untouched = refl }
-  waits k b o (reset w s v d) u = record { request = refl; polls = refl; untouched = refl }
-  waits k b o (no-cookie w s v n f) u = record { request = refl; polls = refl; untouched = refl }
-  waits k b o (too-large w s v n f z) u = record { request = refl; polls = refl; untouched = refl }
-  waits k b o (sent w s v n) u = absurd (u refl)
-  waits k b o (sent-nts w s v n f z) u = absurd (u refl)
-
-  asks : (o : TimerOut) → Case a time desired id uid room o → numberOf (o .answer) ≡ 20 → Asks a (o .association) time desired id uid
-  unfolding triedOf withStash sentOf
-  asks o (not-whole w) e = absurd (omega arith)
-  asks o (short-buffer w s) e = absurd (omega arith)
-  asks o (demobilize w s v d) e = absurd (omega arith)
-  asks o (reset w s v d) e = absurd (omega arith)
-  asks o (no-cookie w s v n f) e = absurd (omega arith)
-  asks o (too-large w s v n f z) e = absurd (omega arith)
-  asks o (sent w s v n) e = record { request = refl; last = refl; remote = refl }
-  asks o (sent-nts w s v n f z) e = record { request = refl; last = refl; remote = refl }
-
--- ---- of the timer
-
-module _ (a : Association) (time : ℕ) (desired : PollInterval) (id : ℕ) (uid buffer : List ℕ) where
-  pub record-left : leaves (numberOf (timerOf a time desired id uid (length buffer) .answer)) ≡ true → timerOf a time desired id uid (length buffer) .association ≡ a
-  record-left e = same a time desired id uid (length buffer) _ (cases a time desired id uid (length buffer)) e
-
-  pub settings-left : Stays a (timerOf a time desired id uid (length buffer) .association)
-  settings-left = stays a time desired id uid (length buffer) _ (cases a time desired id uid (length buffer))
-
-  pub pending-left : (numberOf (timerOf a time desired id uid (length buffer) .answer) ≡ 20 → ⊥)
-      → Waits a (timerOf a time desired id uid (length buffer) .association) buffer (bufferOf a time desired id uid buffer)
+  pub pending-left : (numberOf (timerOf a i (length buffer) .answer) ≡ 20 → ⊥) → Waits a (timerOf a i (length buffer) .association) buffer (bufferOf a i buffer)
   unfolding bufferOf
-  pending-left u = waits a time desired id uid (length buffer) (getOf 8 (a .stash) .slot .bytes) buffer _ (cases a time desired id uid (length buffer)) u
+  pending-left u =
+      let r = rang a i (length buffer) in
+      let e = ne-eqb _ _ u in
+      record { request = r .request ∙ unless _ _ e; polls = r .polls ∙ unless _ _ e; untouched = rw (r .nothing u) }
 
-  pub asked-anew : numberOf (timerOf a time desired id uid (length buffer) .answer) ≡ 20 → Asks a (timerOf a time desired id uid (length buffer) .association) time desired id uid
-  asked-anew e = asks a time desired id uid (length buffer) _ (cases a time desired id uid (length buffer)) e
+  pub asked-anew : numberOf (timerOf a i (length buffer) .answer) ≡ 20 → Asks a (timerOf a i (length buffer) .association) i
+  asked-anew n =
+      let r = rang a i (length buffer) in
+      let e = eq-eqb _ _ n in
+      let p = r .polls ∙ when _ _ e in
+      record { request = r .request ∙ when _ _ e; last = ap (λ (x : Polls). x .last) p; remote = ap (λ (x : Polls). x .remote) p }

@@ -1,6 +1,4 @@
 -- Laws that belong to no one function.
-pub mod Count
-pub mod Cases
 pub mod Numbers
 pub mod After
 pub mod Kept

@@ -75,8 +75,8 @@ fn show_small(name: &[u8], h: Header) {
 
 fn show_words(name: &[u8], h: Header) {
     out::text(name);
-    out::say_word(b": delay ", h.delay);
-    out::say_word(b" dispersion ", h.dispersion);
+    out::say_word(b": delay ", h.rootdelay);
+    out::say_word(b" dispersion ", h.rootdisp);
     out::say_word(b" refid ", h.refid.0);
     out::line_end();
 }
@@ -102,7 +102,7 @@ fn show_header(name: &[u8], h: Header) {
     out::line_end();
     show_small(name, h);
     show_words(name, h);
-    show_time(name, b": reference ", h.reference.0);
+    show_time(name, b": reference ", h.reftime.0);
     show_time(name, b": origin ", h.origin.0);
     show_time(name, b": receive ", h.receive.0);
     show_time(name, b": transmit ", h.transmit.0);

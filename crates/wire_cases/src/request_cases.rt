@@ -2,7 +2,7 @@
 use crate::build;
 use crate::out;
 use time_types::PollInterval;
-use timer::SendKind;
+use version::SendKind;
 
 struct Case {
     kind: SendKind,
@@ -60,8 +60,17 @@ fn write(kind: SendKind, cookie: &[u8], asked: u8, room: &mut [u8]) {
     let mut uid = [0u8; 32];
     build::count_up(&mut uid, 0, 32, 0xa0);
     let id = 0x0102030405060708;
-    let mark = 0x1112131415161718;
-    let answer = request::write_request(kind, PollInterval(-2), id, mark, uid, cookie, asked, room);
+    let upgrademark = 0x1112131415161718;
+    let answer = request::write_request(
+        kind,
+        PollInterval(-2),
+        id,
+        upgrademark,
+        uid,
+        cookie,
+        asked,
+        room,
+    );
     show_case(kind, cookie.len(), asked, room.len());
     out::say_byte(b": number ", answer.number());
     out::text(b" buffer ");

@@ -78,7 +78,7 @@ fn show_packet(bytes: &[u8], end: usize) {
 
 fn show_plain(bytes: &[u8]) {
     out::text(b": encrypted ");
-    show(matching::plain_uid(bytes, uid()));
+    show(matching::decrypted_uid(bytes, uid()));
     out::line_end();
 }
 

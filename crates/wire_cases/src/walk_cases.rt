@@ -45,9 +45,9 @@ fn packet_answer(bytes: &[u8]) {
 }
 
 fn plain_answer(bytes: &[u8]) {
-    show_step(fields::plain_field_at(bytes, 0));
+    show_step(fields::decrypted_field_at(bytes, 0));
     out::text(b", walk ");
-    show_walk(fields::plain_walk(bytes));
+    show_walk(fields::decrypted_walk(bytes));
     out::line_end();
 }
 
@@ -68,7 +68,7 @@ pub fn tail_case(bytes: &[u8], count: usize) {
 pub fn plain_tail_case(bytes: &[u8], count: usize) {
     out::say_size(b"plain tail of ", count);
     out::text(b": ");
-    show_walk(fields::plain_walk(build::first(bytes, count)));
+    show_walk(fields::decrypted_walk(build::first(bytes, count)));
     out::line_end();
 }
 
@@ -139,7 +139,7 @@ fn packet_offset_case(bytes: &[u8], at: usize) {
 fn plain_offset_case(bytes: &[u8], at: usize) {
     out::say_size(b"offset ", at);
     out::text(b" of 8: plain ");
-    show_step(fields::plain_field_at(build::first(bytes, 8), at));
+    show_step(fields::decrypted_field_at(build::first(bytes, 8), at));
     out::line_end();
 }
 

@@ -22,7 +22,7 @@ returns c = rw (sym (c .before .whole .ensures) ∙ not-true _ (c .if1 .taken))
 
 returns-2 : tie.Need-returns-2
 unfolding acceptOf
-returns-2 c = let w = c .before .before .before in rw (whole w, le-leb _ _ (c .if2 .taken))
+returns-2 c = let w = c .before .before .before .before in rw (whole w, le-leb _ _ (c .if2 .taken))
 
 is-loop-requires : tie.Need-is-loop-requires
 is-loop-requires c κs = search needs
@@ -31,7 +31,7 @@ returns-3 : tie.Need-returns-3
 unfolding acceptOf
 returns-3 c =
     let s = c .before .before .before .before in
-    rw (whole (s .before .before .before), lt-leb _ _ (s .if2 .left), sym (c .before .is-loop .ensures) ∙ c .if3 .taken)
+    rw (whole (s .before .before .before .before), lt-leb _ _ (s .if2 .left), sym (c .before .is-loop .ensures) ∙ c .if3 .taken)
 
 is-reachable-requires : tie.Need-is-reachable-requires
 is-reachable-requires c κs = search needs
@@ -41,14 +41,14 @@ unfolding acceptOf
 returns-4 c =
     let l = c .before .before .before .before in
     let s = l .before .before .before .before in
-    rw (whole (s .before .before .before), lt-leb _ _ (s .if2 .left), sym (l .before .is-loop .ensures) ∙ l .if3 .left, sym (c .before .is-reachable .ensures) ∙ not-true _ (c .if4 .taken))
+    rw (whole (s .before .before .before .before), lt-leb _ _ (s .if2 .left), sym (l .before .is-loop .ensures) ∙ l .if3 .left, sym (c .before .is-reachable .ensures) ∙ not-true _ (c .if4 .taken))
 
 returns-5 : tie.Need-returns-5
 unfolding acceptOf
 returns-5 c =
     let l = c .before .before .before .before in
     let s = l .before .before .before .before in
-    rw (whole (s .before .before .before), lt-leb _ _ (s .if2 .left), sym (l .before .is-loop .ensures) ∙ l .if3 .left, sym (c .before .is-reachable .ensures) ∙ not-false _ (c .if4 .left))
+    rw (whole (s .before .before .before .before), lt-leb _ _ (s .if2 .left), sym (l .before .is-loop .ensures) ∙ l .if3 .left, sym (c .before .is-reachable .ensures) ∙ not-false _ (c .if4 .left))
 
 pub accept-spec : {M : Type 1} → statement M
 accept-spec =

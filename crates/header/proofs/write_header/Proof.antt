@@ -59,10 +59,10 @@ put64-requires-4 c κs = search needs
 -- the words, put in one after the other behind the four bytes, lie as in the definition
 laid : (h : Header) {b p q : ℕ} {o₁ o₂ o₃ o₄ o₅ o₆ o₇ : List ℕ} → b ≡ firstByte (h .leap) (h .version) (h .mode)
     → p ≡ unsigned (2 ^ 7) (h .poll .0) → q ≡ unsigned (2 ^ 7) (h .precision)
-    → o₁ ≡ placed (b ∷ h .stratum ∷ p ∷ q ∷ replicate 44 0) 4 (toBe 4 (h .delay))
-    → o₂ ≡ placed o₁ 8 (toBe 4 (h .dispersion))
+    → o₁ ≡ placed (b ∷ h .stratum ∷ p ∷ q ∷ replicate 44 0) 4 (toBe 4 (h .rootdelay))
+    → o₂ ≡ placed o₁ 8 (toBe 4 (h .rootdisp))
     → o₃ ≡ placed o₂ 12 (toBe 4 (h .refid .0))
-    → o₄ ≡ placed o₃ 16 (toBe 8 (h .reference .0))
+    → o₄ ≡ placed o₃ 16 (toBe 8 (h .reftime .0))
     → o₅ ≡ placed o₄ 24 (toBe 8 (h .origin .0))
     → o₆ ≡ placed o₅ 32 (toBe 8 (h .receive .0))
     → o₇ ≡ placed o₆ 40 (toBe 8 (h .transmit .0))

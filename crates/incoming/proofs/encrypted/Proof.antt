@@ -4,14 +4,14 @@ use borrow.Author.Needs.{needs}
 use Rattle.incoming.proofs.encrypted.Statement.{statement}
 use Rattle.incoming.proofs.encrypted.Tie as tie
 
-plain-uid-requires : tie.Need-plain-uid-requires
-plain-uid-requires c κs = search needs
+decrypted-uid-requires : tie.Need-decrypted-uid-requires
+decrypted-uid-requires c κs = search needs
 
 returns : tie.Need-returns
-returns c = rw (c .before .if1 .taken) (c .plain-uid .ensures)
+returns c = rw (c .before .if1 .taken) (c .decrypted-uid .ensures)
 
 returns-2 : tie.Need-returns-2
 returns-2 c = search needs
 
 pub encrypted-spec : {M : Type 1} → statement M
-encrypted-spec = tie.close (tie.spec plain-uid-requires returns returns-2)
+encrypted-spec = tie.close (tie.spec decrypted-uid-requires returns returns-2)

@@ -20,8 +20,8 @@ returns : tie.Need-returns
 unfolding readOf
 returns c = rw (sym (c .before .before .read-header .ensures) ∙ c .enum-told .given .1)
 
-end-holds-requires : tie.Need-end-holds-requires
-end-holds-requires c κs = search needs
+end-valid-requires : tie.Need-end-valid-requires
+end-valid-requires c κs = search needs
 
 returns-2 : tie.Need-returns-2
 unfolding readOf bytesRead
@@ -29,11 +29,11 @@ returns-2 c =
     let k = c .before .before .before in
     rw (
       sym (k .before .before .read-header .ensures) ∙ k .h .given .1,
-      sym (c .before .end-holds .ensures) ∙ not-true _ (c .if1 .taken),
+      sym (c .before .end-valid .ensures) ∙ not-true _ (c .if1 .taken),
     )
 
-plain-holds-requires : tie.Need-plain-holds-requires
-plain-holds-requires c κs = search needs
+decrypted-valid-requires : tie.Need-decrypted-valid-requires
+decrypted-valid-requires c κs = search needs
 
 returns-3 : tie.Need-returns-3
 unfolding readOf bytesRead
@@ -42,8 +42,8 @@ returns-3 c =
     let k = e .before .before .before in
     rw (
       sym (k .before .before .read-header .ensures) ∙ k .h .given .1,
-      sym (e .before .end-holds .ensures) ∙ not-false _ (e .if1 .left),
-      sym (c .before .plain-holds .ensures) ∙ not-true _ (c .if2 .taken),
+      sym (e .before .end-valid .ensures) ∙ not-false _ (e .if1 .left),
+      sym (c .before .decrypted-valid .ensures) ∙ not-true _ (c .if2 .taken),
     )
 
 group-requires : tie.Need-group-requires
@@ -66,8 +66,8 @@ returns-4 c =
     let k = e .before .before .before in
     rw (
       sym (k .before .before .read-header .ensures) ∙ k .h .given .1,
-      sym (e .before .end-holds .ensures) ∙ not-false _ (e .if1 .left),
-      sym (p .before .plain-holds .ensures) ∙ not-false _ (p .if2 .left),
+      sym (e .before .end-valid .ensures) ∙ not-false _ (e .if1 .left),
+      sym (p .before .decrypted-valid .ensures) ∙ not-false _ (p .if2 .left),
       c .value .ensures,
       c .before .group2 .ensures,
       c .before .before .encrypted .ensures,
@@ -82,9 +82,9 @@ read-reply-spec =
     enum-known-h
     enum-told
     returns
-    end-holds-requires
+    end-valid-requires
     returns-2
-    plain-holds-requires
+    decrypted-valid-requires
     returns-3
     group-requires
     encrypted-requires

@@ -42,17 +42,18 @@ use types.Kit.{Given, ‵, raw, some, later, mean, _⊛_, ⋆, _$_, _∵_, !, qe
 use types.Part.{whole, sub, look-in}
 use types.Run.{look, init, store-raw, look-raw, forget, stop, hop, fld, from, load, of-opd, and-then, no-more, assigns, land, returns, enter, alloc1, alloc0, params1, pass1, pass0, free1, free0}
 use types.SemTy.{Body}
+use Rattle.reply_rules.specs.After.{arrival}
 use Rattle.reply.specs.Reply.{replyOf}
 use Rattle.association.specs.declared.Association.{Association}
 use Rattle.reply.specs.declared.ReplyOut.{ReplyOut}
-use Rattle.reply.specs.declared.ReplyAnswer.{ReplyAnswer}
+use Rattle.reply_rules.specs.declared.ReplyAnswer.{ReplyAnswer}
 use Rattle.time_types.specs.declared.NtpTimestamp.{NtpTimestamp}
 use Rattle.association.proofs.Association as Rec
 use Rattle.association.proofs.Association.Laws as Rec′
 use Rattle.reply.proofs.ReplyOut as Out
 use Rattle.reply.proofs.ReplyOut.Laws as Out′
-use Rattle.reply.proofs.ReplyAnswer as Ans
-use Rattle.reply.proofs.ReplyAnswer.Laws as Ans′
+use Rattle.reply_rules.proofs.ReplyAnswer as Ans
+use Rattle.reply_rules.proofs.ReplyAnswer.Laws as Ans′
 use Rattle.time_types.proofs.NtpTimestamp as NtpTimestamp·
 use Rattle.time_types.proofs.NtpTimestamp.Laws as NtpTimestamp·′
 use Rattle.reply.proofs.reply_core as core
@@ -65,13 +66,13 @@ use Rattle.reply.proofs.reply.Statement as stated
 use Rattle.reply.proofs.reply.Code as code
 
 -- the function, over any types of the record (τ-to is its name, behind the reference), of the answer and of the other arguments
-abbrev shape : Sym → (τ-to τ-rec τ-ans τ-packet τ-end τ-plain τ-list τ-t1 τ-t4 τ-time : Ty) → Fn
-shape ν τ-to τ-rec τ-ans τ-packet τ-end τ-plain τ-list τ-t1 τ-t4 τ-time =
+abbrev shape : Sym → (τ-to τ-rec τ-ans τ-packet τ-end τ-decrypted τ-list τ-t1 τ-t4 τ-time : Ty) → Fn
+shape ν τ-to τ-rec τ-ans τ-packet τ-end τ-decrypted τ-list τ-t1 τ-t4 τ-time =
     record {
       lifetimes = 4;
       outlives = [];
       params = 8;
-      locals = local τ-ans valueLocal ∷ local (tyRef (named 0) mut τ-to) valueLocal ∷ local τ-packet valueLocal ∷ local τ-end valueLocal ∷ local τ-plain valueLocal ∷ local τ-list valueLocal ∷ local τ-t1 valueLocal ∷ local τ-t4 valueLocal ∷ local τ-time valueLocal ∷ local τ-rec valueLocal ∷ local (tyStruct ν (tcons τ-ans (tcons τ-rec tnil))) valueLocal ∷ [];
+      locals = local τ-ans valueLocal ∷ local (tyRef (named 0) mut τ-to) valueLocal ∷ local τ-packet valueLocal ∷ local τ-end valueLocal ∷ local τ-decrypted valueLocal ∷ local τ-list valueLocal ∷ local τ-t1 valueLocal ∷ local τ-t4 valueLocal ∷ local τ-time valueLocal ∷ local τ-rec valueLocal ∷ local (tyStruct ν (tcons τ-ans (tcons τ-rec tnil))) valueLocal ∷ [];
       body =
           seq (assign (place 9 []) (rvOpd (copy (place 1 (deref τ-rec ∷ [])))))
           (seq (call #reply·reply-core (copy (place 9 []) ∷ copy (place 2 []) ∷ copy (place 3 []) ∷ copy (place 4 []) ∷ copy (place 5 []) ∷ copy (place 6 []) ∷ copy (place 7 []) ∷ copy (place 8 []) ∷ []) (place 10 []))
@@ -82,7 +83,7 @@ shape ν τ-to τ-rec τ-ans τ-packet τ-end τ-plain τ-list τ-t1 τ-t4 τ-ti
 
 -- The walk, over any rows of a record, an answer and the two, and any machine values: it asks only that these are of their types.
 module _ (Rec Out Ans : RattleType) (rec : Rec .Denot → Val) (ans : Ans .Denot → Val) (answer : Out .Denot → Ans .Denot) (next : Out .Denot → Rec .Denot)
-    (ν : Sym) (τ-to τ-rec τ-ans τ-packet τ-end τ-plain τ-list τ-t1 τ-t4 τ-time : Ty) (rec-mir : Rec .mir ≡ τ-rec ∷ [])
+    (ν : Sym) (τ-to τ-rec τ-ans τ-packet τ-end τ-decrypted τ-list τ-t1 τ-t4 τ-time : Ty) (rec-mir : Rec .mir ≡ τ-rec ∷ [])
     (rec-tells : Tells Rec (Is Rec) (λ y. rec y ∷ [])) (out-tells : Tells Out (Is Out) (λ r. vstruct (ofList (ans (answer r) ∷ rec (next r) ∷ [])) ∷ []))
     (rec-typed : (y : Rec .Denot) → Is Rec y (rec y ∷ []) → T (hasTy τ-rec (rec y)) × WT (rec y))
     (ans-typed : (y : Ans .Denot) → Is Ans y (ans y ∷ []) → T (hasTy τ-ans (ans y)) × WT (ans y))
@@ -90,22 +91,22 @@ module _ (Rec Out Ans : RattleType) (rec : Rec .Denot → Val) (ans : Ans .Denot
     (answer-is : (r : Out .Denot) (vs : List Val) → Is Out r vs → Is Ans (answer r) (ans (answer r) ∷ []))
     (next-is : (r : Out .Denot) (vs : List Val) → Is Out r vs → Is Rec (next r) (rec (next r) ∷ []))
     {M : Type 1} (𝓤 : URA M) (H : Heap 𝓤) (A : Atoms 𝓤) (W : Given 𝓤 H A) (rec-makes : Makes 𝓤 H A Rec (Is Rec))
-    (κ : Lft) (q : Share) (b o : ℕ) (γ : GName) (h : Rec .Denot) (packet end plain list t1 t4 time : Val) (packet-typed : T (hasTy τ-packet packet) × WT packet) (end-typed : T (hasTy τ-end end) × WT end) (plain-typed : T (hasTy τ-plain plain) × WT plain) (list-typed : T (hasTy τ-list list) × WT list) (t1-typed : T (hasTy τ-t1 t1) × WT t1) (t4-typed : T (hasTy τ-t4 t4) × WT t4) (time-typed : T (hasTy τ-time time) × WT time)
+    (κ : Lft) (q : Share) (b o : ℕ) (γ : GName) (h : Rec .Denot) (packet end decrypted list t1 t4 time : Val) (packet-typed : T (hasTy τ-packet packet) × WT packet) (end-typed : T (hasTy τ-end end) × WT end) (decrypted-typed : T (hasTy τ-decrypted decrypted) × WT decrypted) (list-typed : T (hasTy τ-list list) × WT list) (t1-typed : T (hasTy τ-t1 t1) × WT t1) (t4-typed : T (hasTy τ-t4 t4) × WT t4) (time-typed : T (hasTy τ-time time) × WT time)
     (Own Left Pre : SProp 𝓤) (Back Post : Val → SProp 𝓤) (Ensured : Out .Denot → SProp 𝓤) (Says : Out .Denot → Type 0)
     (goes-core : ent 𝓤 (sep 𝓤 (sem 𝓤 H A (Rec .own h (rec h ∷ []))) Own) Pre)
     (comes-back : (v : Val) → ent 𝓤 (Back v) (mean 𝓤 H A (later (some (λ (r : Out .Denot). (raw Left ⊛ ‵ (Out .own r (v ∷ []))) ⊛ raw (Ensured r))))))
     (said-of : (r : Out .Denot) → ent 𝓤 (Ensured r) (fact 𝓤 (Says r)))
     (exits : (r : Out .Denot) (vs : List Val) → Is Out r vs → Says r →
     ent 𝓤 (⋆ 𝓤 H A (‵ (fobs γ (Rec .coded .code (next r))) ∷ ‵ (fbor κ (Body (mem Rec) b o γ)) ∷ ‵ (flft κ q) ∷ raw Left ∷ [])) (Post (ans (answer r))))
-    (C : Calls 𝓤 H) (Λ : Loops 𝓤 H) (fm : FmC 𝓤 H (W .laws) C) (known : ent 𝓤 Pre (C #reply·reply-core (rec h ∷ packet ∷ end ∷ plain ∷ list ∷ t1 ∷ t4 ∷ time ∷ []) Back)) where
-  walk : ent 𝓤 (⋆ 𝓤 H A (‵ (fobs γ (Rec .coded .code h)) ∷ ‵ (fbor κ (Body (mem Rec) b o γ)) ∷ ‵ (flft κ q) ∷ raw Own ∷ [])) (WpFn 𝓤 H C Λ (shape ν τ-to τ-rec τ-ans τ-packet τ-end τ-plain τ-list τ-t1 τ-t4 τ-time) (vptr b o ∷ packet ∷ end ∷ plain ∷ list ∷ t1 ∷ t4 ∷ time ∷ []) Post)
+    (C : Calls 𝓤 H) (Λ : Loops 𝓤 H) (fm : FmC 𝓤 H (W .laws) C) (known : ent 𝓤 Pre (C #reply·reply-core (rec h ∷ packet ∷ end ∷ decrypted ∷ list ∷ t1 ∷ t4 ∷ time ∷ []) Back)) where
+  walk : ent 𝓤 (⋆ 𝓤 H A (‵ (fobs γ (Rec .coded .code h)) ∷ ‵ (fbor κ (Body (mem Rec) b o γ)) ∷ ‵ (flft κ q) ∷ raw Own ∷ [])) (WpFn 𝓤 H C Λ (shape ν τ-to τ-rec τ-ans τ-packet τ-end τ-decrypted τ-list τ-t1 τ-t4 τ-time) (vptr b o ∷ packet ∷ end ∷ decrypted ∷ list ∷ t1 ∷ t4 ∷ time ∷ []) Post)
   walk =
       qed W (‵ (fobs γ (Rec .coded .code h)) ∷ ‵ (fbor κ (Body (mem Rec) b o γ)) ∷ ‵ (flft κ q) ∷ raw Own ∷ []) ∵
-      enter ! C Λ (shape ν τ-to τ-rec τ-ans τ-packet τ-end τ-plain τ-list τ-t1 τ-t4 τ-time) (vptr b o ∷ packet ∷ end ∷ plain ∷ list ∷ t1 ∷ t4 ∷ time ∷ []) _ $
+      enter ! C Λ (shape ν τ-to τ-rec τ-ans τ-packet τ-end τ-decrypted τ-list τ-t1 τ-t4 τ-time) (vptr b o ∷ packet ∷ end ∷ decrypted ∷ list ∷ t1 ∷ t4 ∷ time ∷ []) _ $
       alloc1 ! (λ l0. alloc1 ! (λ l1. alloc1 ! (λ l2. alloc1 ! (λ l3. alloc1 ! (λ l4. alloc1 ! (λ l5. alloc1 ! (λ l6. alloc1 ! (λ l7. alloc1 ! (λ l8. alloc1 ! (λ l9. alloc1 ! (λ l10. alloc0 ! $ params1 ! $ pass1 ! (init ! 18 refl (tt, tt)) $
       pass1 ! (init ! 16 refl packet-typed) $
       pass1 ! (init ! 14 refl end-typed) $
-      pass1 ! (init ! 12 refl plain-typed) $
+      pass1 ! (init ! 12 refl decrypted-typed) $
       pass1 ! (init ! 10 refl list-typed) $
       pass1 ! (init ! 8 refl t1-typed) $
       pass1 ! (init ! 6 refl t4-typed) $
@@ -115,7 +116,7 @@ module _ (Rec Out Ans : RattleType) (rec : Rec .Denot → Val) (ans : Ans .Denot
       -- [what the record owns; its cell; the open borrow; obs; auth; the locals, the last first, each with what frees it; what the other arguments own]
       assigns ! (of-opd ! (load ! (from ! (hop ! (look ! 23 refl) (stop !))) (look-raw ! 1 refl))) (from ! (stop !)) (init ! 7 refl (rec-typed h g)) $
       move ! (0 ∷ 27 ∷ []) $ use2 W (raw Pre) goes-core $
-      calls-from ! fm (raw Pre) (rec h ∷ packet ∷ end ∷ plain ∷ list ∷ t1 ∷ t4 ∷ time ∷ []) Back known (and-then ! (load ! (from ! (stop !)) (look ! 7 refl)) (and-then ! (load ! (from ! (stop !)) (look ! 21 refl)) (and-then ! (load ! (from ! (stop !)) (look ! 19 refl)) (and-then ! (load ! (from ! (stop !)) (look ! 17 refl)) (and-then ! (load ! (from ! (stop !)) (look ! 15 refl)) (and-then ! (load ! (from ! (stop !)) (look ! 13 refl)) (and-then ! (load ! (from ! (stop !)) (look ! 11 refl)) (and-then ! (load ! (from ! (stop !)) (look ! 9 refl)) (no-more !))))))))) (λ v.
+      calls-from ! fm (raw Pre) (rec h ∷ packet ∷ end ∷ decrypted ∷ list ∷ t1 ∷ t4 ∷ time ∷ []) Back known (and-then ! (load ! (from ! (stop !)) (look ! 7 refl)) (and-then ! (load ! (from ! (stop !)) (look ! 21 refl)) (and-then ! (load ! (from ! (stop !)) (look ! 19 refl)) (and-then ! (load ! (from ! (stop !)) (look ! 17 refl)) (and-then ! (load ! (from ! (stop !)) (look ! 15 refl)) (and-then ! (load ! (from ! (stop !)) (look ! 13 refl)) (and-then ! (load ! (from ! (stop !)) (look ! 11 refl)) (and-then ! (load ! (from ! (stop !)) (look ! 9 refl)) (no-more !))))))))) (λ v.
       use1 W (later (some (λ (r : Out .Denot). (raw Left ⊛ ‵ (Out .own r (v ∷ []))) ⊛ raw (Ensured r)))) (comes-back v) $ await ! tt $ pick ! (λ r. split ! $ move ! (1 ∷ []) $
       use1 W (raw (fact 𝓤 (Says r))) (said-of r) $ heard ! (Says r) (λ e. split ! $ move ! (1 ∷ []) $ peeks ! Out (Is Out) (shows 𝓤 H A Out) r (v ∷ []) (λ is.
       -- [what the core's result owns; what is left of the other arguments; the record's cell; the open borrow; obs; auth; the locals]
@@ -150,14 +151,14 @@ next-is r vs g = LL.owed Out.the-type Out′.the-laws r vs g .1 .0
 abbrev Core : {M : Type 1} (𝓤 : URA M) (H : Heap 𝓤) (A : Atoms 𝓤) (at-mem : Memory → SProp 𝓤) (run : Routine → Fun 𝓤) → Contract 𝓤
 Core 𝓤 H A at-mem run = tripleOf 𝓤 H A core.signature (core.spec 𝓤 H A at-mem run)
 
-module _ {M : Type 1} (𝓤 : URA M) (H : Heap 𝓤) (A : Atoms 𝓤) (W : Given 𝓤 H A) (at-mem : Memory → SProp 𝓤) (run : Routine → Fun 𝓤) (κ κ1 κ2 κ3 : Lft) (q q1 q2 q3 : Share) (b o : ℕ) (γ : GName) (h : Association) (packet : RefT (List ℕ)) (end : ℕ) (plain : RefT (List ℕ)) (list : RefT (List ℕ)) (t1 : NtpTimestamp) (t4 : NtpTimestamp) (time : ℕ)
-    (packet-is : Is (ShrSlice (named 1) κ1 u8) packet (sliceVal (packet .ptr) (length (packet .now)) ∷ [])) (end-is : Is (usize) end (vint w64 end ∷ [])) (plain-is : Is (ShrSlice (named 2) κ2 u8) plain (sliceVal (plain .ptr) (length (plain .now)) ∷ [])) (list-is : Is (ShrSlice (named 3) κ3 u8) list (sliceVal (list .ptr) (length (list .now)) ∷ [])) (t1-is : Is (NtpTimestamp·.the-row) t1 (LL.val NtpTimestamp·.the-type NtpTimestamp·′.the-laws t1 ∷ [])) (t4-is : Is (NtpTimestamp·.the-row) t4 (LL.val NtpTimestamp·.the-type NtpTimestamp·′.the-laws t4 ∷ [])) (time-is : Is (u64) time (vint w64 time ∷ [])) where
+module _ {M : Type 1} (𝓤 : URA M) (H : Heap 𝓤) (A : Atoms 𝓤) (W : Given 𝓤 H A) (at-mem : Memory → SProp 𝓤) (run : Routine → Fun 𝓤) (κ κ1 κ2 κ3 : Lft) (q q1 q2 q3 : Share) (b o : ℕ) (γ : GName) (h : Association) (packet : RefT (List ℕ)) (end : ℕ) (decrypted : RefT (List ℕ)) (list : RefT (List ℕ)) (t1 : NtpTimestamp) (t4 : NtpTimestamp) (time : ℕ)
+    (packet-is : Is (ShrSlice (named 1) κ1 u8) packet (sliceVal (packet .ptr) (length (packet .now)) ∷ [])) (end-is : Is (usize) end (vint w64 end ∷ [])) (decrypted-is : Is (ShrSlice (named 2) κ2 u8) decrypted (sliceVal (decrypted .ptr) (length (decrypted .now)) ∷ [])) (list-is : Is (ShrSlice (named 3) κ3 u8) list (sliceVal (list .ptr) (length (list .now)) ∷ [])) (t1-is : Is (NtpTimestamp·.the-row) t1 (LL.val NtpTimestamp·.the-type NtpTimestamp·′.the-laws t1 ∷ [])) (t4-is : Is (NtpTimestamp·.the-row) t4 (LL.val NtpTimestamp·.the-type NtpTimestamp·′.the-laws t4 ∷ [])) (time-is : Is (u64) time (vint w64 time ∷ [])) where
   -- the other arguments, and their machine values
   abbrev z : RefT (List ℕ) × (ℕ × (RefT (List ℕ) × (RefT (List ℕ) × (NtpTimestamp × (NtpTimestamp × (ℕ × (Unit {0})))))))
-  z = (packet, (end, (plain, (list, (t1, (t4, (time, tt)))))))
+  z = (packet, (end, (decrypted, (list, (t1, (t4, (time, tt)))))))
 
   abbrev zv : List Val × (List Val × (List Val × (List Val × (List Val × (List Val × (List Val × (Unit {0})))))))
-  zv = (sliceVal (packet .ptr) (length (packet .now)) ∷ [], (vint w64 end ∷ [], (sliceVal (plain .ptr) (length (plain .now)) ∷ [], (sliceVal (list .ptr) (length (list .now)) ∷ [], (LL.val NtpTimestamp·.the-type NtpTimestamp·′.the-laws t1 ∷ [], (LL.val NtpTimestamp·.the-type NtpTimestamp·′.the-laws t4 ∷ [], (vint w64 time ∷ [], tt)))))))
+  zv = (sliceVal (packet .ptr) (length (packet .now)) ∷ [], (vint w64 end ∷ [], (sliceVal (decrypted .ptr) (length (decrypted .now)) ∷ [], (sliceVal (list .ptr) (length (list .now)) ∷ [], (LL.val NtpTimestamp·.the-type NtpTimestamp·′.the-laws t1 ∷ [], (LL.val NtpTimestamp·.the-type NtpTimestamp·′.the-laws t4 ∷ [], (vint w64 time ∷ [], tt)))))))
 
   abbrev x : RefT Association × (RefT (List ℕ) × (ℕ × (RefT (List ℕ) × (RefT (List ℕ) × (NtpTimestamp × (NtpTimestamp × (ℕ × (Unit {0}))))))))
   x = (record { ptr = (b, o); name = γ; now = h }, z)
@@ -168,7 +169,7 @@ module _ {M : Type 1} (𝓤 : URA M) (H : Heap 𝓤) (A : Atoms 𝓤) (W : Given
   abbrev Post : Val → SProp 𝓤
   Post = walkOf 𝓤 H A self.ended stayed (self.clauses 𝓤 H A at-mem run) .post (((κ, (κ1, (κ2, (κ3, tt)))), (q, (q1, (q2, (q3, tt)))), tt, x, at), tt)
 
-  exits : (r : ReplyOut) (vs : List Val) → Is Out.the-row r vs → r ≡ replyOf h (packet .now) end (plain .now) (list .now) t1 t4 time → ent 𝓤 (⋆ 𝓤 H A (‵ (fobs γ (Rec.the-row .coded .code (r .association))) ∷ ‵ (fbor κ (Body (mem Rec.the-row) b o γ)) ∷ ‵ (flft κ q) ∷ (‵ (flft κ1 q1) ⊛ ‵ (flft κ2 q2) ⊛ ‵ (flft κ3 q3) ⊛ ‵ ftrue) ∷ [])) (Post (ans (r .answer)))
+  exits : (r : ReplyOut) (vs : List Val) → Is Out.the-row r vs → r ≡ replyOf h (packet .now) end (decrypted .now) (arrival (list .now) t1 t4 time) → ent 𝓤 (⋆ 𝓤 H A (‵ (fobs γ (Rec.the-row .coded .code (r .association))) ∷ ‵ (fbor κ (Body (mem Rec.the-row) b o γ)) ∷ ‵ (flft κ q) ∷ (‵ (flft κ1 q1) ⊛ ‵ (flft κ2 q2) ⊛ ‵ (flft κ3 q3) ⊛ ‵ ftrue) ∷ [])) (Post (ans (r .answer)))
   exits r vs g e =
       qed W (‵ (fobs γ (Rec.the-row .coded .code (r .association))) ∷ ‵ (fbor κ (Body (mem Rec.the-row) b o γ)) ∷ ‵ (flft κ q) ∷ (‵ (flft κ1 q1) ⊛ ‵ (flft κ2 q2) ⊛ ‵ (flft κ3 q3) ⊛ ‵ ftrue) ∷ []) ∵
       suffices ! _ (ends-at 𝓤 H A self.ended stayed (self.clauses 𝓤 H A at-mem run) W (((κ, (κ1, (κ2, (κ3, tt)))), (q, (q1, (q2, (q3, tt)))), tt, x, at), tt) (ans (r .answer)) (r .answer) (r .association, (tt, (tt, (tt, (tt, (tt, (tt, (tt, tt)))))))) (tt, (tt, (tt, (tt, (tt, (tt, (tt, (tt, tt))))))))) $
@@ -188,22 +189,22 @@ module _ {M : Type 1} (𝓤 : URA M) (H : Heap 𝓤) (A : Atoms 𝓤) (W : Given
   abbrev Ensured : ReplyOut → SProp 𝓤
   Ensured r = ensured 𝓤 H A core.ended (core.clauses 𝓤 H A at-mem run) (κ1, (κ2, (κ3, tt))) (h, z) tt r
 
-  said-of : (r : ReplyOut) → ent 𝓤 (Ensured r) (fact 𝓤 (r ≡ replyOf h (packet .now) end (plain .now) (list .now) t1 t4 time))
-  said-of r = exE 𝓤 _ (λ ws. snd∗ 𝓤 (sem 𝓤 H A (lasts core.ended (κ1, (κ2, (κ3, tt))) (h, z) ws)) (fact 𝓤 (r ≡ replyOf h (packet .now) end (plain .now) (list .now) t1 t4 time)))
+  said-of : (r : ReplyOut) → ent 𝓤 (Ensured r) (fact 𝓤 (r ≡ replyOf h (packet .now) end (decrypted .now) (arrival (list .now) t1 t4 time)))
+  said-of r = exE 𝓤 _ (λ ws. snd∗ 𝓤 (sem 𝓤 H A (lasts core.ended (κ1, (κ2, (κ3, tt))) (h, z) ws)) (fact 𝓤 (r ≡ replyOf h (packet .now) end (decrypted .now) (arrival (list .now) t1 t4 time))))
 
   comes-back : (v : Val) → ent 𝓤 (Core 𝓤 H A at-mem run .post to-core v) (mean 𝓤 H A (later (some (λ (r : ReplyOut). (raw (mean 𝓤 H A (‵ (flft κ1 q1) ⊛ ‵ (flft κ2 q2) ⊛ ‵ (flft κ3 q3) ⊛ ‵ ftrue)) ⊛ ‵ (Out.the-row .own r (v ∷ []))) ⊛ raw (Ensured r)))))
   comes-back v = id⊢ 𝓤 _
 
   module _ (C : Calls 𝓤 H) (Λ : Loops 𝓤 H) (fm : FmC 𝓤 H (W .laws) C) (known : Triple 𝓤 (C #reply·reply-core) (Core 𝓤 H A at-mem run)) where
-    walk-here : ent 𝓤 (onEntry 𝓤 H A self.signature (κ, (κ1, (κ2, (κ3, tt)))) (q, (q1, (q2, (q3, tt)))) x at) (WpFn 𝓤 H C Λ code.function (vptr b o ∷ sliceVal (packet .ptr) (length (packet .now)) ∷ vint w64 end ∷ sliceVal (plain .ptr) (length (plain .now)) ∷ sliceVal (list .ptr) (length (list .now)) ∷ LL.val NtpTimestamp·.the-type NtpTimestamp·′.the-laws t1 ∷ LL.val NtpTimestamp·.the-type NtpTimestamp·′.the-laws t4 ∷ vint w64 time ∷ []) Post)
+    walk-here : ent 𝓤 (onEntry 𝓤 H A self.signature (κ, (κ1, (κ2, (κ3, tt)))) (q, (q1, (q2, (q3, tt)))) x at) (WpFn 𝓤 H C Λ code.function (vptr b o ∷ sliceVal (packet .ptr) (length (packet .now)) ∷ vint w64 end ∷ sliceVal (decrypted .ptr) (length (decrypted .now)) ∷ sliceVal (list .ptr) (length (list .now)) ∷ LL.val NtpTimestamp·.the-type NtpTimestamp·′.the-laws t1 ∷ LL.val NtpTimestamp·.the-type NtpTimestamp·′.the-laws t4 ∷ vint w64 time ∷ []) Post)
     walk-here =
         qed W ((‵ (flft κ q) ⊛ (‵ (flft κ1 q1) ⊛ ‵ (flft κ2 q2) ⊛ ‵ (flft κ3 q3) ⊛ ‵ ftrue)) ∷ ‵ (owns (MutRef (named 0) κ Rec.the-row ∷ ShrSlice (named 1) κ1 u8 ∷ usize ∷ ShrSlice (named 2) κ2 u8 ∷ ShrSlice (named 3) κ3 u8 ∷ NtpTimestamp·.the-row ∷ NtpTimestamp·.the-row ∷ u64 ∷ []) x at) ∷ []) ∵ split ! $ move ! (2 ∷ []) $ fsplit ! $ fsplit3 ! $ drop ! $ move ! (2 ∷ 4 ∷ []) $ join ! $ move ! (1 ∷ 2 ∷ 3 ∷ 0 ∷ []) $
         by ! (walk Rec.the-row Out.the-row Ans.the-row rec ans (λ r. r .answer) (λ r. r .association) (114 ∷ 101 ∷ 112 ∷ 108 ∷ 121 ∷ 58 ∷ 58 ∷ 82 ∷ 101 ∷ 112 ∷ 108 ∷ 121 ∷ 79 ∷ 117 ∷ 116 ∷ []) (tyNamed (97 ∷ 115 ∷ 115 ∷ 111 ∷ 99 ∷ 105 ∷ 97 ∷ 116 ∷ 105 ∷ 111 ∷ 110 ∷ 58 ∷ 58 ∷ 65 ∷ 115 ∷ 115 ∷ 111 ∷ 99 ∷ 105 ∷ 97 ∷ 116 ∷ 105 ∷ 111 ∷ 110 ∷ [], [])) Rec′.mir Ans′.mir (tyStruct (38 ∷ 91 ∷ 93 ∷ []) (tcons (tyRef (named 1) imm (tyInt w8)) (tcons (tyInt w64) tnil))) (tyInt w64) (tyStruct (38 ∷ 91 ∷ 93 ∷ []) (tcons (tyRef (named 2) imm (tyInt w8)) (tcons (tyInt w64) tnil))) (tyStruct (38 ∷ 91 ∷ 93 ∷ []) (tcons (tyRef (named 3) imm (tyInt w8)) (tcons (tyInt w64) tnil))) NtpTimestamp·′.mir NtpTimestamp·′.mir (tyInt w64) refl
         (LL.tells Rec.the-type Rec′.the-laws) (LL.tells Out.the-type Out′.the-laws)
         (λ y g. LL.lawful Rec.the-type Rec′.the-laws 𝓤 H A W .typed y _ g .0) (λ y g. EL.lawful Ans.the-type Ans′.the-laws 𝓤 H A W tt .typed y _ g .0) (λ r v g. LL.lawful Out.the-type Out′.the-laws 𝓤 H A W .typed r _ g .0)
-        answer-is next-is 𝓤 H A W (LL.makes Rec.the-type Rec′.the-plain 𝓤 H A) κ q b o γ h (sliceVal (packet .ptr) (length (packet .now))) (vint w64 end) (sliceVal (plain .ptr) (length (plain .now))) (sliceVal (list .ptr) (length (list .now))) (LL.val NtpTimestamp·.the-type NtpTimestamp·′.the-laws t1) (LL.val NtpTimestamp·.the-type NtpTimestamp·′.the-laws t4) (vint w64 time)
-        (shr-slice-lawful 𝓤 H A W (named 1) κ1 u8 .typed packet _ packet-is .0) (uint-lawful 𝓤 H A W w64 .typed end _ end-is .0) (shr-slice-lawful 𝓤 H A W (named 2) κ2 u8 .typed plain _ plain-is .0) (shr-slice-lawful 𝓤 H A W (named 3) κ3 u8 .typed list _ list-is .0) (LL.lawful NtpTimestamp·.the-type NtpTimestamp·′.the-laws 𝓤 H A W .typed t1 _ t1-is .0) (LL.lawful NtpTimestamp·.the-type NtpTimestamp·′.the-laws 𝓤 H A W .typed t4 _ t4-is .0) (uint-lawful 𝓤 H A W w64 .typed time _ time-is .0)
-        Own (mean 𝓤 H A (‵ (flft κ1 q1) ⊛ ‵ (flft κ2 q2) ⊛ ‵ (flft κ3 q3) ⊛ ‵ ftrue)) (Core 𝓤 H A at-mem run .pre to-core) (Core 𝓤 H A at-mem run .post to-core) Post Ensured (λ r. r ≡ replyOf h (packet .now) end (plain .now) (list .now) t1 t4 time) goes-core comes-back said-of exits C Λ fm (known to-core))
+        answer-is next-is 𝓤 H A W (LL.makes Rec.the-type Rec′.the-plain 𝓤 H A) κ q b o γ h (sliceVal (packet .ptr) (length (packet .now))) (vint w64 end) (sliceVal (decrypted .ptr) (length (decrypted .now))) (sliceVal (list .ptr) (length (list .now))) (LL.val NtpTimestamp·.the-type NtpTimestamp·′.the-laws t1) (LL.val NtpTimestamp·.the-type NtpTimestamp·′.the-laws t4) (vint w64 time)
+        (shr-slice-lawful 𝓤 H A W (named 1) κ1 u8 .typed packet _ packet-is .0) (uint-lawful 𝓤 H A W w64 .typed end _ end-is .0) (shr-slice-lawful 𝓤 H A W (named 2) κ2 u8 .typed decrypted _ decrypted-is .0) (shr-slice-lawful 𝓤 H A W (named 3) κ3 u8 .typed list _ list-is .0) (LL.lawful NtpTimestamp·.the-type NtpTimestamp·′.the-laws 𝓤 H A W .typed t1 _ t1-is .0) (LL.lawful NtpTimestamp·.the-type NtpTimestamp·′.the-laws 𝓤 H A W .typed t4 _ t4-is .0) (uint-lawful 𝓤 H A W w64 .typed time _ time-is .0)
+        Own (mean 𝓤 H A (‵ (flft κ1 q1) ⊛ ‵ (flft κ2 q2) ⊛ ‵ (flft κ3 q3) ⊛ ‵ ftrue)) (Core 𝓤 H A at-mem run .pre to-core) (Core 𝓤 H A at-mem run .post to-core) Post Ensured (λ r. r ≡ replyOf h (packet .now) end (decrypted .now) (arrival (list .now) t1 t4 time)) goes-core comes-back said-of exits C Λ fm (known to-core))
 
 module _ {M : Type 1} (𝓤 : URA M) (H : Heap 𝓤) (A : Atoms 𝓤) (W : Given 𝓤 H A) (at-mem : Memory → SProp 𝓤) (run : Routine → Fun 𝓤) where
   walks : (C : Calls 𝓤 H) (Λ : Loops 𝓤 H) → FmC 𝓤 H (W .laws) C → Triple 𝓤 (C #reply·reply-core) (Core 𝓤 H A at-mem run) → Walks 𝓤 H A self.ended stayed (WpFn 𝓤 H C Λ code.function) (self.clauses 𝓤 H A at-mem run)

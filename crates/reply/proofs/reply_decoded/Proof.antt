@@ -42,18 +42,19 @@ use types.Kit.{Given, ‵, raw, some, later, mean, _⊛_, ⋆, _$_, _∵_, !, qe
 use types.Part.{whole, sub, look-in}
 use types.Run.{look, init, store-raw, look-raw, forget, stop, hop, fld, from, load, of-opd, and-then, no-more, assigns, land, returns, enter, alloc1, alloc0, params1, pass1, pass0, free1, free0}
 use types.SemTy.{Body}
+use Rattle.reply_rules.specs.After.{arrival}
 use Rattle.reply.specs.Reply.{replyDecodedOf}
 use Rattle.association.specs.declared.Association.{Association}
 use Rattle.reply.specs.declared.ReplyOut.{ReplyOut}
-use Rattle.reply.specs.declared.ReplyAnswer.{ReplyAnswer}
+use Rattle.reply_rules.specs.declared.ReplyAnswer.{ReplyAnswer}
 use Rattle.incoming.specs.declared.DecodedReply.{DecodedReply}
 use Rattle.time_types.specs.declared.NtpTimestamp.{NtpTimestamp}
 use Rattle.association.proofs.Association as Rec
 use Rattle.association.proofs.Association.Laws as Rec′
 use Rattle.reply.proofs.ReplyOut as Out
 use Rattle.reply.proofs.ReplyOut.Laws as Out′
-use Rattle.reply.proofs.ReplyAnswer as Ans
-use Rattle.reply.proofs.ReplyAnswer.Laws as Ans′
+use Rattle.reply_rules.proofs.ReplyAnswer as Ans
+use Rattle.reply_rules.proofs.ReplyAnswer.Laws as Ans′
 use Rattle.incoming.proofs.DecodedReply as DecodedReply·
 use Rattle.incoming.proofs.DecodedReply.Laws as DecodedReply·′
 use Rattle.time_types.proofs.NtpTimestamp as NtpTimestamp·
@@ -169,7 +170,7 @@ module _ {M : Type 1} (𝓤 : URA M) (H : Heap 𝓤) (A : Atoms 𝓤) (W : Given
   abbrev Post : Val → SProp 𝓤
   Post = walkOf 𝓤 H A self.ended stayed (self.clauses 𝓤 H A at-mem run) .post (((κ, (κ1, tt)), (q, (q1, tt)), tt, x, at), tt)
 
-  exits : (r : ReplyOut) (vs : List Val) → Is Out.the-row r vs → r ≡ replyDecodedOf h d (list .now) t1 t4 time → ent 𝓤 (⋆ 𝓤 H A (‵ (fobs γ (Rec.the-row .coded .code (r .association))) ∷ ‵ (fbor κ (Body (mem Rec.the-row) b o γ)) ∷ ‵ (flft κ q) ∷ (‵ (flft κ1 q1) ⊛ ‵ ftrue) ∷ [])) (Post (ans (r .answer)))
+  exits : (r : ReplyOut) (vs : List Val) → Is Out.the-row r vs → r ≡ replyDecodedOf h d (arrival (list .now) t1 t4 time) → ent 𝓤 (⋆ 𝓤 H A (‵ (fobs γ (Rec.the-row .coded .code (r .association))) ∷ ‵ (fbor κ (Body (mem Rec.the-row) b o γ)) ∷ ‵ (flft κ q) ∷ (‵ (flft κ1 q1) ⊛ ‵ ftrue) ∷ [])) (Post (ans (r .answer)))
   exits r vs g e =
       qed W (‵ (fobs γ (Rec.the-row .coded .code (r .association))) ∷ ‵ (fbor κ (Body (mem Rec.the-row) b o γ)) ∷ ‵ (flft κ q) ∷ (‵ (flft κ1 q1) ⊛ ‵ ftrue) ∷ []) ∵
       suffices ! _ (ends-at 𝓤 H A self.ended stayed (self.clauses 𝓤 H A at-mem run) W (((κ, (κ1, tt)), (q, (q1, tt)), tt, x, at), tt) (ans (r .answer)) (r .answer) (r .association, (tt, (tt, (tt, (tt, (tt, tt)))))) (tt, (tt, (tt, (tt, (tt, (tt, tt))))))) $
@@ -189,8 +190,8 @@ module _ {M : Type 1} (𝓤 : URA M) (H : Heap 𝓤) (A : Atoms 𝓤) (W : Given
   abbrev Ensured : ReplyOut → SProp 𝓤
   Ensured r = ensured 𝓤 H A core.ended (core.clauses 𝓤 H A at-mem run) (κ1, tt) (h, z) tt r
 
-  said-of : (r : ReplyOut) → ent 𝓤 (Ensured r) (fact 𝓤 (r ≡ replyDecodedOf h d (list .now) t1 t4 time))
-  said-of r = exE 𝓤 _ (λ ws. snd∗ 𝓤 (sem 𝓤 H A (lasts core.ended (κ1, tt) (h, z) ws)) (fact 𝓤 (r ≡ replyDecodedOf h d (list .now) t1 t4 time)))
+  said-of : (r : ReplyOut) → ent 𝓤 (Ensured r) (fact 𝓤 (r ≡ replyDecodedOf h d (arrival (list .now) t1 t4 time)))
+  said-of r = exE 𝓤 _ (λ ws. snd∗ 𝓤 (sem 𝓤 H A (lasts core.ended (κ1, tt) (h, z) ws)) (fact 𝓤 (r ≡ replyDecodedOf h d (arrival (list .now) t1 t4 time))))
 
   comes-back : (v : Val) → ent 𝓤 (Core 𝓤 H A at-mem run .post to-core v) (mean 𝓤 H A (later (some (λ (r : ReplyOut). (raw (mean 𝓤 H A (‵ (flft κ1 q1) ⊛ ‵ ftrue)) ⊛ ‵ (Out.the-row .own r (v ∷ []))) ⊛ raw (Ensured r)))))
   comes-back v = id⊢ 𝓤 _
@@ -204,7 +205,7 @@ module _ {M : Type 1} (𝓤 : URA M) (H : Heap 𝓤) (A : Atoms 𝓤) (W : Given
         (λ y g. LL.lawful Rec.the-type Rec′.the-laws 𝓤 H A W .typed y _ g .0) (λ y g. EL.lawful Ans.the-type Ans′.the-laws 𝓤 H A W tt .typed y _ g .0) (λ r v g. LL.lawful Out.the-type Out′.the-laws 𝓤 H A W .typed r _ g .0)
         answer-is next-is 𝓤 H A W (LL.makes Rec.the-type Rec′.the-plain 𝓤 H A) κ q b o γ h (LL.val DecodedReply·.the-type DecodedReply·′.the-laws d) (sliceVal (list .ptr) (length (list .now))) (LL.val NtpTimestamp·.the-type NtpTimestamp·′.the-laws t1) (LL.val NtpTimestamp·.the-type NtpTimestamp·′.the-laws t4) (vint w64 time)
         (LL.lawful DecodedReply·.the-type DecodedReply·′.the-laws 𝓤 H A W .typed d _ d-is .0) (shr-slice-lawful 𝓤 H A W (named 1) κ1 u8 .typed list _ list-is .0) (LL.lawful NtpTimestamp·.the-type NtpTimestamp·′.the-laws 𝓤 H A W .typed t1 _ t1-is .0) (LL.lawful NtpTimestamp·.the-type NtpTimestamp·′.the-laws 𝓤 H A W .typed t4 _ t4-is .0) (uint-lawful 𝓤 H A W w64 .typed time _ time-is .0)
-        Own (mean 𝓤 H A (‵ (flft κ1 q1) ⊛ ‵ ftrue)) (Core 𝓤 H A at-mem run .pre to-core) (Core 𝓤 H A at-mem run .post to-core) Post Ensured (λ r. r ≡ replyDecodedOf h d (list .now) t1 t4 time) goes-core comes-back said-of exits C Λ fm (known to-core))
+        Own (mean 𝓤 H A (‵ (flft κ1 q1) ⊛ ‵ ftrue)) (Core 𝓤 H A at-mem run .pre to-core) (Core 𝓤 H A at-mem run .post to-core) Post Ensured (λ r. r ≡ replyDecodedOf h d (arrival (list .now) t1 t4 time)) goes-core comes-back said-of exits C Λ fm (known to-core))
 
 module _ {M : Type 1} (𝓤 : URA M) (H : Heap 𝓤) (A : Atoms 𝓤) (W : Given 𝓤 H A) (at-mem : Memory → SProp 𝓤) (run : Routine → Fun 𝓤) where
   walks : (C : Calls 𝓤 H) (Λ : Loops 𝓤 H) → FmC 𝓤 H (W .laws) C → Triple 𝓤 (C #reply·reply-decoded-core) (Core 𝓤 H A at-mem run) → Walks 𝓤 H A self.ended stayed (WpFn 𝓤 H C Λ code.function) (self.clauses 𝓤 H A at-mem run)

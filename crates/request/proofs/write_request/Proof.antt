@@ -6,7 +6,7 @@ use borrow.Author.Needs.{needs}
 use borrow.Author.Tests.{not-true, not-false}
 use lib.ListN.{length}
 use denote.Ref.{now}
-use Rattle.request.specs.Request.{isV5, hasNts, askHolds, packetOf}
+use Rattle.request.specs.Request.{isV5, hasNts, askValid, packetOf}
 use Rattle.request.specs.Answer.{requestOf, bufferOf}
 use Rattle.request.proofs.write_request.Statement.{statement}
 use Rattle.request.proofs.write_request.Tie as tie
@@ -26,8 +26,8 @@ header-bytes-requires c κs = search needs
 has-nts-requires : tie.Need-has-nts-requires
 has-nts-requires c κs = search needs
 
-ask-holds-requires : tie.Need-ask-holds-requires
-ask-holds-requires c κs = search needs
+ask-valid-requires : tie.Need-ask-valid-requires
+ask-valid-requires c κs = search needs
 
 returns-2 : tie.Need-returns-2
 unfolding requestOf bufferOf
@@ -37,11 +37,11 @@ returns-2 c =
     let a = o .before .before .before .before .args in
     let v : isV5 (a .kind) ≡ false = sym (o .before .is-v5 .ensures) ∙ o .if1 .left in
     let t : hasNts (a .kind) ≡ true = sym (n .before .has-nts .ensures) ∙ n .if2 .taken in
-    let h : askHolds (length (now (a .cookie))) (a .asked) ≡ false = sym (c .before .ask-holds .ensures) ∙ not-true _ (c .if3 .taken) in
+    let h : askValid (length (now (a .cookie))) (a .asked) ≡ false = sym (c .before .ask-valid .ensures) ∙ not-true _ (c .if3 .taken) in
     (rw (v, t, h), rw (v, t, h))
 
 write-nts-requires : tie.Need-write-nts-requires
-write-nts-requires c κs = sym (c .before .before .ask-holds .ensures) ∙ not-false _ (c .before .if3 .left)
+write-nts-requires c κs = sym (c .before .before .ask-valid .ensures) ∙ not-false _ (c .before .if3 .left)
 
 same-length : tie.Need-same-length
 same-length c = search needs
@@ -57,7 +57,7 @@ returns-3 c =
     let a = o .before .before .before .before .args in
     let v : isV5 (a .kind) ≡ false = sym (o .before .is-v5 .ensures) ∙ o .if1 .left in
     let t : hasNts (a .kind) ≡ true = sym (n .before .has-nts .ensures) ∙ n .if2 .taken in
-    let h : askHolds (length (now (a .cookie))) (a .asked) ≡ true = sym (g .before .ask-holds .ensures) ∙ not-false _ (g .if3 .left) in
+    let h : askValid (length (now (a .cookie))) (a .asked) ≡ true = sym (g .before .ask-valid .ensures) ∙ not-false _ (g .if3 .left) in
     let f = b .header-bytes .ensures in
     (rw (v, t, h, ← f) (w .write-nts .ensures .0), rw (v, t, h, ← f) (w .write-nts .ensures .1))
 
@@ -88,7 +88,7 @@ write-request-spec =
     returns
     header-bytes-requires
     has-nts-requires
-    ask-holds-requires
+    ask-valid-requires
     returns-2
     write-nts-requires
     same-length

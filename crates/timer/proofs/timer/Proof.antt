@@ -43,17 +43,18 @@ use types.Kit.{Given, ‵, raw, given, some, later, mean, _⊛_, ⋆, _$_, _∵_
 use types.Part.{agg, whole, sub, look-in}
 use types.Run.{look, init, store-raw, look-raw, forget, stop, hop, fld, from, load, addr, of-opd, and-then, no-more, assigns, land, returns, enter, alloc1, alloc0, params1, pass1, pass0, free1, free0}
 use types.SemTy.{Body}
-use Rattle.timer.specs.Timer.{timerOf, bufferOf}
+use Rattle.timer_rules.specs.Poll.{timerInput}
+use Rattle.timer.specs.Timer.{timed, timedOf}
 use Rattle.association.specs.declared.Association.{Association}
 use Rattle.timer.specs.declared.TimerOut.{TimerOut}
-use Rattle.timer.specs.declared.TimerAnswer.{TimerAnswer}
+use Rattle.timer_rules.specs.declared.TimerAnswer.{TimerAnswer}
 use Rattle.time_types.specs.declared.PollInterval.{PollInterval}
 use Rattle.association.proofs.Association as Rec
 use Rattle.association.proofs.Association.Laws as Rec′
 use Rattle.timer.proofs.TimerOut as Out
 use Rattle.timer.proofs.TimerOut.Laws as Out′
-use Rattle.timer.proofs.TimerAnswer as Ans
-use Rattle.timer.proofs.TimerAnswer.Laws as Ans′
+use Rattle.timer_rules.proofs.TimerAnswer as Ans
+use Rattle.timer_rules.proofs.TimerAnswer.Laws as Ans′
 use Rattle.time_types.proofs.PollInterval as PollInterval·
 use Rattle.time_types.proofs.PollInterval.Laws as PollInterval·′
 use Rattle.timer.proofs.timer_core as core
@@ -171,11 +172,11 @@ module _ {M : Type 1} (𝓤 : URA M) (H : Heap 𝓤) (A : Atoms 𝓤) (W : Given
   abbrev Post : Val → SProp 𝓤
   Post = walkOf 𝓤 H A self.ended stayed (self.clauses 𝓤 H A at-mem run) .post (((κ, (κ1, tt)), (q, (q1, tt)), tt, x, at), tt)
 
-  exits : (r : TimerOut) (vs : List Val) → (last : List ℕ) → Is Out.the-row r vs → ((r ≡ timerOf h time desired id uid (length (buffer .now))) × (last ≡ bufferOf h time desired id uid (buffer .now))) × (length last ≡ length (buffer .now)) → ent 𝓤 (⋆ 𝓤 H A (‵ (fobs γ (Rec.the-row .coded .code (r .association))) ∷ ‵ (fbor κ (Body (mem Rec.the-row) b o γ)) ∷ ‵ (flft κ q) ∷ (‵ (flft κ1 q1) ⊛ ‵ ftrue) ∷ ‵ (finally u8 (buffer .name) last) ∷ [])) (Post (ans (r .answer)))
+  exits : (r : TimerOut) (vs : List Val) → (last : List ℕ) → Is Out.the-row r vs → (timed r last ≡ timedOf h (timerInput time desired id uid) (buffer .now)) × (length last ≡ length (buffer .now)) → ent 𝓤 (⋆ 𝓤 H A (‵ (fobs γ (Rec.the-row .coded .code (r .association))) ∷ ‵ (fbor κ (Body (mem Rec.the-row) b o γ)) ∷ ‵ (flft κ q) ∷ (‵ (flft κ1 q1) ⊛ ‵ ftrue) ∷ ‵ (finally u8 (buffer .name) last) ∷ [])) (Post (ans (r .answer)))
   exits r vs last g (e, long) =
       qed W (‵ (fobs γ (Rec.the-row .coded .code (r .association))) ∷ ‵ (fbor κ (Body (mem Rec.the-row) b o γ)) ∷ ‵ (flft κ q) ∷ (‵ (flft κ1 q1) ⊛ ‵ ftrue) ∷ ‵ (finally u8 (buffer .name) last) ∷ []) ∵
       suffices ! _ (ends-at 𝓤 H A self.ended stayed (self.clauses 𝓤 H A at-mem run) W (((κ, (κ1, tt)), (q, (q1, tt)), tt, x, at), tt) (ans (r .answer)) (r .answer) (r .association, (tt, (tt, (tt, (tt, (last, tt)))))) (tt, (tt, (tt, (tt, (tt, (long, tt))))))) $
-      says ! (ap (λ (s : TimerOut). s .answer) (e .0), (ap (λ (s : TimerOut). s .association) (e .0), e .1)) $ move ! (2 ∷ 3 ∷ []) $ join ! $ frame ! $ feqI ! (List Val) (vptr b o ∷ []) (vptr b o ∷ []) refl $ fjoin3 ! $ nothing ! $ move ! (2 ∷ 0 ∷ []) $ fjoin ! $ nothing ! $ fjoin ! $ nothing ! $ fjoin ! $ nothing ! $ fjoin ! $ nothing ! $ fjoin ! $ move ! (1 ∷ 0 ∷ []) $ fjoin ! $
+      says ! (e) $ move ! (2 ∷ 3 ∷ []) $ join ! $ frame ! $ feqI ! (List Val) (vptr b o ∷ []) (vptr b o ∷ []) refl $ fjoin3 ! $ nothing ! $ move ! (2 ∷ 0 ∷ []) $ fjoin ! $ nothing ! $ fjoin ! $ nothing ! $ fjoin ! $ nothing ! $ fjoin ! $ nothing ! $ fjoin ! $ move ! (1 ∷ 0 ∷ []) $ fjoin ! $
       owned ! Ans.the-row (Is Ans.the-row) (EL.makes Ans.the-type Ans′.the-plain 𝓤 H A) (r .answer) _ (answer-is r vs g) $ move ! (1 ∷ 0 ∷ []) $ done !
 
   -- what the core is given: what the record and the other arguments own, and the tokens
@@ -194,11 +195,11 @@ module _ {M : Type 1} (𝓤 : URA M) (H : Heap 𝓤) (A : Atoms 𝓤) (W : Given
   abbrev Last : List ℕ → SProp 𝓤
   Last last = sem 𝓤 H A (finally u8 (buffer .name) last)
 
-  said-of : (r : TimerOut) → ent 𝓤 (Ensured r) (mean 𝓤 H A (some (λ (last : List ℕ). given (((r ≡ timerOf h time desired id uid (length (buffer .now))) × (last ≡ bufferOf h time desired id uid (buffer .now))) × (length last ≡ length (buffer .now))) (raw (Last last)))))
+  said-of : (r : TimerOut) → ent 𝓤 (Ensured r) (mean 𝓤 H A (some (λ (last : List ℕ). given ((timed r last ≡ timedOf h (timerInput time desired id uid) (buffer .now)) × (length last ≡ length (buffer .now))) (raw (Last last)))))
   said-of r =
-      qed W (raw (Ensured r) ∷ []) ∵ use1 W (some (λ (w : Unit {0} × (Unit {0} × (Unit {0} × (Unit {0} × (Unit {0} × (List ℕ × (Unit {0}))))))). ‵ (lasts core.ended (κ1, tt) (h, z) w) ⊛ raw (fact 𝓤 ((r ≡ timerOf h time desired id uid (length (buffer .now))) × ((w .1 .1 .1 .1 .1 .0) ≡ bufferOf h time desired id uid (buffer .now)))))) (id⊢ 𝓤 _) $ pick ! (λ w. split ! $ move ! (1 ∷ []) $ heard ! ((r ≡ timerOf h time desired id uid (length (buffer .now))) × ((w .1 .1 .1 .1 .1 .0) ≡ bufferOf h time desired id uid (buffer .now))) (λ e.
+      qed W (raw (Ensured r) ∷ []) ∵ use1 W (some (λ (w : Unit {0} × (Unit {0} × (Unit {0} × (Unit {0} × (Unit {0} × (List ℕ × (Unit {0}))))))). ‵ (lasts core.ended (κ1, tt) (h, z) w) ⊛ raw (fact 𝓤 (timed r (w .1 .1 .1 .1 .1 .0) ≡ timedOf h (timerInput time desired id uid) (buffer .now))))) (id⊢ 𝓤 _) $ pick ! (λ w. split ! $ move ! (1 ∷ []) $ heard ! (timed r (w .1 .1 .1 .1 .1 .0) ≡ timedOf h (timerInput time desired id uid) (buffer .now)) (λ e.
       fsplit ! $ drop ! $ fsplit ! $ drop ! $ fsplit ! $ drop ! $ fsplit ! $ drop ! $ fsplit ! $ drop ! $ fsplit ! $ fsplit ! $ move ! (1 ∷ []) $ feqL ! (λ long. move ! (1 ∷ []) $ drop ! $
-      show ! (λ (last : List ℕ). guard 𝓤 (((r ≡ timerOf h time desired id uid (length (buffer .now))) × (last ≡ bufferOf h time desired id uid (buffer .now))) × (length last ≡ length (buffer .now))) (Last last)) (w .1 .1 .1 .1 .1 .0) $ check ! (e, long) $ done !)))
+      show ! (λ (last : List ℕ). guard 𝓤 ((timed r last ≡ timedOf h (timerInput time desired id uid) (buffer .now)) × (length last ≡ length (buffer .now))) (Last last)) (w .1 .1 .1 .1 .1 .0) $ check ! (e, long) $ done !)))
 
   comes-back : (v : Val) → ent 𝓤 (Core 𝓤 H A at-mem run .post to-core v) (mean 𝓤 H A (later (some (λ (r : TimerOut). (raw (mean 𝓤 H A (‵ (flft κ1 q1) ⊛ ‵ ftrue)) ⊛ ‵ (Out.the-row .own r (v ∷ []))) ⊛ raw (Ensured r)))))
   comes-back v = id⊢ 𝓤 _
@@ -212,7 +213,7 @@ module _ {M : Type 1} (𝓤 : URA M) (H : Heap 𝓤) (A : Atoms 𝓤) (W : Given
         (λ y g. LL.lawful Rec.the-type Rec′.the-laws 𝓤 H A W .typed y _ g .0) (λ y g. EL.lawful Ans.the-type Ans′.the-laws 𝓤 H A W tt .typed y _ g .0) (λ r v g. LL.lawful Out.the-type Out′.the-laws 𝓤 H A W .typed r _ g .0)
         answer-is next-is 𝓤 H A W (LL.makes Rec.the-type Rec′.the-plain 𝓤 H A) κ q b o γ h (vint w64 time) (LL.val PollInterval·.the-type PollInterval·′.the-laws desired) (vint w64 id) (only (array-vals (uint-vals w8) uid)) buffer
         (uint-lawful 𝓤 H A W w64 .typed time _ time-is .0) (LL.lawful PollInterval·.the-type PollInterval·′.the-laws 𝓤 H A W .typed desired _ desired-is .0) (uint-lawful 𝓤 H A W w64 .typed id _ id-is .0) (array-lawful 𝓤 H A W u8 (uint-lawful 𝓤 H A W w8) 32 .typed uid _ uid-is .0) (mut-slice-lawful 𝓤 H A W (named 1) κ1 u8 .typed buffer _ buffer-is .0)
-        Own (mean 𝓤 H A (‵ (flft κ1 q1) ⊛ ‵ ftrue)) (Core 𝓤 H A at-mem run .pre to-core) Last (Core 𝓤 H A at-mem run .post to-core) Post Ensured (λ r last. ((r ≡ timerOf h time desired id uid (length (buffer .now))) × (last ≡ bufferOf h time desired id uid (buffer .now))) × (length last ≡ length (buffer .now))) goes-core comes-back said-of exits C Λ fm (known to-core))
+        Own (mean 𝓤 H A (‵ (flft κ1 q1) ⊛ ‵ ftrue)) (Core 𝓤 H A at-mem run .pre to-core) Last (Core 𝓤 H A at-mem run .post to-core) Post Ensured (λ r last. (timed r last ≡ timedOf h (timerInput time desired id uid) (buffer .now)) × (length last ≡ length (buffer .now))) goes-core comes-back said-of exits C Λ fm (known to-core))
 
 module _ {M : Type 1} (𝓤 : URA M) (H : Heap 𝓤) (A : Atoms 𝓤) (W : Given 𝓤 H A) (at-mem : Memory → SProp 𝓤) (run : Routine → Fun 𝓤) where
   walks : (C : Calls 𝓤 H) (Λ : Loops 𝓤 H) → FmC 𝓤 H (W .laws) C → Triple 𝓤 (C #timer·timer-core) (Core 𝓤 H A at-mem run) → Walks 𝓤 H A self.ended stayed (WpFn 𝓤 H C Λ code.function) (self.clauses 𝓤 H A at-mem run)

@@ -1,139 +1,122 @@
--- `timer_core` meets its contract: the tests in order, then the poll, each by its function's contract.
+-- `timer_core` meets its contract: what is decided, and the oldest cookie where that is taken.
 -- Assumes nothing.
-use mathlib.Core.Path.{_≡_, sym, ap, _∙_}
+use mathlib.Core.Path.{_≡_, refl, sym, ap, _∙_}
 use mathlib.Core.Bool.{true, false}
+use mathlib.Core.List.{List}
+use Prim.Native.Nat.{ℕ, _≤_}
+use native.Mathlib.Omega.{arith}
 use borrow.Author.Needs.{needs}
-use borrow.Author.Tests.{not-true, not-false, ltb-false}
+use borrow.Author.Tests.{eqb-false, ltb-false}
+use lib.Dec.{eqb}
 use lib.ListN.{length}
-use Rattle.words.proofs.Tests.{passes}
+use Rattle.words.proofs.Tests.{passes, either}
+use Rattle.cookiestash.specs.declared.Seen.{Seen}
+use Rattle.cookiestash.specs.declared.Taken.{Taken}
+use Rattle.cookiestash.specs.Stash.{getOf}
+use Rattle.cookiestash.specs.Whole.{seenOf}
 use Rattle.association.specs.declared.Association.{Association}
-use Rattle.association.specs.Record.{wholeOf}
-use Rattle.timer.specs.Poll.{startupOver, triedOf}
-use Rattle.timer.specs.Parts.{composed}
-use Rattle.timer.specs.Timer.{sendOf, ntsOf, shortBuffer, bufferOf}
-use Rattle.timer.proofs.Cases as when
+use Rattle.association.specs.declared.Settings.{Settings}
+use Rattle.association.specs.declared.State.{State}
+use Rattle.association.specs.Record.{wholeSeen}
+use Rattle.timer_rules.specs.declared.Decision.{Decision}
+use Rattle.timer_rules.specs.declared.TimerInput.{TimerInput}
+use Rattle.timer_rules.specs.Poll.{shortBuffer, startupOver, timerInput}
+use Rattle.timer_rules.specs.Decide.{askedWith, decideNts, decideOf}
+use Rattle.timer_rules.proofs.Count.{asked-short}
+use Rattle.timer.specs.declared.TimerOut.{TimerOut}
+use Rattle.timer.specs.Timer.{out, decided, handed, timerOf, bufferOf, timed}
 use Rattle.timer.proofs.timer_core.Statement.{statement}
 use Rattle.timer.proofs.timer_core.Tie as tie
 
--- what each test that was passed says
-whole : (c : tie.Else1) → wholeOf (c .before .before .before .args .a) ≡ true
-whole c = sym (c .before .whole .ensures) ∙ not-false _ (c .if1 .left)
+-- what is handed out fits a slot and the buffer, and where no cookie is taken it is nothing
+record Fit (room : ℕ) (d : Decision) : Type 0 where
+  slot : handed (d .answer) ≤ 724
+  buffer : handed (d .answer) ≤ room
+  none : d .takes ≡ false → handed (d .answer) ≡ 0
 
-roomy : (c : tie.Else2) → let a = c .before .before .before .before .before .before .args in shortBuffer (a .a) (length (a .buffer .now)) ≡ false
-roomy c = sym (c .before .short-buffer .ensures) ∙ c .if2 .left
+empty : {room : ℕ} {d : Decision} → handed (d .answer) ≡ 0 → Fit room d
+empty e = record { slot = omega arith; buffer = omega arith; none = λ _. e }
 
-over : (c : tie.Then3) → startupOver (c .before .before .before .before .before .before .before .before .before .args .a) ≡ true
-unfolding startupOver
-over c = sym (c .before .startup-over .ensures) ∙ c .if3 .taken
+fit : (g : Settings) (s : State) (v : Seen) (i : TimerInput) (room : ℕ) → Fit room (decideOf g s v i room)
+unfolding decideOf decideNts
+fit g s v i room =
+    either (Fit room) (wholeSeen g v (s .request))
+    (λ _. either (Fit room) (shortBuffer g room) (λ _. empty refl)
+    (λ b. either (Fit room) (startupOver g s) (λ _. either (Fit room) (s .source .denial) (λ _. empty refl) (λ _. empty refl))
+    (λ _. either (Fit room) (g .nts)
+    (λ n. either (Fit room) (v .found) (λ _. either (Fit room) (eqb (askedWith v) 0) (λ _. empty refl) (λ z.
+    let short = asked-short (v .gap) (v .len) (eqb-false _ _ z) in
+    let roomy = ltb-false room 724 (sym (passes _ n) ∙ b) in
+    record { slot = short; buffer = omega arith; none = λ e. cc }))
+    (λ _. empty refl))
+    (λ _. empty refl))))
+    (λ _. empty refl)
 
-going : (c : tie.Else3) → startupOver (c .before .before .before .before .before .before .before .before .before .args .a) ≡ false
-unfolding startupOver
-going c = sym (c .before .startup-over .ensures) ∙ c .if3 .left
+-- the record after a cookie is taken
+taken : (a : Association) (d : Decision) (t : Taken) → d .takes ≡ true → t ≡ getOf 8 (a .stash) → out (d .answer) (record { settings = a .settings; stash = t .stash; state = d .state }) ≡ decided a d
+taken a d t e g = rw (e, g)
 
-whole-requires : tie.Need-whole-requires
-whole-requires c κs = search needs
+joined : {o p : TimerOut} {x y : List ℕ} → o ≡ p → x ≡ y → timed o x ≡ timed p y
+joined e f = λ i. timed (e i) (f i)
 
-returns : tie.Need-returns
-unfolding bufferOf
-returns c =
-    let e = when.gives-32 _ _ _ _ _ _ (sym (c .before .whole .ensures) ∙ not-true _ (c .if1 .taken)) in
-    (sym e, rw e)
+-- what the calls came to
+decides : (c : tie.After-decide) →
+    let a = c .before .before .before .before .before .before .args in
+    c .decide .result ≡ decideOf (a .a .settings) (a .a .state) (seenOf 8 (a .a .stash)) (timerInput (a .time) (a .desired) (a .id) (a .uid)) (length (a .buffer .now))
+decides c = rw (← c .before .seen .ensures) (c .decide .ensures)
 
-short-buffer-requires : tie.Need-short-buffer-requires
-short-buffer-requires c κs = search needs
+fits : (c : tie.After-decide) → Fit (length (c .before .before .before .before .before .before .args .buffer .now)) (c .decide .result)
+fits c = rw (decides c) (fit _ _ _ _ _)
 
-returns-2 : tie.Need-returns-2
-unfolding bufferOf
-returns-2 c =
-    let e = when.gives-31 _ _ _ _ _ _ (whole (c .before .before .before)) (sym (c .before .short-buffer .ensures) ∙ c .if2 .taken) in
-    (sym e, rw e)
+seen-requires : tie.Need-seen-requires
+seen-requires c κs = search needs
 
-startup-over-requires : tie.Need-startup-over-requires
-startup-over-requires c κs = search needs
-
-returns-3 : tie.Need-returns-3
-unfolding bufferOf
-returns-3 c =
-    let o = c .before .before in
-    let r = o .before .before .before in
-    let e = when.gives-22 _ _ _ _ _ _ (whole (r .before .before .before)) (roomy r) (over o) (c .if4 .taken) in
-    (sym e, rw e)
-
-returns-4 : tie.Need-returns-4
-unfolding bufferOf
-returns-4 c =
-    let o = c .before .before in
-    let r = o .before .before .before in
-    let e = when.gives-21 _ _ _ _ _ _ (whole (r .before .before .before)) (roomy r) (over o) (c .if4 .left) in
-    (sym e, rw e)
-
-state-of-requires : tie.Need-state-of-requires
-state-of-requires c κs = search needs
-
-tried-requires : tie.Need-tried-requires
-tried-requires c κs = search needs
+decide-requires : tie.Need-decide-requires
+decide-requires c κs = search needs
 
 get-requires : tie.Need-get-requires
 get-requires c κs = search needs
 
-send-nts-requires : tie.Need-send-nts-requires
-send-nts-requires c κs =
-    let n = c .before .before .before in
-    let r = n .before .before .before .before .before .before in
-    ltb-false _ _ (sym (passes _ (n .if5 .taken)) ∙ roomy r)
+handed-requires : tie.Need-handed-requires
+handed-requires c κs = search needs
 
-with-state-requires : tie.Need-with-state-requires
-with-state-requires c κs = search needs
+write-requires : tie.Need-write-requires
+write-requires c κs =
+    let f = fits (c .before .before .before .before .before .before .before) in
+    rw (c .before .handed .ensures) (f .slot, f .buffer)
 
 same-length : tie.Need-same-length
 same-length c = search needs
 
-returns-5 : tie.Need-returns-5
-returns-5 c =
-    let a = c .before .before .before .before .before .before .before .before .before .before .before .before .before .before .before .before .before .before .before .before .before .args in
-    let d = c .before .before .before .before .before .send-nts in
-    let g = c .before .before .before .before .before .before .before .get in
-    let n = c .before .before .before .before .before .before .before .before .before in
-    let o = n .before .before .before in
-    let r = o .before .before .before in
-    let q : composed (a .a .settings) (a .a .stash) (a .a .source) (n .before .tried .result) ≡ triedOf (a .a) = n .before .tried .ensures (a .a .settings) (a .a .stash) (a .a .source) ∙ ap triedOf (n .before .before .state-of .ensures) in
-    let e = d .ensures .0 (a .a .stash) (a .a .source) (g .ensures) ∙ ap (λ (x : Association). ntsOf x (a .time) (a .desired) (a .id) (a .uid)) q ∙ sym (when.tries-nts _ _ _ _ _ _ (whole (r .before .before .before)) (roomy r) (going o) (n .if5 .taken)) in
-    (rw (c .with-state .ensures) e, d .ensures .1 ∙ rw (g .ensures) (sym (when.buffer-is _ _ _ _ _ _ _ _ (sym e) (n .if5 .taken))))
+returns : tie.Need-returns
+unfolding timerOf bufferOf
+returns c =
+    let w = c .before .before .before in
+    let h = w .before .before in
+    let g = h .before .before .before in
+    let k = g .before .before .before in
+    let a = k .before .before .before .before .before .before .args .a in
+    let e = decides k in
+    joined
+    (taken a (k .decide .result) (g .get .result) (g .before .if1 .taken) (g .get .ensures) ∙ ap (decided a) e)
+    (w .write .ensures ∙ rw (← e, h .handed .ensures, g .get .ensures))
 
-send-requires : tie.Need-send-requires
-send-requires c κs = search needs
-
-with-state-requires-2 : tie.Need-with-state-requires-2
-with-state-requires-2 c κs = search needs
-
-returns-6 : tie.Need-returns-6
-returns-6 c =
-    let a = c .before .before .before .before .before .before .before .before .before .before .before .before .before .before .before .args in
-    let n = c .before .before .before in
-    let o = n .before .before .before in
-    let r = o .before .before .before in
-    let q : composed (a .a .settings) (a .a .stash) (a .a .source) (n .before .tried .result) ≡ triedOf (a .a) = n .before .tried .ensures (a .a .settings) (a .a .stash) (a .a .source) ∙ ap triedOf (n .before .before .state-of .ensures) in
-    let e = when.tries-plain _ _ _ _ _ _ (whole (r .before .before .before)) (roomy r) (going o) (n .if5 .left) in
-    (rw (c .with-state2 .ensures) (c .before .before .send .ensures (a .a .stash) (a .a .source) ∙ ap (λ (x : Association). sendOf x (a .time) (a .desired) (a .id) (a .uid) 0 0) q ∙ sym e), sym (when.buffer-is _ _ _ _ _ _ _ _ e (n .if5 .left)))
+returns-2 : tie.Need-returns-2
+unfolding timerOf bufferOf
+returns-2 c =
+    let k = c .before .before in
+    let e = decides k in
+    joined (rw (← e, c .if1 .left)) (rw (← e, fits k .none (c .if1 .left)))
 
 pub timer-core-spec : {M : Type 1} → statement M
 timer-core-spec =
     tie.close
     (tie.spec
-    whole-requires
-    returns
-    short-buffer-requires
-    returns-2
-    startup-over-requires
-    returns-3
-    returns-4
-    state-of-requires
-    tried-requires
+    seen-requires
+    decide-requires
     get-requires
-    send-nts-requires
-    with-state-requires
+    handed-requires
+    write-requires
     same-length
-    returns-5
-    send-requires
-    with-state-requires-2
-    returns-6)
+    returns
+    returns-2)

@@ -12,8 +12,8 @@ use lib.ListN.{length, take, drop, length-drop}
 use lib.Seq.{take-length}
 use denote.Ref.{now}
 use Rattle.words.specs.Bytes.{part}
-use Rattle.fields.specs.Field.{plainStep}
-use Rattle.fields.specs.Walk.{plainWalk, whole}
+use Rattle.fields.specs.Field.{decryptedStep}
+use Rattle.fields.specs.Walk.{decryptedWalk, whole}
 use Rattle.fields.specs.Collector.{listIn, collectOf, bufferOf}
 use Rattle.fields.specs.declared.Step.the-variants.{Field}
 use Rattle.fields.proofs.Walks.{Placed}
@@ -23,41 +23,41 @@ use Rattle.fields.proofs.collector.collect.Statement.{statement}
 use Rattle.fields.proofs.collector.collect.Tie as tie
 
 abbrev Inv-loop : tie.InvT-loop
-Inv-loop plain out₀ at₀ to₀ out at to = Along plain out₀ out at to
+Inv-loop decrypted out₀ at₀ to₀ out at to = Along decrypted out₀ out at to
 
 abbrev μ-loop : tie.MeasureT-loop
-μ-loop plain out₀ at₀ to₀ out at to = length plain - at
+μ-loop decrypted out₀ at₀ to₀ out at to = length decrypted - at
 
 -- what was passed before the loop: the two slices, that the walk ends, and that the list fits
-abbrev plain : tie.At-loop Inv-loop μ-loop → List ℕ
-plain l = now (l .before .before .before .before .before .before .before .before .args .plain)
+abbrev decrypted : tie.At-loop Inv-loop μ-loop → List ℕ
+decrypted l = now (l .before .before .before .before .before .before .before .before .args .decrypted)
 
 abbrev lent : tie.At-loop Inv-loop μ-loop → List ℕ
 lent l = now (l .before .before .before .before .before .before .before .before .args .out)
 
-ended : (b : tie.After-enum-told Inv-loop μ-loop) → whole (plainWalk (now (b .before .before .before .before .before .args .plain))) ≡ true
-ended b = whole-of (plainWalk (now (b .before .before .before .before .before .args .plain))) (b .enum-told .given .0 .0) (sym (b .before .before .plain-walk .ensures) ∙ b .enum-told .given .1)
+ended : (b : tie.After-enum-told Inv-loop μ-loop) → whole (decryptedWalk (now (b .before .before .before .before .before .args .decrypted))) ≡ true
+ended b = whole-of (decryptedWalk (now (b .before .before .before .before .before .args .decrypted))) (b .enum-told .given .0 .0) (sym (b .before .before .decrypted-walk .ensures) ∙ b .enum-told .given .1)
 
-room : (l : tie.At-loop Inv-loop μ-loop) → length (listIn (plain l)) ≤ length (lent l)
+room : (l : tie.At-loop Inv-loop μ-loop) → length (listIn (decrypted l)) ≤ length (lent l)
 room l = omega (arith, l .before .if1 .left, l .before .before .list-length .ensures)
 
 -- what stands at the turn's offset is the field that the pattern bound
 step : (k : tie.After-kind Inv-loop μ-loop) →
     let g = k .kind .given .0 in
     let l = k .before .before .before in
-    plainStep (plain l) (l .loop .at) ≡ Field (g .0) (g .1 .0) (g .1 .1 .0) (g .1 .1 .1 .0)
-step k = sym (k .before .before .plain-field-at .ensures) ∙ k .kind .given .1
+    decryptedStep (decrypted l) (l .loop .at) ≡ Field (g .0) (g .1 .0) (g .1 .1 .0) (g .1 .1 .1 .0)
+step k = sym (k .before .before .decrypted-field-at .ensures) ∙ k .kind .given .1
 
 at-field : (k : tie.After-kind Inv-loop μ-loop) →
     let g = k .kind .given .0 in
     let l = k .before .before .before in
-    Placed (plain l) (l .loop .at) 4 (g .1 .0) (g .1 .1 .0) (g .1 .1 .1 .0)
+    Placed (decrypted l) (l .loop .at) 4 (g .1 .0) (g .1 .1 .0) (g .1 .1 .1 .0)
 at-field k = here _ _ _ _ _ _ (step k)
 
 -- the body as the code takes it
 body-is : (k : tie.After-kind Inv-loop μ-loop) →
     let g = k .kind .given .0 in
-    let p = plain (k .before .before .before) in
+    let p = decrypted (k .before .before .before) in
     take (g .1 .0 + g .1 .1 .0 - g .1 .0) (drop (g .1 .0) p) ≡ part p (g .1 .0) (g .1 .1 .0)
 unfolding part
 body-is k = rw add-sub-cancel-left
@@ -66,10 +66,10 @@ small : (k : tie.After-kind Inv-loop μ-loop) → k .kind .given .0 .1 .1 .0 < 6
 small k =
     let l = k .before .before .before in
     let known = l .before .before .before .before .before .before .before .shared-slice-known in
-    body-short (plain l) (λ i. omega (arith, known .given i)) _ _ _ _ _ (at-field k)
+    body-short (decrypted l) (λ i. omega (arith, known .given i)) _ _ _ _ _ (at-field k)
 
-plain-walk-requires : tie.Need-plain-walk-requires Inv-loop μ-loop
-plain-walk-requires c κs = search needs
+decrypted-walk-requires : tie.Need-decrypted-walk-requires Inv-loop μ-loop
+decrypted-walk-requires c κs = search needs
 
 enum-told : tie.Need-enum-told Inv-loop μ-loop
 enum-told c = search needs
@@ -80,7 +80,7 @@ enum-told-2 c = search needs
 returns : tie.Need-returns Inv-loop μ-loop
 unfolding collectOf bufferOf
 returns c =
-    let o = not-whole (plainWalk (now (c .before .before .before .before .before .args .plain))) (sym (c .before .before .plain-walk .ensures) ∙ c .enum-told2 .given .1) in
+    let o = not-whole (decryptedWalk (now (c .before .before .before .before .before .args .decrypted))) (sym (c .before .before .decrypted-walk .ensures) ∙ c .enum-told2 .given .1) in
     (rw o, rw o)
 
 list-length-requires : tie.Need-list-length-requires Inv-loop μ-loop
@@ -90,19 +90,19 @@ returns-2 : tie.Need-returns-2 Inv-loop μ-loop
 unfolding collectOf bufferOf
 returns-2 c =
     let a = c .before .before .before .before .before .before .before .args in
-    let l = lt-leb (length (listIn (now (a .plain)))) (length (now (a .out))) (omega arith) in
+    let l = lt-leb (length (listIn (now (a .decrypted)))) (length (now (a .out))) (omega arith) in
     (rw (ended (c .before .before), l), rw (ended (c .before .before), l))
 
 loop-holds : tie.Need-loop-holds Inv-loop μ-loop
 loop-holds c = record {
   upto = omega arith;
-  left = sym (list-from-start (now (c .before .before .before .before .before .before .before .args .plain)));
+  left = sym (list-from-start (now (c .before .before .before .before .before .before .before .args .decrypted)));
   buffer = refl;
   long = refl;
 }
 
-plain-field-at-requires : tie.Need-plain-field-at-requires Inv-loop μ-loop
-plain-field-at-requires c κs = search needs
+decrypted-field-at-requires : tie.Need-decrypted-field-at-requires Inv-loop μ-loop
+decrypted-field-at-requires c κs = search needs
 
 enum-known-kind : tie.Need-enum-known-kind Inv-loop μ-loop
 enum-known-kind c = search needs
@@ -115,10 +115,10 @@ unfolding collectOf bufferOf
 returns-3 c =
     let l = c .before .before in
     let i = l .loop .inv in
-    let s = c .before .plain-field-at in
-    let z = stop-turn (plain l) (l .loop .at) (s .result) (sym (s .ensures)) (c .match2 .keys2) in
-    let n : l .loop .to ≡ length (listIn (plain l)) = omega (arith, i .upto, simp length-drop at (ap length (i .left ∙ z))) in
-    let r = le-leb (length (listIn (plain l))) (length (lent l)) (room l) in
+    let s = c .before .decrypted-field-at in
+    let z = stop-turn (decrypted l) (l .loop .at) (s .result) (sym (s .ensures)) (c .match2 .keys2) in
+    let n : l .loop .to ≡ length (listIn (decrypted l)) = omega (arith, i .upto, simp length-drop at (ap length (i .left ∙ z))) in
+    let r = le-leb (length (listIn (decrypted l))) (length (lent l)) (room l) in
     let w = ended (l .before .before .before) in
     (rw (w, r, n), i .buffer ∙ rw (w, r, n, take-length))
 
@@ -165,14 +165,14 @@ collect-spec =
     (tie.spec
     Inv-loop
     μ-loop
-    plain-walk-requires
+    decrypted-walk-requires
     enum-told
     enum-told-2
     returns
     list-length-requires
     returns-2
     loop-holds
-    plain-field-at-requires
+    decrypted-field-at-requires
     enum-known-kind
     same-length
     returns-3

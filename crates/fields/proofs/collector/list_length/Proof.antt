@@ -6,7 +6,7 @@ use mathlib.Core.Path.{_≡_, sym, _∙_, ap}
 use Prim.Native.Nat.{_+_, _-_, _≤_}
 use lib.ListN.{length, length-append}
 use denote.Ref.{now}
-use Rattle.fields.specs.Field.{plainStep}
+use Rattle.fields.specs.Field.{decryptedStep}
 use Rattle.fields.specs.Collector.{listIn}
 use Rattle.fields.specs.declared.Step.the-variants.{Field}
 use Rattle.fields.proofs.Walks.{Placed}
@@ -23,19 +23,19 @@ abbrev μ-loop : tie.MeasureT-loop
 -- what stands at the turn's offset is the field that the pattern bound
 step : (k : tie.After-kind Inv-loop μ-loop) →
     let g = k .kind .given .0 in
-    plainStep (now (k .before .before .before .before .before .args .plain)) (k .before .before .before .loop .at) ≡ Field (g .0) (g .1 .0) (g .1 .1 .0) (g .1 .1 .1 .0)
-step k = sym (k .before .before .plain-field-at .ensures) ∙ k .kind .given .1
+    decryptedStep (now (k .before .before .before .before .before .args .decrypted)) (k .before .before .before .loop .at) ≡ Field (g .0) (g .1 .0) (g .1 .1 .0) (g .1 .1 .1 .0)
+step k = sym (k .before .before .decrypted-field-at .ensures) ∙ k .kind .given .1
 
 at-field : (k : tie.After-kind Inv-loop μ-loop) →
     let g = k .kind .given .0 in
-    Placed (now (k .before .before .before .before .before .args .plain)) (k .before .before .before .loop .at) 4 (g .1 .0) (g .1 .1 .0) (g .1 .1 .1 .0)
+    Placed (now (k .before .before .before .before .before .args .decrypted)) (k .before .before .before .loop .at) 4 (g .1 .0) (g .1 .1 .0) (g .1 .1 .1 .0)
 at-field k = here _ _ _ _ _ _ (step k)
 
 loop-holds : tie.Need-loop-holds Inv-loop μ-loop
-loop-holds c = (omega arith, omega (arith, ap length (list-from-start (now (c .before .args .plain)))))
+loop-holds c = (omega arith, omega (arith, ap length (list-from-start (now (c .before .args .decrypted)))))
 
-plain-field-at-requires : tie.Need-plain-field-at-requires Inv-loop μ-loop
-plain-field-at-requires c κs = search needs
+decrypted-field-at-requires : tie.Need-decrypted-field-at-requires Inv-loop μ-loop
+decrypted-field-at-requires c κs = search needs
 
 enum-known-kind : tie.Need-enum-known-kind Inv-loop μ-loop
 enum-known-kind c = search needs
@@ -43,8 +43,8 @@ enum-known-kind c = search needs
 returns : tie.Need-returns Inv-loop μ-loop
 returns c =
     let l = c .before .before .loop in
-    let p = now (c .before .before .before .before .args .plain) in
-    let z = stop-turn p (l .at) (c .before .plain-field-at .result) (sym (c .before .plain-field-at .ensures)) (c .match .keys2) in
+    let p = now (c .before .before .before .before .args .decrypted) in
+    let z = stop-turn p (l .at) (c .before .decrypted-field-at .result) (sym (c .before .decrypted-field-at .ensures)) (c .match .keys2) in
     omega (arith, ap length z, l .inv .1)
 
 add-n : tie.Need-add-n Inv-loop μ-loop
@@ -60,7 +60,7 @@ loop-again : tie.Need-loop-again Inv-loop μ-loop
 loop-again c =
     let k = c .before .before in
     let g = k .kind .given .0 in
-    let p = now (k .before .before .before .before .before .args .plain) in
+    let p = now (k .before .before .before .before .before .args .decrypted) in
     let l = k .before .before .before .loop in
     let w = at-field k in
     let t = cookie-turn p (l .at) (g .0) (g .1 .0) (g .1 .1 .0) (g .1 .1 .1 .0) (step k) (c .if1 .taken) in
@@ -84,7 +84,7 @@ list-length-spec =
     Inv-loop
     μ-loop
     loop-holds
-    plain-field-at-requires
+    decrypted-field-at-requires
     enum-known-kind
     returns
     add-n

@@ -1,0 +1,35 @@
+-- Document 01, the table of numbers: when acceptance gives each number, and with which answer, in the order of the tests. The record stays.
+-- Assumes nothing.
+use mathlib.Core.Path.{_≡_}
+use mathlib.Core.Bool.{true, false}
+use mathlib.Core.List.{List}
+use Prim.Native.Nat.{ℕ}
+use lib.Dec.{leb}
+use Rattle.reach.specs.Register.{reachableOf}
+use Rattle.association.specs.declared.Association.{Association}
+use Rattle.association.specs.Record.{wholeOf}
+use Rattle.accept.specs.declared.Bloom.{Bloom}
+use Rattle.accept.specs.declared.AcceptAnswer.{AcceptAnswer}
+use Rattle.accept.specs.declared.AcceptAnswer.the-variants.{Accepted, Stratum, Loop, Unreachable, NotWhole}
+use Rattle.accept.specs.Accept.{loops}
+
+module _ (a : Association) (stratum : ℕ) (local : List ℕ) (bloom : Bloom) where
+  -- ---- the tests that a source has passed, each with those before it
+
+  -- neither 32 nor 40
+  pub record Below : Type 0 where
+    pub whole : wholeOf a ≡ true
+    pub below : leb stratum (a .state .source .stratum) ≡ false
+
+  -- nor 41
+  pub record Unlooped : Type 0 where
+    pub below : Below
+    pub free : loops (a .state .source .stratum) (a .settings .source .0) local bloom ≡ false
+
+  -- ---- the numbers, each with its answer
+  pub data Given : ℕ → AcceptAnswer → Type 0 where
+    not-whole : wholeOf a ≡ false → Given 32 NotWhole
+    too-high : wholeOf a ≡ true → leb stratum (a .state .source .stratum) ≡ true → Given 40 Stratum
+    looped : Below → loops (a .state .source .stratum) (a .settings .source .0) local bloom ≡ true → Given 41 Loop
+    unreached : Unlooped → reachableOf (a .state .effort .reach) ≡ false → Given 42 Unreachable
+    accepted : Unlooped → reachableOf (a .state .effort .reach) ≡ true → Given 0 Accepted

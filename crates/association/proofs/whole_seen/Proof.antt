@@ -1,0 +1,50 @@
+-- `whole_seen` meets its contract: the tests in order, each by its function.
+-- Assumes nothing.
+use mathlib.Core.Path.{_≡_, sym, _∙_}
+use mathlib.Core.Bool.{true}
+use borrow.Author.Tests.{not-true, not-false}
+use Rattle.association.specs.Settings.{settingsValid}
+use Rattle.association.specs.Record.{wholeSeen}
+use borrow.Author.Needs.{needs}
+use Rattle.association.proofs.whole_seen.Statement.{statement}
+use Rattle.association.proofs.whole_seen.Tie as tie
+
+-- what each test that was passed says
+settled : (c : tie.Else1) → settingsValid (c .before .before .args .settings) ≡ true
+settled c = sym (c .before .valid .ensures) ∙ not-false _ (c .if1 .left)
+
+seen-whole : (c : tie.Else2) → c .before .before .before .before .args .seen .whole ≡ true
+seen-whole c = not-false _ (c .if2 .left)
+
+valid-requires : tie.Need-valid-requires
+valid-requires c κs = search needs
+
+returns : tie.Need-returns
+unfolding wholeSeen
+returns c = rw (sym (c .before .valid .ensures) ∙ not-true _ (c .if1 .taken))
+
+returns-2 : tie.Need-returns-2
+unfolding wholeSeen
+returns-2 c = rw (settled (c .before .before), not-true (c .before .before .before .before .args .seen .whole) (c .if2 .taken))
+
+valid-requires-2 : tie.Need-valid-requires-2
+valid-requires-2 c κs = search needs
+
+returns-3 : tie.Need-returns-3
+unfolding wholeSeen
+returns-3 c =
+    let k = c .before .before in
+    rw (settled (k .before .before), seen-whole k, sym (c .before .valid2 .ensures) ∙ not-true _ (c .if3 .taken))
+
+idle-valid-requires : tie.Need-idle-valid-requires
+idle-valid-requires c κs = search needs
+
+returns-4 : tie.Need-returns-4
+unfolding wholeSeen
+returns-4 c =
+    let r = c .before .before in
+    let k = r .before .before in
+    rw (settled (k .before .before), seen-whole k, sym (r .before .valid2 .ensures) ∙ not-false _ (r .if3 .left)) (c .idle-valid .ensures)
+
+pub whole-seen-spec : {M : Type 1} → statement M
+whole-seen-spec = tie.close (tie.spec valid-requires returns returns-2 valid-requires-2 returns-3 idle-valid-requires returns-4)

@@ -1,0 +1,47 @@
+-- Demand 3 of the association, from any record with nothing pending, and so from a new one.
+-- Assumes nothing.
+use mathlib.Core.Path.{_≡_, refl}
+use mathlib.Core.Bool.{Bool, true, false, not, _&&_, cond}
+use mathlib.Core.List.{List}
+use mathlib.Core.Option.{none}
+use Prim.Native.Nat.{ℕ}
+use Rattle.cookielist.specs.List.{isWhole, cookiesIn}
+use Rattle.cookiestash.specs.StoreList.{storeListOf}
+use Rattle.association.specs.declared.Settings.{Settings}
+use Rattle.association.specs.declared.NewOut.{NewOut}
+use Rattle.association.specs.declared.NewAnswer.the-variants.{Made, BadSettings, BrokenList}
+use Rattle.association.specs.Settings.{settingsValid}
+use Rattle.association.specs.Record.{noPending, blankOf, freshOf, withStash}
+use Rattle.association.specs.New.{madeOf, newOf}
+use Rattle.log.specs.Log.{Accepted}
+use Rattle.log.specs.Machine.{Call, logOf}
+use Rattle.log.specs.Demand.{Demand3}
+use Rattle.log.proofs.Strike.{demand3}
+use Rattle.association_log.specs.Association.{rule, pendingIn, machine}
+use Rattle.association_log.proofs.Obeys.{laws}
+
+-- whatever `new` answers, nothing is pending
+pub new-pends-nothing : (s : Settings) (list : List ℕ) → pendingIn (newOf s list .association .state .request) ≡ none
+unfolding newOf madeOf freshOf blankOf noPending
+new-pends-nothing s list = by (settingsValid s) (s .nts && not (isWhole (cookiesIn list))) (s .nts)
+  where
+    kept : (n : Bool) → pendingIn (cond n (withStash (freshOf s) (storeListOf 8 (freshOf s .stash) list)) (freshOf s) .state .request) ≡ none
+    kept true = refl
+    kept false = refl
+
+    by : (h b n : Bool) →
+        pendingIn
+        (cond {A = NewOut} h
+        (cond b
+        (record { answer = BrokenList; association = blankOf })
+        (record { answer = Made; association = cond n (withStash (freshOf s) (storeListOf 8 (freshOf s .stash) list)) (freshOf s) }))
+        (record { answer = BadSettings; association = blankOf }) .association .state .request) ≡ none
+    by true true n = refl
+    by true false n = kept n
+    by false b n = refl
+
+-- any log of accepted timers and well-formed replies from a new association, with or without NTS, in all versions and both forms, with clocks jumping either way
+pub association-demand3 : (s : Settings) (list : List ℕ) (calls : List (Call rule)) →
+    let a = newOf s list .association in
+    Accepted (logOf machine a calls) → Demand3 machine a calls
+association-demand3 s list calls ok = demand3 machine laws (newOf s list .association) calls (new-pends-nothing s list) ok

@@ -1,0 +1,58 @@
+-- A record with any mark, a length and a body, at an offset of a file, is read back: its mark and its length there, its body behind them, and behind that what follows.
+-- Assumes nothing.
+use Prim.Native.Nat.{ℕ, _+_, _-_, _≤_, _<_}
+use mathlib.Core.Path.{_≡_, refl, sym, ap, _∙_}
+use mathlib.Core.List.{List, _++_, append-assoc}
+use native.Mathlib.Nat.{mod-eq-of-lt}
+use native.Mathlib.Omega.{arith}
+use lib.ListN.{length, drop, length-append, length-drop}
+use lib.Seq.{take-at, drop-at, drop-drop}
+use Rattle.words.specs.Bytes.{be, part, toBe}
+use Rattle.words.proofs.Bytes.{length-toBe, be-toBe}
+use Rattle.cookielist.specs.List.{markedOf}
+
+-- what stands at an offset of a file where a record does, with a rest behind it
+pub record Marked (l : List ℕ) (m : ℕ) (c rest : List ℕ) (at : ℕ) : Type 0 where
+  pub long : at + 4 + length c + length rest ≡ length l
+  pub mark : be (part l at 2) ≡ m
+  pub len : be (part l (at + 2) 2) ≡ length c
+  pub body : part l (at + 4) (length c) ≡ c
+  pub behind : drop (at + 4 + length c) l ≡ rest
+
+module _ (l : List ℕ) (m : ℕ) (c rest : List ℕ) (at : ℕ) (fits : m < 65536) (short : length c ≤ 65535) (here : drop at l ≡ markedOf m c ++ rest) where
+  long-here : at + 4 + length c + length rest ≡ length l
+  unfolding markedOf
+  long-here = omega (arith, simp (length-drop, length-append, length-toBe) at (ap length here))
+
+  from-here : (n : ℕ) → drop (at + n) l ≡ drop n (markedOf m c ++ rest)
+  from-here n = sym (drop-drop n at l) ∙ ap (drop n) here
+
+  split : markedOf m c ++ rest ≡ toBe 2 m ++ (toBe 2 (length c) ++ (c ++ rest))
+  unfolding markedOf
+  split = simp append-assoc
+
+  mark-here : be (part l at 2) ≡ m
+  unfolding part
+  mark-here = rw (here, split, take-at (toBe 2 m) (toBe 2 (length c) ++ (c ++ rest)) 2 (length-toBe 2 m)) (be-toBe 2 m ∙ mod-eq-of-lt (omega arith))
+
+  second : drop (at + 2) l ≡ toBe 2 (length c) ++ (c ++ rest)
+  second = from-here 2 ∙ rw split (drop-at (toBe 2 m) (toBe 2 (length c) ++ (c ++ rest)) 2 (length-toBe 2 m))
+
+  length-here : be (part l (at + 2) 2) ≡ length c
+  unfolding part
+  length-here = rw (second, take-at (toBe 2 (length c)) (c ++ rest) 2 (length-toBe 2 (length c))) (be-toBe 2 (length c) ∙ mod-eq-of-lt (omega arith))
+
+  third : drop (at + 4) l ≡ c ++ rest
+  third =
+      let e : at + 2 + 2 ≡ at + 4 = omega arith in
+      ap (λ (n : ℕ). drop n l) (sym e) ∙ sym (drop-drop 2 (at + 2) l) ∙ ap (drop 2) second ∙ drop-at (toBe 2 (length c)) (c ++ rest) 2 (length-toBe 2 (length c))
+
+  body-here : part l (at + 4) (length c) ≡ c
+  unfolding part
+  body-here = rw third (take-at c rest (length c) refl)
+
+  rest-here : drop (at + 4 + length c) l ≡ rest
+  rest-here = sym (drop-drop (length c) (at + 4) l) ∙ ap (drop (length c)) third ∙ drop-at c rest (length c) refl
+
+  pub marked : Marked l m c rest at
+  marked = record { long = long-here; mark = mark-here; len = length-here; body = body-here; behind = rest-here }

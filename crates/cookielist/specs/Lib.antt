@@ -1,0 +1,2 @@
+-- The definitions that the contracts of `cookielist` cite.
+pub mod List

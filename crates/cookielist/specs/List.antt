@@ -1,0 +1,80 @@
+-- The cookie list (document 01, settings and a whole record): a run of records, each the mark C0 0E, the length in two bytes, big-endian, and the bytes. An empty list is legal.
+-- Assumes nothing.
+use Prim.Native.Nat.{ℕ, zero, suc, _+_, _-_, _≤_}
+use mathlib.Core.List.{List, [], _∷_, _++_}
+use mathlib.Core.Bool.{Bool, true, false, cond}
+use lib.ListN.{length}
+use lib.Dec.{ltb, eqb}
+use Rattle.words.specs.Bytes.{be, part, toBe}
+use Rattle.cookielist.specs.declared.Entry.{Entry}
+use Rattle.cookielist.specs.declared.Entry.the-variants.{Cookie, End, Broken}
+
+-- ---- the writer
+
+-- a record with any mark: the mark and the length of the body in two bytes each, big-endian, and the body
+unfoldable pub markedOf : ℕ → List ℕ → List ℕ
+markedOf m c = toBe 2 m ++ (toBe 2 (length c) ++ c)
+
+-- a cookie's record
+unfoldable pub recordOf : List ℕ → List ℕ
+recordOf c = 0xC0 ∷ 0x0E ∷ toBe 2 (length c) ++ c
+
+abbrev pub listOf : List (List ℕ) → List ℕ
+listOf [] = []
+listOf (c ∷ cs) = recordOf c ++ listOf cs
+
+-- cookies whose lengths two bytes can name
+abbrev pub AllShort : List (List ℕ) → Type 0
+AllShort [] = Unit
+AllShort (c ∷ cs) = (length c ≤ 65535) × AllShort cs
+
+-- ---- the reader
+
+-- the mark and the length of the record at an offset
+unfoldable pub recordMarkAt : List ℕ → ℕ → ℕ
+recordMarkAt l at = be (part l at 2)
+
+unfoldable pub lengthAt : List ℕ → ℕ → ℕ
+lengthAt l at = be (part l (at + 2) 2)
+
+-- what stands at an offset: past the bytes is broken, nothing left the end; four bytes of mark and length, the mark C0 0E, and as many bytes as the length says make a cookie
+unfoldable pub entryAt : List ℕ → ℕ → Entry
+entryAt l at =
+    cond (ltb (length l) at) Broken
+    (cond (eqb (length l - at) 0) End
+    (cond (ltb (length l - at) 4) Broken
+    (cond (eqb (recordMarkAt l at) 0xC00E)
+    (cond (ltb (length l - at - 4) (lengthAt l at)) Broken
+    (Cookie (at + 4) (at + 4 + lengthAt l at)))
+    Broken)))
+
+-- what a list is read as: its cookies, or broken
+pub data Listed : Type 0 where
+  whole : List (List ℕ) → Listed
+  broken : Listed
+
+abbrev pub isWhole : Listed → Bool
+isWhole (whole cs) = true
+isWhole broken = false
+
+-- a cookie before those of the rest
+abbrev pub before : List ℕ → Listed → Listed
+before c (whole cs) = whole (c ∷ cs)
+before c broken = broken
+
+abbrev pub onEntry : List ℕ → (ℕ → Listed) → Entry → Listed
+onEntry l rest (Cookie start end) = before (part l start (end - start)) (rest end)
+onEntry l rest End = whole []
+onEntry l rest Broken = broken
+
+-- with at most n cookies
+abbrev pub cookiesN : ℕ → List ℕ → ℕ → Listed
+cookiesN zero l at = onEntry l (λ end. broken) (entryAt l at)
+cookiesN (suc n) l at = onEntry l (λ end. cookiesN n l end) (entryAt l at)
+
+-- the cookies from an offset on; of so many bytes no more cookies can be read
+unfoldable pub cookiesFrom : List ℕ → ℕ → Listed
+cookiesFrom l at = cookiesN (length l - at) l at
+
+unfoldable pub cookiesIn : List ℕ → Listed
+cookiesIn l = cookiesFrom l 0

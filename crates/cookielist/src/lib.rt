@@ -1,0 +1,67 @@
+// The list in which cookies come, in the house form (document 01, "Settings and a whole record"): a run of records, each a mark, a length and a cookie.
+ghost use mathlib.Core.Path.{_≡_};
+ghost use Rattle.cookielist.specs.List.{entryAt, isWhole, cookiesIn};
+
+// The mark that every record of a cookie list starts with.
+pub const RECORD_MARK: u16 = 0xC00E;
+
+// The bytes of a record before the cookie: the mark and the length.
+pub const HEAD_BYTES: usize = 4;
+
+// The longest cookie that is kept or sent.
+pub const MAX_COOKIE: usize = 724;
+
+// What stands at an offset of a cookie list: a cookie, whose bytes are those from start and before end; nothing more; or neither.
+pub enum Entry {
+    Cookie { start: usize, end: usize },
+    End,
+    Broken,
+}
+
+// Past the bytes, and where no whole record stands, the list is broken.
+pub fn entry_at(list: &[u8], at: usize) -> Entry
+    ensures { λ r. ⌜ r ≡ entryAt (now (list .entry)) at ⌝ }
+{
+    if list.len() < at {
+        return Entry::Broken;
+    }
+    let rest = list.len() - at;
+    if rest == 0 {
+        return Entry::End;
+    }
+    if rest < HEAD_BYTES {
+        return Entry::Broken;
+    }
+    if words::be16_at(list, at) != RECORD_MARK {
+        return Entry::Broken;
+    }
+    let len = words::be16_at(list, at + 2) as usize;
+    if rest - HEAD_BYTES < len {
+        return Entry::Broken;
+    }
+    let start = at + HEAD_BYTES;
+    Entry::Cookie {
+        start,
+        end: start + len,
+    }
+}
+
+// Whether a list of bytes is a cookie list.
+pub fn list_whole(list: &[u8]) -> bool
+    ensures { λ r. ⌜ r ≡ isWhole (cookiesIn (now (list .entry))) ⌝ }
+{
+    let mut at: usize = 0;
+    loop {
+        match entry_at(list, at) {
+            Entry::Cookie { start: _, end } => {
+                at = end;
+            }
+            Entry::End => {
+                return true;
+            }
+            Entry::Broken => {
+                return false;
+            }
+        }
+    }
+}

@@ -1,0 +1,17 @@
+// The commands of the drill. Each reads its keys from the line, makes its call and writes the answer; a line that is refused leaves the association as it was.
+pub mod calls;
+pub mod polls;
+pub mod record;
+pub mod replies;
+pub mod requests;
+
+use association::Association;
+
+// What the buffer of a timer or of a request is filled with before it is lent.
+const FILLER: u8 = 0xAA;
+
+// What a line's run leaves: the association, and where its answer ends in the buffer.
+pub struct Ran {
+    pub association: Association,
+    pub end: usize,
+}

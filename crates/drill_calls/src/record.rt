@@ -1,0 +1,366 @@
+// The commands on the record itself: show, cookies, blank, poke.
+use crate::Ran;
+use association::Association;
+use association::Pending;
+use association::Settings;
+use association::Source;
+use association::State;
+use cookiestash::CAPACITY;
+use cookiestash::CookieStash;
+use cookiestash::MAX_COOKIES;
+use cookiestash::Slot;
+use drill_text::keys;
+use drill_text::print;
+use drill_text::text;
+use drill_text::text::Found;
+use drill_text::value;
+use drill_text::value::ID_DIGITS;
+use drill_text::value::Number;
+use identifiers::ReferenceId;
+use reach::Reach;
+use time_types::PollInterval;
+use version::ProtocolVersion;
+use version::Version;
+
+// The keys of poke, by their places in its table.
+mod poke_key {
+    pub const KEY: usize = 0;
+
+    pub const VALUE: usize = 1;
+}
+
+// The numbers of the record that poke sets, by their places in their own table: those of the state, of the stash, of the settings.
+mod field {
+    pub const REACH: usize = 0;
+
+    pub const TRIES: usize = 1;
+
+    pub const STRATUM: usize = 2;
+
+    pub const REFID: usize = 3;
+
+    pub const LAST: usize = 4;
+
+    pub const REMOTE: usize = 5;
+
+    pub const READ: usize = 6;
+
+    pub const HELD: usize = 7;
+
+    pub const MIN: usize = 8;
+
+    pub const MAX: usize = 9;
+
+    pub const STARTUP: usize = 10;
+
+    pub const WINDOW: usize = 11;
+}
+
+fn put_version(out: &mut [u8], at: usize, version: Version) -> usize {
+    let kind = version.kind;
+    match kind {
+        ProtocolVersion::V4 => print::text(out, at, b" version=v4"),
+        ProtocolVersion::Upgrading(tries) => {
+            print::number(out, at, b" version=upgrading:", tries as u64)
+        }
+        ProtocolVersion::Upgraded => print::text(out, at, b" version=upgraded"),
+        ProtocolVersion::V5 => print::text(out, at, b" version=v5"),
+    }
+}
+
+fn put_request(out: &mut [u8], at: usize, request: Pending) -> usize {
+    let at = print::text(out, at, b" pending=");
+    if !request.present {
+        return print::byte(out, at, b'-');
+    }
+    let at = print::hexadecimal(out, at, request.id, ID_DIGITS);
+    let at = print::byte(out, at, b'/');
+    let uid = request.uid;
+    let at = print::bytes(out, at, &uid);
+    let at = print::byte(out, at, b'/');
+    print::decimal(out, at, request.deadline)
+}
+
+fn put_denial(out: &mut [u8], at: usize, denial: bool) -> usize {
+    if denial {
+        print::text(out, at, b" denial=yes")
+    } else {
+        print::text(out, at, b" denial=no")
+    }
+}
+
+fn put_source(out: &mut [u8], at: usize, source: Source) -> usize {
+    let at = put_denial(out, at, source.denial);
+    let at = print::number(out, at, b" stratum=", source.stratum as u64);
+    let refid = source.refid;
+    print::identifier(out, at, b" refid=", refid.0)
+}
+
+// The slots' lengths, slot 0 first.
+fn put_lengths(out: &mut [u8], from: usize, stash: CookieStash) -> usize {
+    let first = stash.slots[0];
+    let mut at = print::decimal(out, from, first.len as u64);
+    let mut i = 1;
+    while i < MAX_COOKIES {
+        let slot = stash.slots[i];
+        at = print::byte(out, at, b',');
+        at = print::decimal(out, at, slot.len as u64);
+        i += 1;
+    }
+    at
+}
+
+fn put_stash(out: &mut [u8], at: usize, stash: CookieStash) -> usize {
+    let at = print::number(out, at, b" read=", stash.read as u64);
+    let at = print::number(out, at, b" held=", stash.held as u64);
+    let at = print::text(out, at, b" lens=");
+    put_lengths(out, at, stash)
+}
+
+// How the polls went, and how the next ones go.
+fn put_polling(out: &mut [u8], state: State) -> usize {
+    let effort = state.effort;
+    let reach = effort.reach;
+    let at = print::number(out, 0, b"record reach=", reach.0 as u64);
+    let at = print::number(out, at, b" tries=", effort.tries as u64);
+    let version = state.version;
+    let at = put_version(out, at, version);
+    let polls = state.polls;
+    let last = polls.last;
+    let at = print::small(out, at, b" last=", last.0);
+    let remote = polls.remote;
+    print::small(out, at, b" remote=", remote.0)
+}
+
+// What is awaited, and what came.
+fn put_answers(out: &mut [u8], at: usize, state: State) -> usize {
+    let request = state.request;
+    let at = put_request(out, at, request);
+    let source = state.source;
+    put_source(out, at, source)
+}
+
+pub fn show(a: Association, line: &[u8], number: u64, out: &mut [u8]) -> Ran {
+    let v = keys::read(line, number, b"", out);
+    if v.refused {
+        return Ran {
+            association: a,
+            end: v.end,
+        };
+    }
+    let state = a.state;
+    let at = put_polling(out, state);
+    let at = put_answers(out, at, state);
+    let stash = a.stash;
+    let end = put_stash(out, at, stash);
+    Ran {
+        association: a,
+        end,
+    }
+}
+
+// The stored bytes of a cookie, of which one that is longer than a slot has none.
+fn put_cookie(out: &mut [u8], at: usize, slot: Slot) -> usize {
+    let bytes = slot.bytes;
+    print::bytes(out, at, text::part(&bytes, 0, slot.len as usize))
+}
+
+// The cookies of a stash, oldest first.
+fn put_cookies(out: &mut [u8], from: usize, stash: CookieStash) -> usize {
+    let mut rest = stash;
+    let mut at = from;
+    let mut separator = b' ';
+    let mut i: usize = 0;
+    while i < MAX_COOKIES {
+        let taken = rest.get(CAPACITY);
+        if !taken.found {
+            return at;
+        }
+        at = print::byte(out, at, separator);
+        let slot = taken.slot;
+        at = put_cookie(out, at, slot);
+        let left = taken.stash;
+        rest = left;
+        separator = b',';
+        i += 1;
+    }
+    at
+}
+
+pub fn cookies(a: Association, line: &[u8], number: u64, out: &mut [u8]) -> Ran {
+    let v = keys::read(line, number, b"", out);
+    if v.refused {
+        return Ran {
+            association: a,
+            end: v.end,
+        };
+    }
+    if !a.whole() {
+        let end = print::text(out, 0, b"cookies 0");
+        return Ran {
+            association: a,
+            end,
+        };
+    }
+    let stash = a.stash;
+    let at = print::number(out, 0, b"cookies ", stash.held as u64);
+    let end = put_cookies(out, at, stash);
+    Ran {
+        association: a,
+        end,
+    }
+}
+
+pub fn blank(a: Association, line: &[u8], number: u64, out: &mut [u8]) -> Ran {
+    let v = keys::read(line, number, b"", out);
+    if v.refused {
+        return Ran {
+            association: a,
+            end: v.end,
+        };
+    }
+    let association = Association::blank();
+    let end = print::text(out, 0, b"blank");
+    Ran { association, end }
+}
+
+// One number of the effort, of the source or of the polls.
+fn poke_state(state: State, key: usize, n: u64) -> State {
+    let mut next = state;
+    let mut effort = state.effort;
+    let mut source = state.source;
+    let mut polls = state.polls;
+    let small = value::low8(n);
+    let poll = PollInterval(words::u8_as_i8(small));
+    match key {
+        field::REACH => {
+            let reach = Reach(small);
+            effort.reach = reach;
+        }
+        field::TRIES => {
+            effort.tries = small;
+        }
+        field::STRATUM => {
+            source.stratum = small;
+        }
+        field::REFID => {
+            let refid = ReferenceId(value::low32(n));
+            source.refid = refid;
+        }
+        field::LAST => {
+            polls.last = poll;
+        }
+        _ => {
+            polls.remote = poll;
+        }
+    }
+    next.effort = effort;
+    next.source = source;
+    next.polls = polls;
+    next
+}
+
+fn poke_stash(stash: CookieStash, key: usize, n: usize) -> CookieStash {
+    let mut next = stash;
+    match key {
+        field::READ => {
+            next.read = n;
+        }
+        _ => {
+            next.held = n;
+        }
+    }
+    next
+}
+
+fn poke_settings(settings: Settings, key: usize, n: u64) -> Settings {
+    let mut next = settings;
+    let small = value::low8(n);
+    let poll = PollInterval(words::u8_as_i8(small));
+    match key {
+        field::MIN => {
+            next.min = poll;
+        }
+        field::MAX => {
+            next.max = poll;
+        }
+        field::STARTUP => {
+            next.startup = small;
+        }
+        _ => {
+            next.window = n;
+        }
+    }
+    next
+}
+
+// Each group of the record has its keys.
+fn poked(a: Association, key: usize, n: u64) -> Association {
+    let mut next = a;
+    match key {
+        field::REACH..=field::REMOTE => {
+            let state = a.state;
+            let state = poke_state(state, key, n);
+            next.state = state;
+        }
+        field::READ..=field::HELD => {
+            let stash = a.stash;
+            let stash = poke_stash(stash, key, n as usize);
+            next.stash = stash;
+        }
+        _ => {
+            let settings = a.settings;
+            let settings = poke_settings(settings, key, n);
+            next.settings = settings;
+        }
+    }
+    next
+}
+
+// Sets one number of the record. `table` has the keys that it takes, with the kind of each.
+fn poke_by(
+    a: Association,
+    key: &[u8],
+    value: &[u8],
+    table: &[u8],
+    number: u64,
+    out: &mut [u8],
+) -> Ran {
+    let Found::At(i) = text::index_of(table, key) else {
+        let end = print::error(out, number, b"bad key", b"");
+        return Ran {
+            association: a,
+            end,
+        };
+    };
+    let Number::Is(n) = value::parse(keys::kind_of(table, i), value) else {
+        let end = print::error(out, number, b"bad value", b"");
+        return Ran {
+            association: a,
+            end,
+        };
+    };
+    let association = poked(a, i, n);
+    let end = print::text(out, 0, b"poke");
+    Ran { association, end }
+}
+
+// The keys of poke: reach, tries, stratum and startup are unsigned 8-bit numbers, refid is 8 hexadecimal digits, last, remote, min and
+// max are signed 8-bit numbers, read, held and window unsigned 64-bit ones.
+pub fn poke(a: Association, line: &[u8], number: u64, out: &mut [u8]) -> Ran {
+    let v = keys::read(line, number, b"key:t value:t", out);
+    if v.refused {
+        return Ran {
+            association: a,
+            end: v.end,
+        };
+    }
+    poke_by(
+        a,
+        v.text(poke_key::KEY, line),
+        v.text(poke_key::VALUE, line),
+        b"reach:u tries:u stratum:u refid:f last:b remote:b read:n held:n min:b max:b startup:u window:n",
+        number,
+        out,
+    )
+}

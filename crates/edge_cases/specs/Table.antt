@@ -1,0 +1,88 @@
+-- Document 01, "Either side of each edge": the starred cases as one table of the definitions. A case is a call of a definition and what it is to give,
+-- and `Right` says what the case claims. proofs/Holds.antt has the one theorem: every claim of the table holds.
+-- Assumes nothing.
+use mathlib.Core.Path.{_≡_}
+use mathlib.Core.Bool.{Bool, true, false}
+use mathlib.Core.List.{List, [], _∷_}
+use Prim.Native.Nat.{ℕ, _-_, _^_}
+use lib.IntN.{ℤ, pos, negsuc}
+use Rattle.words.specs.Signed.{halfToZero}
+use Rattle.reach.specs.Register.{polledOf, unansweredOf}
+use Rattle.cookiestash.specs.Stash.{slotOf, newOf, getOf}
+use Rattle.cookielist.specs.List.{AllShort}
+use Rattle.cookiestash.specs.Queue.{storeAll}
+use Rattle.version.specs.declared.ProtocolVersion.{ProtocolVersion}
+use Rattle.version.specs.declared.ProtocolVersion.the-variants.{V4, Upgrading}
+use Rattle.version.specs.Upgrade.{stepped}
+use Rattle.timer_rules.specs.declared.TimerInput.{TimerInput}
+use Rattle.timer_rules.specs.Poll.{askedOf, pendingOf}
+use Rattle.reply_rules.specs.After.{live}
+use Rattle.time_types.specs.Time.{difference, delayOf, offsetOf, localTime}
+use Rattle.time_types.specs.Poll.{afterRate}
+
+pub data Case : Type 0 where
+  -- any nine cookies stored: the second comes out first
+  nine-stored : Case
+  -- a reach register and its count of unanswered polls
+  counts : (reach count : ℕ) → Case
+  -- a reach register, polled
+  polled : (reach next : ℕ) → Case
+  -- the gap after the take and the cookie's length, and how many new ones are asked for; none is 24
+  asks : (gap length number : ℕ) → Case
+  -- when a poll was sent and its window, and whether it is live at a time; where not, a reply gives 3
+  live-at : (sent window time : ℕ) (lives : Bool) → Case
+  -- a version and a plain reply
+  plain-reply : (kind next : ProtocolVersion) → Case
+  -- the remote minimum, the upper limit and the last poll, and the remote minimum after RATE
+  rated : (remote limit last next : ℤ) → Case
+  -- T1 to T4, and delay, offset and local time
+  measured : (t1 t2 t3 t4 : ℕ) (delay offset : ℤ) (local : ℕ) → Case
+  -- the sum of an offset, halved
+  halved : (sum half : ℤ) → Case
+  -- a difference of timestamps
+  differ : (a b : ℕ) (difference : ℤ) → Case
+
+abbrev pub Right : Case → Type 0
+Right nine-stored =
+    (a b c d e f g h i : List ℕ) →
+    AllShort (a ∷ b ∷ c ∷ d ∷ e ∷ f ∷ g ∷ h ∷ i ∷ []) →
+    (getOf 8 (storeAll 8 newOf (a ∷ b ∷ c ∷ d ∷ e ∷ f ∷ g ∷ h ∷ i ∷ [])) .found ≡ true)
+    × (getOf 8 (storeAll 8 newOf (a ∷ b ∷ c ∷ d ∷ e ∷ f ∷ g ∷ h ∷ i ∷ [])) .slot ≡ slotOf b)
+Right (counts r n) = unansweredOf (record { 0 = r }) ≡ n
+Right (polled r n) = polledOf (record { 0 = r }) ≡ record { 0 = n }
+Right (asks gap len n) = askedOf gap len ≡ n
+Right (live-at sent window time lives) = (nts : Bool) (i : TimerInput) → i .time ≡ sent → live (pendingOf nts window i) time ≡ lives
+Right (plain-reply k n) = stepped k false ≡ n
+Right (rated r m l n) = afterRate r m l ≡ n
+Right (measured t1 t2 t3 t4 d o l) = (delayOf t1 t2 t3 t4 ≡ d) × (offsetOf t1 t2 t3 t4 ≡ o) × (localTime t1 t4 ≡ l)
+Right (halved s h) = halfToZero s ≡ h
+Right (differ a b d) = difference a b ≡ d
+
+abbrev pub All : List Case → Type 0
+All [] = Unit {0}
+All (c ∷ cs) = Right c × All cs
+
+-- negsuc k is -1 - k
+abbrev pub table : List Case
+table =
+    nine-stored
+    ∷ counts 0 8
+    ∷ counts 128 7
+    ∷ polled 128 0
+    ∷ asks 8 724 1
+    ∷ asks 8 725 0
+    ∷ asks 8 90 8
+    ∷ asks 8 91 7
+    ∷ asks 1 0 1
+    ∷ live-at 1000 5000 6000 true
+    ∷ live-at 1000 5000 6001 false
+    ∷ plain-reply (Upgrading 2) (Upgrading 1)
+    ∷ plain-reply (Upgrading 1) V4
+    ∷ plain-reply (Upgrading 0) V4
+    ∷ rated (pos 4) (pos 10) (pos 6) (pos 6)
+    ∷ rated (pos 12) (pos 10) (pos 4) (pos 10)
+    ∷ measured (2 ^ 64 - 4) 2 4 6 (pos 8) (pos 2) 1
+    ∷ halved (negsuc 2) (negsuc 0)
+    ∷ differ (2 ^ 63) 0 (negsuc (2 ^ 63 - 1))
+    ∷ differ 0 (2 ^ 63) (negsuc (2 ^ 63 - 1))
+    ∷ []

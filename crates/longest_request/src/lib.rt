@@ -1,0 +1,1 @@
+// How long the requests are that a timer asks for, and that each of them can be written. Theorems only, no code.

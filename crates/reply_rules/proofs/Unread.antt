@@ -1,0 +1,12 @@
+-- Without NTS a packet is read the same whatever unique identifier is looked for.
+-- Assumes nothing.
+use mathlib.Core.Path.{_≡_, refl}
+use mathlib.Core.Bool.{Bool, true, false, cond}
+use mathlib.Core.List.{List}
+use Prim.Native.Nat.{ℕ}
+use Rattle.incoming.specs.Incoming.{readOf}
+use Rattle.incoming.proofs.WithoutNts.{without-nts}
+
+pub read-awaited : (nts : Bool) (uid other : List ℕ) (upgrademark : ℕ) (p : List ℕ) (end : ℕ) (decrypted : List ℕ) → readOf nts (cond nts uid other) upgrademark p end decrypted ≡ readOf nts uid upgrademark p end decrypted
+read-awaited true uid other upgrademark p end decrypted = refl
+read-awaited false uid other upgrademark p end decrypted = without-nts other uid upgrademark p end decrypted decrypted

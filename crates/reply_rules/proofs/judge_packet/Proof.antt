@@ -1,0 +1,66 @@
+-- `judge_packet` meets its contract: the record, the packet, and then the judge, each by its function.
+-- Assumes nothing.
+use mathlib.Core.Path.{_≡_, sym, _∙_}
+use borrow.Author.Needs.{needs}
+use borrow.Author.Tests.{not-true, not-false}
+use Rattle.reply_rules.specs.Judge.{readWith, verdictOf}
+use Rattle.reply_rules.proofs.Unread.{read-awaited}
+use Rattle.reply_rules.proofs.judge_packet.Statement.{statement}
+use Rattle.reply_rules.proofs.judge_packet.Tie as tie
+
+-- what was read, with the request's own unique identifier
+was-read : (c : tie.After-read-reply) →
+    let a = c .before .before .before .before .before .before .before .before .args in
+    c .read-reply .result ≡ readWith (a .settings) (a .s) (a .packet .now) (a .end) (a .decrypted .now)
+was-read c = c .read-reply .ensures ∙ rw (c .before .awaited .ensures) (read-awaited _ _ _ _ _ _ _)
+
+whole-seen-requires : tie.Need-whole-seen-requires
+whole-seen-requires c κs = search needs
+
+returns : tie.Need-returns
+unfolding verdictOf
+returns c = rw (sym (c .before .whole-seen .ensures) ∙ not-true _ (c .if1 .taken))
+
+awaited-requires : tie.Need-awaited-requires
+awaited-requires c κs = search needs
+
+read-reply-requires : tie.Need-read-reply-requires
+read-reply-requires c κs = search needs
+
+enum-known-reply : tie.Need-enum-known-reply
+enum-known-reply c = search needs
+
+enum-told : tie.Need-enum-told
+enum-told c = search needs
+
+returns-2 : tie.Need-returns-2
+unfolding verdictOf
+returns-2 c =
+    let k = c .before .before in
+    let w = k .before .before in
+    rw (sym (w .before .whole-seen .ensures) ∙ not-false _ (w .if1 .left), sym (was-read k) ∙ c .enum-told .given .1)
+
+judge-requires : tie.Need-judge-requires
+judge-requires c κs = search needs
+
+returns-3 : tie.Need-returns-3
+unfolding verdictOf
+returns-3 c =
+    let d = c .before .before in
+    let k = d .before .before in
+    let w = k .before .before in
+    rw (sym (w .before .whole-seen .ensures) ∙ not-false _ (w .if1 .left), sym (was-read k) ∙ d .reply .given .1) (c .judge .ensures)
+
+pub judge-packet-spec : {M : Type 1} → statement M
+judge-packet-spec =
+    tie.close
+    (tie.spec
+    whole-seen-requires
+    returns
+    awaited-requires
+    read-reply-requires
+    enum-known-reply
+    enum-told
+    returns-2
+    judge-requires
+    returns-3)

@@ -1,0 +1,41 @@
+-- Document 01's number for each answer to a reply, and the actions that follow from the number.
+-- Assumes nothing.
+use mathlib.Core.Bool.{cond}
+use mathlib.Core.List.{List, [], _∷_}
+use Prim.Native.Nat.{ℕ}
+use lib.Dec.{eqb}
+use Rattle.association.specs.Actions.{Action, updateSystem, demobilize}
+use Rattle.reply_rules.specs.declared.ReplyAnswer.{ReplyAnswer}
+use Rattle.reply_rules.specs.declared.ReplyAnswer.the-variants.{Measured, Undecodable, UnexpectedVersion, NoLiveRequest, NoMatch, Rate, Denied, DeniedNts, Ntsn, OtherKiss, BadStratum, NotServer, NotWhole, BrokenList}
+
+abbrev pub numberOf : ReplyAnswer → ℕ
+-- measured
+numberOf (Measured m) = 0
+-- packet bytes not decodable
+numberOf Undecodable = 1
+-- version not expected
+numberOf UnexpectedVersion = 2
+-- no pending request, or its deadline < now
+numberOf NoLiveRequest = 3
+-- identifiers do not match
+numberOf NoMatch = 4
+-- RATE kiss
+numberOf Rate = 5
+-- DENY or RSTR, no NTS
+numberOf Denied = 6
+-- DENY or RSTR, NTS: demobilize
+numberOf DeniedNts = 7
+-- NTSN; any other kiss
+numberOf Ntsn = 8
+numberOf OtherKiss = 9
+-- stratum over 16; mode not server
+numberOf BadStratum = 10
+numberOf NotServer = 11
+-- record not whole
+numberOf NotWhole = 32
+-- broken cookie list (NTS only)
+numberOf BrokenList = 33
+
+-- actions follow from the number: 0 from a reply is one system update with the measurement; 7 demobilizes; others none
+abbrev pub actionsOf : ℕ → List Action
+actionsOf n = cond (eqb n 0) (updateSystem ∷ []) (cond (eqb n 7) (demobilize ∷ []) [])

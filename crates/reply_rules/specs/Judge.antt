@@ -1,0 +1,61 @@
+-- Document 01, part 11: the verdict on a reply, of the settings, of the state and of what is seen of the stash. In order 32, 1 (byte form), 33, 2, 3, 4, the upgrade step, then 5 to 11.
+-- Assumes nothing.
+use mathlib.Core.Bool.{Bool, true, false, not, _&&_, cond}
+use mathlib.Core.List.{List}
+use Prim.Native.Nat.{ℕ}
+use lib.Dec.{ltb}
+use Rattle.cookielist.specs.List.{isWhole, cookiesIn}
+use Rattle.cookiestash.specs.declared.Seen.{Seen}
+use Rattle.version.specs.Upgrade.{expectsOf}
+use Rattle.association.specs.declared.Settings.{Settings}
+use Rattle.association.specs.declared.State.{State}
+use Rattle.association.specs.Record.{wholeSeen}
+use Rattle.incoming.specs.declared.Reply.{Reply}
+use Rattle.incoming.specs.declared.ReplyRead.{ReplyRead}
+use Rattle.incoming.specs.declared.ReplyRead.the-variants as R
+use Rattle.incoming.specs.Incoming.{readOf}
+use Rattle.reply_rules.specs.declared.ReplyAnswer.{ReplyAnswer}
+use Rattle.reply_rules.specs.declared.ReplyAnswer.the-variants.{Measured, Undecodable, UnexpectedVersion, NoLiveRequest, NoMatch, Rate, Denied, DeniedNts, Ntsn, OtherKiss, BadStratum, NotServer, NotWhole, BrokenList}
+use Rattle.reply_rules.specs.declared.Verdict.{Verdict}
+use Rattle.reply_rules.specs.After.{Arrival, live, answers, denies, stepped, afterRateKiss, afterDenial, afterMeasured, measurementOf}
+
+-- the answer and the next state, with no cookie stored
+abbrev pub leaves : ReplyAnswer → State → Verdict
+leaves r s = record { answer = r; state = s; stores = false }
+
+-- a cookie list counts only with NTS
+abbrev pub listBroken : Bool → List ℕ → Bool
+listBroken nts list = nts && not (isWhole (cookiesIn list))
+
+-- a matching reply, after the upgrade step: 5 to 11 in order, else 0; measured, with NTS the cookies are stored
+unfoldable pub matchedOf : Settings → State → Reply → Arrival → Verdict
+matchedOf g s r t =
+    cond (r .kisses .rate) (leaves Rate (afterRateKiss g s))
+    (cond (denies r)
+    (cond (g .nts) (leaves DeniedNts s) (leaves Denied (afterDenial s)))
+    (cond (r .kisses .ntsn) (leaves Ntsn s)
+    (cond (r .kisses .any) (leaves OtherKiss s)
+    (cond (ltb 16 (r .stratum)) (leaves BadStratum s)
+    (cond (not (r .server)) (leaves NotServer s)
+    (record { answer = Measured (measurementOf r t); state = afterMeasured s r; stores = g .nts }))))))
+
+-- a reply that was read: 33, 2, 3, 4, then the upgrade step and what follows it
+unfoldable pub judgeOf : Settings → State → Reply → Arrival → Verdict
+judgeOf g s r t =
+    cond (listBroken (g .nts) (t .list)) (leaves BrokenList s)
+    (cond (not (expectsOf (s .version) (r .version))) (leaves UnexpectedVersion s)
+    (cond (not (live (s .request) (t .time))) (leaves NoLiveRequest s)
+    (cond (not (answers (g .nts) (s .request .id) r)) (leaves NoMatch s)
+    (matchedOf g (stepped s (r .upgrade)) r t))))
+
+abbrev pub onRead : Settings → State → Arrival → ReplyRead → Verdict
+onRead g s t (R.Decoded r) = judgeOf g s r t
+onRead g s t R.Undecodable = leaves Undecodable s
+
+-- either form, of what was read
+unfoldable pub verdictOf : Settings → State → Seen → ReplyRead → Arrival → Verdict
+verdictOf g s v read t = cond (wholeSeen g v (s .request)) (onRead g s t read) (leaves NotWhole s)
+
+-- what the byte form is read as, with the uid of what is pending
+abbrev pub readWith : Settings → State → List ℕ → ℕ → List ℕ → ReplyRead
+readWith g s packet end decrypted = readOf (g .nts) (s .request .uid) (g .upgrademark) packet end decrypted

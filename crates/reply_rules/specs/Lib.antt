@@ -1,0 +1,4 @@
+-- The definitions that the contracts of `reply_rules` cite.
+pub mod Answer
+pub mod After
+pub mod Judge

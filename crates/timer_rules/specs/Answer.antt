@@ -1,0 +1,27 @@
+-- Document 01's number for each answer of the timer, and the actions that follow from it.
+-- Assumes nothing.
+use mathlib.Core.Bool.{_||_, cond}
+use mathlib.Core.List.{List, [], _∷_}
+use Prim.Native.Nat.{ℕ}
+use lib.Dec.{eqb}
+use Rattle.association.specs.Actions.{Action, send, updateSystem, setTimer, demobilize, reset}
+use Rattle.timer_rules.specs.declared.TimerAnswer.{TimerAnswer}
+use Rattle.timer_rules.specs.declared.TimerAnswer.the-variants.{Sent, Reset, Demobilize, NoCookie, CookieTooLarge, ShortBuffer, NotWhole}
+
+-- 20 poll sent; 21 reset; 22 demobilize; 23 reset: no cookie; 24 reset: cookie too large; 31 cookie buffer under 724 bytes; 32 record not whole
+abbrev pub numberOf : TimerAnswer → ℕ
+numberOf (Sent kind poll len asked) = 20
+numberOf Reset = 21
+numberOf Demobilize = 22
+numberOf NoCookie = 23
+numberOf CookieTooLarge = 24
+numberOf ShortBuffer = 31
+numberOf NotWhole = 32
+
+-- 20 is send, system update, timer; 22 demobilize; 21, 23 and 24 reset; others none
+abbrev pub actionsOf : ℕ → List Action
+actionsOf n =
+    cond (eqb n 20) (send ∷ updateSystem ∷ setTimer ∷ [])
+    (cond (eqb n 22) (demobilize ∷ [])
+    (cond (eqb n 21 || eqb n 23 || eqb n 24) (reset ∷ [])
+    []))

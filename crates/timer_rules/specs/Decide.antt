@@ -1,0 +1,49 @@
+-- Document 01, part 10: what the timer decides, of the settings, of the state and of what is seen of the stash. In order 32, 31, the rest.
+-- Assumes nothing.
+use mathlib.Core.Bool.{Bool, true, false, cond}
+use Prim.Native.Nat.{ℕ}
+use lib.Dec.{eqb}
+use Rattle.cookiestash.specs.declared.Seen.{Seen}
+use Rattle.version.specs.Send.{kindOf}
+use Rattle.association.specs.declared.Settings.{Settings}
+use Rattle.association.specs.declared.State.{State}
+use Rattle.association.specs.Record.{wholeSeen}
+use Rattle.timer_rules.specs.declared.TimerAnswer.{TimerAnswer}
+use Rattle.timer_rules.specs.declared.TimerAnswer.the-variants.{Sent, Reset, Demobilize, NoCookie, CookieTooLarge, ShortBuffer, NotWhole}
+use Rattle.timer_rules.specs.declared.Decision.{Decision}
+use Rattle.timer_rules.specs.declared.TimerInput.{TimerInput}
+use Rattle.timer_rules.specs.Poll.{shortBuffer, startupOver, triedOf, askedOf, pollOf, sentOf}
+
+-- the answer and the next state, with no cookie taken
+abbrev pub leaves : TimerAnswer → State → Decision
+leaves r s = record { answer = r; state = s; takes = false }
+
+-- a poll of the tried state s is sent, with the cookie's length, the number asked for, and whether the oldest cookie is taken for it
+abbrev pub sendOf : Settings → State → TimerInput → ℕ → ℕ → Bool → Decision
+sendOf g s i len asked takes =
+    record { answer = Sent (kindOf (s .version .kind) (g .nts)) (pollOf (i .desired) (s .polls .remote)) len asked; state = sentOf g s i; takes = takes }
+
+-- how many new cookies are asked for with the oldest; gap counted after the take
+abbrev pub askedWith : Seen → ℕ
+askedWith v = askedOf (v .gap) (v .len)
+
+-- with NTS: take a cookie or 23; zero asked for is 24, cookie gone
+unfoldable pub decideNts : Settings → State → Seen → TimerInput → Decision
+decideNts g s v i =
+    cond (v .found)
+    (cond (eqb (askedWith v) 0)
+    (record { answer = CookieTooLarge; state = s; takes = true })
+    (sendOf g s i (v .len) (askedWith v) true))
+    (leaves NoCookie s)
+
+-- room is how many bytes of buffer the caller lends
+unfoldable pub decideOf : Settings → State → Seen → TimerInput → ℕ → Decision
+decideOf g s v i room =
+    cond (wholeSeen g v (s .request))
+    (cond (shortBuffer g room) (leaves ShortBuffer s)
+    (cond (startupOver g s)
+    (cond (s .source .denial) (leaves Demobilize s) (leaves Reset s))
+    (cond (g .nts)
+    (decideNts g (triedOf s) v i)
+    (sendOf g (triedOf s) i 0 0 false))))
+    (leaves NotWhole s)

@@ -1,0 +1,269 @@
+// The rules of the timer (document 01, part 10), over the settings, the state and what is seen of the stash.
+use association::Effort;
+use association::Pending;
+use association::Polls;
+use association::Settings;
+use association::State;
+use cookiestash::SLOT_BYTES;
+use cookiestash::Seen;
+use time_types::PollInterval;
+use version::SendKind;
+ghost use mathlib.Core.Path.{_≡_};
+ghost use Prim.Native.Nat.{max};
+ghost use Rattle.timer_rules.specs.Answer.{numberOf};
+ghost use Rattle.timer_rules.specs.Poll.{shortBuffer, startupOver, polled, triedOf, askedOf, deadlineOf, pendingOf};
+ghost use Rattle.timer_rules.specs.Decide.{sendOf, decideNts, decideOf};
+
+pub enum TimerAnswer {
+    // A poll is sent: its kind and poll exponent; with NTS the length of its cookie and how many new ones it asks for.
+    Sent {
+        kind: SendKind,
+        poll: PollInterval,
+        len: u16,
+        asked: u8,
+    },
+    Reset,
+    Demobilize,
+    NoCookie,
+    CookieTooLarge,
+    ShortBuffer,
+    NotWhole,
+}
+
+// What the caller gives for a poll: the time, the poll exponent that is desired, and the identifiers.
+pub struct TimerInput {
+    pub time: u64,
+    pub desired: PollInterval,
+    pub id: u64,
+    pub uid: [u8; 32],
+}
+
+// What the timer decides: its answer, the next state, and whether the oldest cookie is taken.
+pub struct Decision {
+    pub answer: TimerAnswer,
+    pub state: State,
+    pub takes: bool,
+}
+
+// Whether nothing was ever answered and the startup limit is reached.
+fn startup_over(settings: Settings, s: State) -> bool
+    ensures { λ r. ⌜ r ≡ startupOver settings s ⌝ }
+{
+    let effort = s.effort;
+    let reach = effort.reach;
+    if reach.0 == 0 {
+        settings.startup <= effort.tries
+    } else {
+        false
+    }
+}
+
+// With NTS a buffer has room for the longest cookie.
+fn short_buffer(settings: Settings, room: usize) -> bool
+    ensures { λ r. ⌜ r ≡ shortBuffer settings room ⌝ }
+{
+    if settings.nts {
+        room < SLOT_BYTES
+    } else {
+        false
+    }
+}
+
+// One poll more: the register shifts, and tries grow by one, held at 255.
+fn polled(effort: Effort) -> Effort
+    ensures { λ r. ⌜ r ≡ polled effort ⌝ }
+{
+    let old = effort.reach;
+    let reach = old.poll();
+    let tries = effort.tries;
+    if tries == u8::MAX {
+        Effort { reach, tries }
+    } else {
+        Effort {
+            reach,
+            tries: tries + 1,
+        }
+    }
+}
+
+// Once a poll is tried.
+fn tried(s: State) -> State
+    ensures { λ r. ⌜ r ≡ triedOf s ⌝ }
+{
+    let effort = s.effort;
+    let reach = effort.reach;
+    let old = s.version;
+    let version = old.fallback(reach.unanswered_polls());
+    let more = polled(effort);
+    let mut next = s;
+    next.effort = more;
+    next.version = version;
+    next
+}
+
+fn at_least_one(len: u16) -> u16
+    ensures { λ r. ⌜ r ≡ max len 1 ⌝ }
+{
+    if len == 0 { 1 } else { len }
+}
+
+// How many new cookies are asked for: no more than there is room for, here and in the packet.
+fn asked(gap: u8, len: u16) -> u8
+    ensures { λ r. ⌜ r ≡ askedOf gap len ⌝ }
+{
+    let fit = SLOT_BYTES as u16 / at_least_one(len);
+    if gap as u16 <= fit { gap } else { fit as u8 }
+}
+
+// Until when a reply is awaited; the last moment that there is, where the sum passes it.
+fn deadline(time: u64, window: u64) -> u64
+    ensures { λ r. ⌜ r ≡ deadlineOf time window ⌝ }
+{
+    if time <= u64::MAX - window {
+        time + window
+    } else {
+        u64::MAX
+    }
+}
+
+// The request that is pending once it is sent; its uid counts only with NTS.
+fn pending(nts: bool, window: u64, input: TimerInput) -> Pending
+    ensures { λ r. ⌜ r ≡ pendingOf nts window input ⌝ }
+{
+    let until = deadline(input.time, window);
+    if nts {
+        let uid = input.uid;
+        Pending {
+            present: true,
+            id: input.id,
+            uid,
+            deadline: until,
+        }
+    } else {
+        Pending {
+            present: true,
+            id: input.id,
+            uid: [0u8; 32],
+            deadline: until,
+        }
+    }
+}
+
+// The poll is sent, with a cookie of a length, which is taken or is none, and so many asked for.
+fn send(
+    settings: Settings,
+    s: State,
+    input: TimerInput,
+    len: u16,
+    asked: u8,
+    takes: bool,
+) -> Decision
+    ensures { λ r. ⌜ r ≡ sendOf settings s input len asked takes ⌝ }
+{
+    let version = s.version;
+    let old = s.polls;
+    let remote = old.remote;
+    let desired = input.desired;
+    let poll = desired.max(remote);
+    let kind = version.send_kind(settings.nts);
+    let request = pending(settings.nts, settings.window, input);
+    let polls = Polls { last: poll, remote };
+    let mut next = s;
+    next.polls = polls;
+    next.request = request;
+    Decision {
+        answer: TimerAnswer::Sent {
+            kind,
+            poll,
+            len,
+            asked,
+        },
+        state: next,
+        takes,
+    }
+}
+
+// With NTS, of the tried state: a cookie is taken, and as many new ones are asked for as there is room for then.
+fn decide_nts(settings: Settings, s: State, seen: Seen, input: TimerInput) -> Decision
+    ensures { λ r. ⌜ r ≡ decideNts settings s seen input ⌝ }
+{
+    if !seen.found {
+        return Decision {
+            answer: TimerAnswer::NoCookie,
+            state: s,
+            takes: false,
+        };
+    }
+    let count = asked(seen.gap, seen.len);
+    if count == 0 {
+        return Decision {
+            answer: TimerAnswer::CookieTooLarge,
+            state: s,
+            takes: true,
+        };
+    }
+    send(settings, s, input, seen.len, count, true)
+}
+
+// What the timer decides. In order: 32, 31, 22 and 21, the poll.
+pub fn decide(settings: Settings, s: State, seen: Seen, input: TimerInput, room: usize) -> Decision
+    ensures { λ r. ⌜ r ≡ decideOf settings s seen input room ⌝ }
+{
+    let request = s.request;
+    if !association::whole_seen(settings, seen, request) {
+        return Decision {
+            answer: TimerAnswer::NotWhole,
+            state: s,
+            takes: false,
+        };
+    }
+    if short_buffer(settings, room) {
+        return Decision {
+            answer: TimerAnswer::ShortBuffer,
+            state: s,
+            takes: false,
+        };
+    }
+    if startup_over(settings, s) {
+        let source = s.source;
+        if source.denial {
+            return Decision {
+                answer: TimerAnswer::Demobilize,
+                state: s,
+                takes: false,
+            };
+        }
+        return Decision {
+            answer: TimerAnswer::Reset,
+            state: s,
+            takes: false,
+        };
+    }
+    let next = tried(s);
+    if settings.nts {
+        return decide_nts(settings, next, seen, input);
+    }
+    send(settings, next, input, 0, 0, false)
+}
+
+impl TimerAnswer {
+    // Document 01's number for the answer.
+    pub fn number(self) -> u8
+        ensures { λ r. ⌜ r ≡ numberOf self ⌝ }
+    {
+        match self {
+            TimerAnswer::Sent {
+                kind: _,
+                poll: _,
+                len: _,
+                asked: _,
+            } => 20,
+            TimerAnswer::Reset => 21,
+            TimerAnswer::Demobilize => 22,
+            TimerAnswer::NoCookie => 23,
+            TimerAnswer::CookieTooLarge => 24,
+            TimerAnswer::ShortBuffer => 31,
+            TimerAnswer::NotWhole => 32,
+        }
+    }
+}

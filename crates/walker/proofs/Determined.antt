@@ -1,0 +1,46 @@
+-- Each public function's contract determines its result: any two that it allows are equal, and so are the contents of a slice that is handed back.
+-- Assumes nothing.
+use mathlib.Core.Path.{refl, sym, _∙_}
+use contract.Lifetimes.{Lfts}
+use denote.Ref.{now}
+use denote.Triple.Clauses.{AtExit}
+use borrow.Fn.Read.{all-models, r-last}
+use borrow.Fn.World.{ArgsD, ResD}
+use Rattle.words.specs.Determined.{Determined, DeterminedContents, PostOf}
+use Rattle.walker.proofs.body_at.Reads as body-at
+use Rattle.walker.proofs.first.Reads as first
+use Rattle.walker.proofs.Walker.new as new
+use Rattle.walker.proofs.Walker.step as step
+use Rattle.walker.proofs.Walker.body as body
+
+pub body-at-determined : DeterminedContents body-at.Post (λ κs y. now y)
+body-at-determined κs a y z e f p q = p ∙ sym q
+
+pub first-determined : Determined first.Post
+first-determined κs a y z e f p q = p ∙ sym q
+
+-- ---- the walker's methods, whose proofs are by hand
+
+abbrev new-post : (κs : Lfts 1) → ArgsD new.signature κs → ResD new.signature κs → AtExit new.ended κs → Type 0
+new-post =
+    PostOf new.ended (λ w. new.clauses (w .𝓤) (w .H) (w .𝓖 .A) (w .𝓜 .mem) (w .𝓡 .run)) (λ w κs a. tt)
+    (λ κs a y e. all-models _ (λ w. r-last _) (λ w. refl) (λ w. refl) (λ w. refl))
+
+abbrev step-post : (κs : Lfts 1) → ArgsD step.signature κs → ResD step.signature κs → AtExit step.ended κs → Type 0
+step-post =
+    PostOf step.ended (λ w. step.clauses (w .𝓤) (w .H) (w .𝓖 .A) (w .𝓜 .mem) (w .𝓡 .run)) (λ w κs a. tt)
+    (λ κs a y e. all-models _ (λ w. r-last _) (λ w. refl) (λ w. refl) (λ w. refl))
+
+abbrev body-post : (κs : Lfts 1) → ArgsD body.signature κs → ResD body.signature κs → AtExit body.ended κs → Type 0
+body-post =
+    PostOf body.ended (λ w. body.clauses (w .𝓤) (w .H) (w .𝓖 .A) (w .𝓜 .mem) (w .𝓡 .run)) (λ w κs a. tt)
+    (λ κs a y e. all-models _ (λ w. r-last _) (λ w. refl) (λ w. refl) (λ w. refl))
+
+pub new-determined : Determined new-post
+new-determined κs a y z e f p q = p ∙ sym q
+
+pub step-determined : Determined step-post
+step-determined κs a y z e f p q = p ∙ sym q
+
+pub body-determined : DeterminedContents body-post (λ κs y. now y)
+body-determined κs a y z e f p q = p ∙ sym q

@@ -1,0 +1,55 @@
+// A thin walker over a packet: it holds the caller's bytes and an offset.
+use fields::Step;
+use header::HEADER_BYTES;
+ghost use mathlib.Core.Path.{_≡_};
+ghost use Rattle.fields.specs.Field.{packetStep};
+ghost use Rattle.walker.specs.Walker.{walkerAt, bodyOf};
+
+// The `len` bytes from `start` on, as that part of the packet itself, or none where they run past the end.
+pub fn body_at(p: &[u8], start: usize, len: usize) -> &[u8]
+    ensures { λ r. ⌜ now r ≡ bodyOf (now (p .entry)) start len ⌝ }
+{
+    if start <= p.len() {
+        if len <= p.len() - start {
+            &p[start..start + len]
+        } else {
+            &p[..0]
+        }
+    } else {
+        &p[..0]
+    }
+}
+
+pub struct Walker<'a> {
+    pub packet: &'a [u8],
+    pub at: usize,
+}
+
+impl<'a> Walker<'a> {
+    pub fn new(packet: &'a [u8], at: usize) -> Walker<'a>
+        ensures { λ r. ⌜ r ≡ walkerAt (packet .entry) at ⌝ }
+    {
+        Walker { packet, at }
+    }
+
+    // What stands at the walker's offset; the walker stays where it is.
+    pub fn step(self) -> Step
+        ensures { λ r. ⌜ r ≡ packetStep (now (self .entry .packet)) (self .entry .at) ⌝ }
+    {
+        fields::packet_field_at(self.packet, self.at)
+    }
+
+    // The body of a field, by the start and the length that its step names.
+    pub fn body(self, start: usize, len: usize) -> &'a [u8]
+        ensures { λ r. ⌜ now r ≡ bodyOf (now (self .entry .packet)) start len ⌝ }
+    {
+        body_at(self.packet, start, len)
+    }
+}
+
+// What a walker finds first in a packet; it takes plain bytes, so that its callers hold no walker.
+pub fn first(p: &[u8]) -> Step
+    ensures { λ r. ⌜ r ≡ packetStep (now (p .entry)) 48 ⌝ }
+{
+    Walker::new(p, HEADER_BYTES).step()
+}
