@@ -246,6 +246,34 @@ def edges():
         say('places of %s:' % name + ''.join(' %d' % n for n in range(40, len(packet) + 5) if n in places))
 
 
+# ---- the walker (document 01, what must change shape): a field's body is that part of the packet itself
+
+def body_at(packet, start, length):
+    body = packet[start:start + length] if start + length <= len(packet) else b''
+    return 'body from %d of %d in %d: %s' % (start, length, len(packet), hexed(body))
+
+
+def show_first(name, packet):
+    step = packet_field_at(packet, 48)
+    if step[0] == 'field':
+        say('walker over %s: field %04x, %s' % (name, step[1], body_at(packet, step[2], step[3])))
+    else:
+        say('walker over %s: %s' % (name, step[0]))
+
+
+def walker():
+    counted = cookie(0x61, 28)
+    whole = HEADER + field(0x0404, counted)
+    show_first('a header alone', HEADER)
+    show_first('a tail alone', HEADER + bytes(24))
+    show_first('no field', HEADER + bytes(28))
+    show_first('a field to the last byte', whole)
+    show_first('a field too long', whole[:79])
+    for start, length in ((76, 4), (76, 5), (80, 0), (80, 1), (81, 0), (52, 2 ** 64 - 1)):
+        say(body_at(whole, start, length))
+    show_first('a field before a tail', HEADER + field(0x0204, counted[:12]) + counted[12:])
+
+
 # ---- 7. the unique identifier (RFC 8915 section 5.3; document 01, part 8)
 
 UID = bytes(0xa0 + i for i in range(32))
@@ -404,6 +432,7 @@ def main():
     tails()
     lengths()
     edges()
+    walker()
     uids()
     matches()
     collector()

@@ -1,9 +1,9 @@
 -- The call that makes an association: its answer, document 01's number for it, and the record.
 -- Assumes nothing.
-use mathlib.Core.Bool.{not, _&&_, cond}
+use mathlib.Core.Bool.{cond}
 use mathlib.Core.List.{List}
 use Prim.Native.Nat.{ℕ}
-use Rattle.cookielist.specs.List.{isWhole, cookiesIn}
+use Rattle.cookielist.specs.List.{listBroken}
 use Rattle.cookiestash.specs.StoreList.{storeListOf}
 use Rattle.association.specs.declared.Settings.{Settings}
 use Rattle.association.specs.declared.Association.{Association}
@@ -19,6 +19,9 @@ numberOf Made = 0
 numberOf BadSettings = 30
 numberOf BrokenList = 33
 
+abbrev pub out : NewAnswer → Association → NewOut
+out r a = record { answer = r; association = a }
+
 -- with NTS it takes a first cookie list
 unfoldable pub madeOf : Settings → List ℕ → Association
 madeOf s list = cond (s .nts) (withStash (freshOf s) (storeListOf 8 (freshOf s .stash) list)) (freshOf s)
@@ -27,7 +30,7 @@ madeOf s list = cond (s .nts) (withStash (freshOf s) (storeListOf 8 (freshOf s .
 unfoldable pub newOf : Settings → List ℕ → NewOut
 newOf s list =
     cond (settingsValid s)
-    (cond (s .nts && not (isWhole (cookiesIn list)))
-    (record { answer = BrokenList; association = blankOf })
-    (record { answer = Made; association = madeOf s list }))
-    (record { answer = BadSettings; association = blankOf })
+    (cond (listBroken (s .nts) list)
+    (out BrokenList blankOf)
+    (out Made (madeOf s list)))
+    (out BadSettings blankOf)

@@ -3,7 +3,6 @@
 -- Assumes nothing.
 use mathlib.Core.Path.{_≡_, refl, ap, _∙_}
 use mathlib.Core.List.{List, [], _∷_}
-use lib.ListN.{length}
 use contract.Lifetimes.{Lfts}
 use denote.Ref.{now}
 use denote.Triple.Clauses.{AtExit}
@@ -16,7 +15,7 @@ use Rattle.timer_rules.specs.Poll.{timerInput}
 use Rattle.timer.specs.Timer.{Timed}
 use Rattle.timer.proofs.timer as T
 use Rattle.timer.proofs.Determined.{timer-post}
-use Rattle.reply_rules.specs.After.{arrival}
+use Rattle.reply_clauses.specs.After.{arrival}
 use Rattle.reply.proofs.reply as R
 use Rattle.reply.proofs.reply_decoded as D
 use Rattle.reply.proofs.Determined.{reply-post, reply-decoded-post}
@@ -28,7 +27,7 @@ use Rattle.association_log.proofs.Demand.{association-demand3}
 
 -- the inputs of a call, as the log holds them
 abbrev timerIn : (κs : Lfts 2) → ArgsD T.signature κs → TimerIn
-timerIn κs x = record { poll = timerInput (x .1 .0) (x .1 .1 .0) (x .1 .1 .1 .0) (x .1 .1 .1 .1 .0); room = length (now (x .1 .1 .1 .1 .1 .0)) }
+timerIn κs x = record { poll = timerInput (x .1 .0) (x .1 .1 .0) (x .1 .1 .1 .0) (x .1 .1 .1 .1 .0); buffer = now (x .1 .1 .1 .1 .1 .0) }
 
 abbrev replyIn : (κs : Lfts 4) → ArgsD R.signature κs → ReplyIn
 replyIn κs x =
@@ -45,7 +44,7 @@ pub data Ran : Association → List (Call rule) → List (Done machine) → Asso
   done : {a : Association} → Ran a [] [] a
   timed :
       {cs : List (Call rule)} {ds : List (Done machine)} {b : Association} (κs : Lfts 2) (x : ArgsD T.signature κs) (y : ResD T.signature κs) (e : AtExit T.ended κs) →
-      timer-post κs x y e → Ran (now (e .0)) cs ds b → Ran (now (x .0)) (timer (timerIn κs x) ∷ cs) (ofTimer (timerIn κs x) y ∷ ds) b
+      timer-post κs x y e → Ran (now (e .0)) cs ds b → Ran (now (x .0)) (timer (timerIn κs x) ∷ cs) (ofTimer (timerIn κs x) (y, now (e .1 .1 .1 .1 .1 .0)) ∷ ds) b
   replied :
       {cs : List (Call rule)} {ds : List (Done machine)} {b : Association} (κs : Lfts 4) (x : ArgsD R.signature κs) (y : ResD R.signature κs) (e : AtExit R.ended κs) →
       reply-post κs x y e → Ran (now (e .0)) cs ds b → Ran (now (x .0)) (reply (replyIn κs x) ∷ cs) (ofReply (replyIn κs x) y ∷ ds) b
@@ -60,7 +59,7 @@ turn made cs p q k = (λ i. made (p i) ∷ (k .0 ∙ ap (λ (z : Association). r
 
 pub ran-is-run : {a b : Association} {cs : List (Call rule)} {ds : List (Done machine)} → Ran a cs ds b → (ds ≡ run machine a cs) × (b ≡ after machine a cs)
 ran-is-run done = (refl, refl)
-ran-is-run (timed {cs} κs x y e p rest) = turn (ofTimer (timerIn κs x)) cs (ap (λ (z : Timed). z .gives .answer) p) (ap (λ (z : Timed). z .gives .association) p) (ran-is-run rest)
+ran-is-run (timed {cs} κs x y e p rest) = turn (ofTimer (timerIn κs x)) cs (ap (λ (z : Timed). (z .gives .answer, z .left)) p) (ap (λ (z : Timed). z .gives .association) p) (ran-is-run rest)
 ran-is-run (replied {cs} κs x y e p rest) = turn (ofReply (replyIn κs x)) cs (p .0) (p .1) (ran-is-run rest)
 ran-is-run (replied-decoded {cs} κs x y e p rest) = turn (ofReply (decodedIn κs x)) cs (p .0) (p .1) (ran-is-run rest)
 

@@ -1,11 +1,11 @@
 -- Demand 3 of the association, from any record with nothing pending, and so from a new one.
 -- Assumes nothing.
 use mathlib.Core.Path.{_≡_, refl}
-use mathlib.Core.Bool.{Bool, true, false, not, _&&_, cond}
+use mathlib.Core.Bool.{Bool, true, false, cond}
 use mathlib.Core.List.{List}
 use mathlib.Core.Option.{none}
 use Prim.Native.Nat.{ℕ}
-use Rattle.cookielist.specs.List.{isWhole, cookiesIn}
+use Rattle.cookielist.specs.List.{listBroken}
 use Rattle.cookiestash.specs.StoreList.{storeListOf}
 use Rattle.association.specs.declared.Settings.{Settings}
 use Rattle.association.specs.declared.NewOut.{NewOut}
@@ -23,7 +23,7 @@ use Rattle.association_log.proofs.Obeys.{laws}
 -- whatever `new` answers, nothing is pending
 pub new-pends-nothing : (s : Settings) (list : List ℕ) → pendingIn (newOf s list .association .state .request) ≡ none
 unfolding newOf madeOf freshOf blankOf noPending
-new-pends-nothing s list = by (settingsValid s) (s .nts && not (isWhole (cookiesIn list))) (s .nts)
+new-pends-nothing s list = by (settingsValid s) (listBroken (s .nts) list) (s .nts)
   where
     kept : (n : Bool) → pendingIn (cond n (withStash (freshOf s) (storeListOf 8 (freshOf s .stash) list)) (freshOf s) .state .request) ≡ none
     kept true = refl

@@ -6,6 +6,7 @@ use mathlib.Core.List.{List, []}
 use mathlib.Core.Option.{none, some}
 use Prim.Native.Nat.{ℕ}
 use lib.Dec.{T, eqb}
+use lib.ListN.{length}
 use Rattle.words.proofs.Tests.{passes, both}
 use Rattle.association.specs.declared.Pending.{Pending}
 use Rattle.association.specs.declared.Association.{Association}
@@ -17,7 +18,8 @@ use Rattle.timer_rules.specs.declared.TimerInput.{TimerInput}
 use Rattle.timer_rules.specs.Poll.{pendingOf}
 use Rattle.timer.proofs.After.{rang}
 use Rattle.reply_rules.specs.Answer as reply
-use Rattle.reply_rules.specs.After.{Arrival, live}
+use Rattle.reply_clauses.specs.After.{Arrival, live}
+use Rattle.reply_rules.proofs.Actions.{reply-acts}
 use Rattle.reply.specs.declared.ReplyOut.{ReplyOut}
 use Rattle.reply.specs.Numbers as N
 use Rattle.reply.specs.Numbers.{not-whole, undecodable, broken-list, unexpected-version, no-live-request, no-match, rate, denied, denied-nts, ntsn, other-kiss, bad-stratum, not-server, measured}
@@ -40,9 +42,9 @@ module _ {a : Association} {read : ReplyRead} {t : Arrival} where
   refused-by (not-whole e) dead w = absurd w
   refused-by (undecodable x e) dead w = absurd w
   refused-by (broken-list d e) dead w = absurd w
-  refused-by (unexpected-version l e) dead w = (tt, refl, refl)
-  refused-by (no-live-request x e) dead w = (tt, refl, refl)
-  refused-by (no-match i e) dead w = (tt, refl, refl)
+  refused-by (unexpected-version l e) dead w = (tt, reply-acts .none-2, refl)
+  refused-by (no-live-request x e) dead w = (tt, reply-acts .none-3, refl)
+  refused-by (no-match i e) dead w = (tt, reply-acts .none-4, refl)
   refused-by (rate m e) dead w = absurd (dead (matches m))
   refused-by (denied u e f) dead w = absurd (dead (matches (u .matching)))
   refused-by (denied-nts u e f) dead w = absurd (dead (matches (u .matching)))
@@ -79,13 +81,13 @@ live-by a r dead m =
     false≢true (sym dead ∙ ap (λ q. log.live rule (a .settings) q r) pending ∙ passes _ (p .1) ∙ m .1)
 
 settings-kept : (a : Association) (c : M.Call rule) → M.step machine a c .settings ≡ a .settings
-settings-kept a (M.timer t) = rang a (t .poll) (t .room) .settings
+settings-kept a (M.timer t) = rang a (t .poll) (length (t .buffer)) .settings
 settings-kept a (M.reply r) = heard a (read-by a r) (arrivalOf r) (given a (read-by a r) (arrivalOf r)) .settings
 
 pending-next : (a : Association) (c : M.Call rule) → pendingIn (M.step machine a c .state .request) ≡ log.next rule (a .settings) (pendingIn (a .state .request)) (M.note machine (M.made machine a c))
 pending-next a (M.timer t) =
-    ap pendingIn (rang a (t .poll) (t .room) .request)
-    ∙ pending-asked (eqb (timer.numberOf (timed a t .0)) 20) (a .state .request) _ (pending-present (a .settings .nts) (a .settings .window) (t .poll))
+    ap pendingIn (rang a (t .poll) (length (t .buffer)) .request)
+    ∙ pending-asked (eqb (timer.numberOf (timed a t .0 .0)) 20) (a .state .request) _ (pending-present (a .settings .nts) (a .settings .window) (t .poll))
 pending-next a (M.reply r) =
     ap pendingIn (heard a (read-by a r) (arrivalOf r) (given a (read-by a r) (arrivalOf r)) .request)
     ∙ pending-cond (eqb (reply.numberOf (replied a r .0)) 0) (a .state .request)

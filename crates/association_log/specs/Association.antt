@@ -5,6 +5,7 @@ use mathlib.Core.Bool.{Bool, false, cond}
 use mathlib.Core.List.{List, []}
 use mathlib.Core.Option.{Option, none, some}
 use Prim.Native.Nat.{ℕ}
+use lib.ListN.{length}
 use Rattle.association.specs.declared.Settings.{Settings}
 use Rattle.association.specs.declared.Pending.{Pending}
 use Rattle.association.specs.declared.Association.{Association}
@@ -16,18 +17,18 @@ use Rattle.timer_rules.specs.declared.TimerAnswer.{TimerAnswer}
 use Rattle.timer_rules.specs.Answer as timer
 use Rattle.timer_rules.specs.declared.TimerInput.{TimerInput}
 use Rattle.timer_rules.specs.Poll.{pendingOf}
-use Rattle.timer.specs.Timer.{timerOf}
+use Rattle.timer.specs.Timer.{timerOf, bufferOf}
 use Rattle.reply_rules.specs.declared.ReplyAnswer.{ReplyAnswer}
 use Rattle.reply_rules.specs.Answer as reply
-use Rattle.reply_rules.specs.After.{Arrival, unexpired, answers}
+use Rattle.reply_clauses.specs.After.{Arrival, unexpired, answers}
 use Rattle.reply.specs.Reply.{repliedOf}
 use Rattle.log.specs.Log.{Rule}
 use Rattle.log.specs.Machine.{Machine}
 
--- the inputs of a timer: those of the poll, and how many bytes of buffer are lent
+-- the inputs of a timer: those of the poll, and the buffer that is lent, as it stands
 pub record TimerIn : Type 0 where
   pub poll : TimerInput
-  pub room : ℕ
+  pub buffer : List ℕ
 
 -- the byte form and the decoded form, each with what comes with it
 pub data ReplyIn : Type 0 where
@@ -64,8 +65,9 @@ rule = record {
 abbrev pub pendingIn : Pending → Option Pending
 pendingIn q = cond (q .present) (some q) none
 
-abbrev pub timed : Association → TimerIn → TimerAnswer × Association
-timed a t = let o = timerOf a (t .poll) (t .room) in (o .answer, o .association)
+-- a timer's whole answer: what it gives back, and what it leaves in the buffer, where the cookie's bytes are handed out
+abbrev pub timed : Association → TimerIn → (TimerAnswer × List ℕ) × Association
+timed a t = let o = timerOf a (t .poll) (length (t .buffer)) in ((o .answer, bufferOf a (t .poll) (t .buffer)), o .association)
 
 -- both forms are what is given of what was read
 abbrev pub replied : Association → ReplyIn → ReplyAnswer × Association
@@ -75,9 +77,9 @@ replied a r = let o = repliedOf a (readAs (a .settings) (a .state .request) r) (
 abbrev pub machine : Machine rule
 machine = record {
   Record = Association;
-  TimerAnswer = TimerAnswer;
+  TimerAnswer = TimerAnswer × List ℕ;
   ReplyAnswer = ReplyAnswer;
-  timerNumber = timer.numberOf;
+  timerNumber = λ x. timer.numberOf (x .0);
   replyNumber = reply.numberOf;
   Quiet = λ x. reply.actionsOf (reply.numberOf x) ≡ [];
   settings = λ a. a .settings;

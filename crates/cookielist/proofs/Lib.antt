@@ -2,4 +2,5 @@
 pub mod Reader
 pub mod Marked
 pub mod RoundTrip
+pub mod Refused
 pub mod Determined

@@ -2,7 +2,9 @@
 -- Assumes nothing.
 use Prim.Native.Nat.{ℕ, zero, suc, _+_, _-_, _≤_}
 use mathlib.Core.List.{List, [], _∷_, _++_}
-use mathlib.Core.Bool.{Bool, true, false, cond}
+use mathlib.Core.Bool.{Bool, true, false, not, _&&_, cond}
+use mathlib.Core.Option.{Option, none, some}
+use mathlib.Core.Path.{_≡_}
 use lib.ListN.{length}
 use lib.Dec.{ltb, eqb}
 use Rattle.words.specs.Bytes.{be, part, toBe}
@@ -48,6 +50,23 @@ entryAt l at =
     (Cookie (at + 4) (at + 4 + lengthAt l at)))
     Broken)))
 
+-- document 01's number: 33 where the list is broken; a cookie and the end are refused by none
+abbrev pub refusalOf : Entry → Option ℕ
+refusalOf (Cookie start end) = none
+refusalOf End = none
+refusalOf Broken = some 33
+
+-- an offset that the reader comes to: where it starts, and where a cookie ends that stands at one
+pub data Reached (l : List ℕ) : ℕ → ℕ → Type 0 where
+  here : {at : ℕ} → Reached l at at
+  past : {at start end to : ℕ} → entryAt l at ≡ Cookie start end → Reached l end to → Reached l at to
+
+-- the reader comes from an offset to one where what stands there is refused with 33
+pub record Refused (l : List ℕ) (at : ℕ) : Type 0 where
+  pub place : ℕ
+  pub reached : Reached l at place
+  pub number : refusalOf (entryAt l place) ≡ some 33
+
 -- what a list is read as: its cookies, or broken
 pub data Listed : Type 0 where
   whole : List (List ℕ) → Listed
@@ -78,3 +97,7 @@ cookiesFrom l at = cookiesN (length l - at) l at
 
 unfoldable pub cookiesIn : List ℕ → Listed
 cookiesIn l = cookiesFrom l 0
+
+-- a list that is broken is refused with NTS only
+abbrev pub listBroken : Bool → List ℕ → Bool
+listBroken nts l = nts && not (isWhole (cookiesIn l))

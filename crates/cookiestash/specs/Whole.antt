@@ -1,16 +1,16 @@
 -- When a stash is whole (document 01, settings and a whole record): as the test that the code makes, and as a statement.
 -- Assumes nothing.
-use Prim.Native.Nat.{ℕ, _+_, _-_, _≤_, _<_}
+use Prim.Native.Nat.{ℕ, zero, suc, _+_, _-_, _≤_, _<_}
 use mathlib.Core.Path.{_≡_}
-use mathlib.Core.List.{List, [], _∷_, _++_}
-use mathlib.Core.Bool.{Bool, true, _&&_}
-use lib.ListN.{length, drop, replicate}
-use lib.Dec.{eqb}
+use mathlib.Core.List.{List, [], _∷_, _++_, map}
+use mathlib.Core.Bool.{Bool, true, _&&_, cond}
+use lib.ListN.{length, getD, drop, replicate}
+use lib.Dec.{ltb, eqb}
 use Rattle.words.specs.Bytes.{zeros}
 use Rattle.cookiestash.specs.declared.Slot.{Slot}
 use Rattle.cookiestash.specs.declared.CookieStash.{CookieStash}
 use Rattle.cookiestash.specs.declared.Seen.{Seen}
-use Rattle.cookiestash.specs.Stash.{stored, emptySlot, slotAt, wrap, inRange, gapOf, getOf}
+use Rattle.cookiestash.specs.Stash.{stored, emptySlot, slotAt, wrap, rangeOf, inRange, gapOf, getOf}
 use Rattle.cookiestash.specs.Queue.{walk}
 
 -- the bytes past the stored ones are zero
@@ -45,7 +45,35 @@ seenOf cap s =
       held = s .held;
     }
 
--- the statement, of a slot
+-- ---- the same, of the slots' lengths
+
+unfoldable pub lensOf : CookieStash → List ℕ
+lensOf s = map (λ x. x .len) (s .slots)
+
+-- the n places from a place on, going round, have length 0
+abbrev pub roundFree : ℕ → List ℕ → ℕ → ℕ → Bool
+roundFree cap lens at zero = true
+roundFree cap lens at (suc n) = eqb (getD lens at 0) 0 && roundFree cap lens (wrap cap (at + 1)) n
+
+-- a stash of this place and count has a cookie
+abbrev pub hasOf : ℕ → ℕ → ℕ → Bool
+hasOf cap read held = rangeOf cap read held && ltb 0 held
+
+-- what the rules read, of a place and a count, of whether no slot has bytes past its stored ones, and of the slots' lengths
+unfoldable pub seenFrom : ℕ → ℕ → ℕ → Bool → List ℕ → Seen
+seenFrom cap read held padded lens =
+    record {
+      whole = rangeOf cap read held && (padded && (zeros (drop cap lens) && roundFree cap lens (wrap cap (read + held)) (cap - held)));
+      found = hasOf cap read held;
+      len = cond (hasOf cap read held) (getD lens read 0) 0;
+      gap = cap - cond (hasOf cap read held) (held - 1) held;
+      read = read;
+      held = held;
+    }
+
+-- ---- the statement
+
+-- of a slot
 pub record WholeSlot (x : Slot) : Type 0 where
   pub short : x .len ≤ 65535
   pub sized : length (x .bytes) ≡ 724

@@ -2,14 +2,11 @@
 use cookielist::Entry;
 ghost use mathlib.Core.Path.{_≡_};
 ghost use mathlib.Core.Bool.{_&&_};
-ghost use mathlib.Core.List.{List};
-ghost use Prim.Native.Nat.{ℕ, _≤_, _<_};
-ghost use lib.Dec.{ltb, leb};
-ghost use lib.ListN.{length, getD, drop};
+ghost use Prim.Native.Nat.{_+_, _-_, _≤_, _<_};
+ghost use lib.ListN.{length, drop};
 ghost use Rattle.words.specs.Bytes.{zeros};
-ghost use Rattle.cookiestash.specs.declared.Slot.{Slot};
-ghost use Rattle.cookiestash.specs.Stash.{stored, slotAt, slotOf, emptySlot, newOf, wrap, gapOf, putOf, storeOf, getOf};
-ghost use Rattle.cookiestash.specs.Whole.{padded, allPadded, allFree, freeSlots, wholeOf, seenOf};
+ghost use Rattle.cookiestash.specs.Stash.{stored, slotOf, emptySlot, newOf, wrap, gapOf, rangeOf, putOf, storeOf, getOf};
+ghost use Rattle.cookiestash.specs.Whole.{padded, allPadded, lensOf, roundFree, seenOf, seenFrom};
 ghost use Rattle.cookiestash.specs.StoreList.{storeListOf};
 
 // How many bytes a slot has: those of the longest cookie that is kept.
@@ -55,22 +52,22 @@ pub struct Seen {
 }
 
 // How many of a cookie's bytes a slot stores.
-fn stored_bytes(length: usize) -> usize
+pub fn stored_bytes(length: usize) -> usize
     ensures { λ r. ⌜ r ≡ stored length ⌝ }
 {
     if length <= SLOT_BYTES { length } else { 0 }
 }
 
 // The place after the last is the first.
-fn wrapped(cap: usize, place: usize) -> usize
+pub fn wrapped(cap: usize, place: usize) -> usize
     ensures { λ r. ⌜ r ≡ wrap cap place ⌝ }
 {
     if place < cap { place } else { place - cap }
 }
 
 // Whether a place and a count are those of a stash of a capacity, which has no more slots than there are.
-fn in_range(cap: usize, read: usize, held: usize) -> bool
-    ensures { λ r. ⌜ r ≡ (leb cap 8 && (ltb read cap && leb held cap)) ⌝ }
+pub fn in_range(cap: usize, read: usize, held: usize) -> bool
+    ensures { λ r. ⌜ r ≡ rangeOf cap read held ⌝ }
 {
     if MAX_COOKIES < cap {
         return false;
@@ -78,9 +75,31 @@ fn in_range(cap: usize, read: usize, held: usize) -> bool
     if read < cap { held <= cap } else { false }
 }
 
+// How many more cookies there is room for, of how many are held.
+fn room(capacity: u8, held: usize) -> u8
+    ensures { λ r. ⌜ r ≡ capacity - held ⌝ }
+{
+    let cap = capacity as usize;
+    if held < cap { (cap - held) as u8 } else { 0 }
+}
+
+// The bytes of the slot that holds a cookie: the stored ones, and zeros behind them.
+pub fn kept_bytes(cookie: &[u8]) -> [u8; 724]
+    ensures { λ r. ⌜ r ≡ slotOf (now (cookie .entry)) .bytes ⌝ }
+{
+    let mut bytes = [0u8; 724];
+    let n = stored_bytes(cookie.len());
+    let mut i: usize = 0;
+    while i < n {
+        bytes[i] = cookie[i];
+        i += 1;
+    }
+    bytes
+}
+
 // Whether the lengths from a place on are all zero.
 fn unused(lens: [u16; 8], from: usize) -> bool
-    ensures { λ r. ⌜ ((s : List Slot) → length s ≡ 8 → ((k : ℕ) → k < 8 → getD lens k 0 ≡ slotAt s k .len) → r ≡ allFree (drop from s)) ⌝ }
+    ensures { λ r. ⌜ r ≡ zeros (drop from lens) ⌝ }
 {
     let mut i = from;
     while i < MAX_COOKIES {
@@ -90,6 +109,66 @@ fn unused(lens: [u16; 8], from: usize) -> bool
         i += 1;
     }
     true
+}
+
+// Whether the slots that hold no cookie have length 0: those past the capacity, and the rest of the round.
+fn freed(lens: [u16; 8], cap: usize, read: usize, held: usize) -> bool
+    requires { ⌜ (cap ≤ 8) × (read < cap) × (held ≤ cap) ⌝ }
+    ensures { λ r. ⌜ r ≡ (zeros (drop cap lens) && roundFree cap lens (wrap cap (read + held)) (cap - held)) ⌝ }
+{
+    if !unused(lens, cap) {
+        return false;
+    }
+    let mut n = held;
+    let mut at = wrapped(cap, read + held);
+    while n < cap {
+        if lens[at] != 0 {
+            return false;
+        }
+        at = wrapped(cap, at + 1);
+        n += 1;
+    }
+    true
+}
+
+// What the rules read of a stash, of its place and count, of whether no slot has bytes past its stored ones, and of the slots' lengths. The oldest cookie's length is looked up: no slot is taken, and none cleared.
+pub fn seen_from(capacity: u8, read: usize, held: usize, padded: bool, lens: [u16; 8]) -> Seen
+    ensures { λ r. ⌜ r ≡ seenFrom capacity read held padded lens ⌝ }
+{
+    let cap = capacity as usize;
+    if !in_range(cap, read, held) {
+        return Seen {
+            whole: false,
+            found: false,
+            len: 0,
+            gap: room(capacity, held),
+            read,
+            held,
+        };
+    }
+    let whole = if padded {
+        freed(lens, cap, read, held)
+    } else {
+        false
+    };
+    if held == 0 {
+        return Seen {
+            whole,
+            found: false,
+            len: 0,
+            gap: room(capacity, held),
+            read,
+            held,
+        };
+    }
+    Seen {
+        whole,
+        found: true,
+        len: lens[read],
+        gap: room(capacity, held - 1),
+        read,
+        held,
+    }
 }
 
 impl Slot {
@@ -107,13 +186,7 @@ impl Slot {
         requires { ⌜ length (now cookie) ≤ 65535 ⌝ }
         ensures { λ r. ⌜ r ≡ slotOf (now (cookie .entry)) ⌝ }
     {
-        let mut bytes = [0u8; 724];
-        let n = stored_bytes(cookie.len());
-        let mut i: usize = 0;
-        while i < n {
-            bytes[i] = cookie[i];
-            i += 1;
-        }
+        let bytes = kept_bytes(cookie);
         Slot {
             bytes,
             len: cookie.len() as u16,
@@ -212,9 +285,7 @@ impl CookieStash {
     pub fn gap(self, capacity: u8) -> u8
         ensures { λ r. ⌜ r ≡ gapOf capacity self ⌝ }
     {
-        let cap = capacity as usize;
-        let held = self.held;
-        if held < cap { (cap - held) as u8 } else { 0 }
+        room(capacity, self.held)
     }
 
     // Whether no slot has bytes past its stored ones.
@@ -234,7 +305,7 @@ impl CookieStash {
 
     // The length of each slot: a search among these copies no slot.
     fn lengths(self) -> [u16; 8]
-        ensures { λ r. ⌜ ((k : ℕ) → k < 8 → getD r k 0 ≡ slotAt (self .slots) k .len) ⌝ }
+        ensures { λ r. ⌜ r ≡ lensOf self ⌝ }
     {
         let mut lens = [0u16; 8];
         let mut i: usize = 0;
@@ -246,70 +317,13 @@ impl CookieStash {
         lens
     }
 
-    // Whether the slots that hold no cookie have length 0.
-    fn freed(self, cap: usize) -> bool
-        requires { ⌜ (cap ≤ 8) × (self .read < cap) × (self .held ≤ cap) ⌝ }
-        ensures { λ r. ⌜ r ≡ allFree (freeSlots cap self) ⌝ }
-    {
-        let lens = self.lengths();
-        if !unused(lens, cap) {
-            return false;
-        }
-        let mut n = self.held;
-        let mut at = wrapped(cap, self.read + self.held);
-        while n < cap {
-            if lens[at] != 0 {
-                return false;
-            }
-            at = wrapped(cap, at + 1);
-            n += 1;
-        }
-        true
-    }
-
-    // Whether the place and the count are in range, free slots have length 0, and bytes past the stored ones are zero.
-    pub fn whole(self, capacity: u8) -> bool
-        ensures { λ r. ⌜ r ≡ wholeOf capacity self ⌝ }
-    {
-        let cap = capacity as usize;
-        if !in_range(cap, self.read, self.held) || !self.all_padded() {
-            return false;
-        }
-        self.freed(cap)
-    }
-}
-
-impl CookieStash {
-    // What the rules read of a stash. The oldest cookie's length is looked up among the lengths: no slot is taken, and none cleared.
+    // What the rules read of a stash: also whether it is whole, that is, whether the place and the count are in range, free slots have length 0, and bytes past the stored ones are zero.
     pub fn seen(self, capacity: u8) -> Seen
         ensures { λ r. ⌜ r ≡ seenOf capacity self ⌝ }
     {
-        let cap = capacity as usize;
-        let read = self.read;
-        let held = self.held;
-        let whole = self.whole(capacity);
-        if !in_range(cap, read, held) || held == 0 {
-            let gap = self.gap(capacity);
-            return Seen {
-                whole,
-                found: false,
-                len: 0,
-                gap,
-                read,
-                held,
-            };
-        }
+        let padded = self.all_padded();
         let lens = self.lengths();
-        let len = lens[read];
-        let gap = (cap - (held - 1)) as u8;
-        Seen {
-            whole,
-            found: true,
-            len,
-            gap,
-            read,
-            held,
-        }
+        seen_from(capacity, self.read, self.held, padded, lens)
     }
 }
 

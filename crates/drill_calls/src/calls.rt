@@ -3,6 +3,7 @@ use crate::Ran;
 use accept::Bloom;
 use association::Association;
 use association::Settings;
+use collector::Collected;
 use drill_text::keys;
 use drill_text::keys::Values;
 use drill_text::names;
@@ -11,7 +12,6 @@ use drill_text::text;
 use drill_text::value;
 use drill_text::value::COLLECT_ROOM;
 use drill_text::value::MAX_BYTES;
-use fields::collector::Collected;
 use identifiers::ReferenceId;
 use time_types::PollInterval;
 use version::ProtocolVersion;
@@ -151,7 +151,7 @@ fn part32(s: &[u32], count: usize) -> &[u32] {
 
 // The collector's answer over decrypted bytes, with a buffer of so many bytes lent.
 fn put_collected(out: &mut [u8], decrypted: &[u8], buffer: &mut [u8]) -> usize {
-    let collected = fields::collector::collect(decrypted, buffer);
+    let collected = collector::collect(decrypted, buffer);
     let at = print::number(out, 0, b"collect ", collected.number() as u64);
     let Collected::Done(len) = collected else {
         return at;

@@ -8,6 +8,7 @@ use association::State;
 use cookiestash::CAPACITY;
 use cookiestash::CookieStash;
 use cookiestash::MAX_COOKIES;
+use cookiestash::SLOT_BYTES;
 use cookiestash::Slot;
 use drill_text::keys;
 use drill_text::print;
@@ -16,6 +17,9 @@ use drill_text::text::Found;
 use drill_text::value;
 use drill_text::value::ID_DIGITS;
 use drill_text::value::Number;
+use drill_text::value::PLACE_SHIFT;
+use drill_text::value::SLOT_SHIFT;
+use drill_text::value::UID_BYTES;
 use identifiers::ReferenceId;
 use reach::Reach;
 use time_types::PollInterval;
@@ -29,7 +33,7 @@ mod poke_key {
     pub const VALUE: usize = 1;
 }
 
-// The numbers of the record that poke sets, by their places in their own table: those of the state, of the stash, of the settings.
+// The numbers of the record that poke sets, by their places in their own table: those of the state and of its request, of the stash, of the settings.
 mod field {
     pub const REACH: usize = 0;
 
@@ -43,17 +47,25 @@ mod field {
 
     pub const REMOTE: usize = 5;
 
-    pub const READ: usize = 6;
+    pub const ID: usize = 6;
 
-    pub const HELD: usize = 7;
+    pub const DEADLINE: usize = 7;
 
-    pub const MIN: usize = 8;
+    pub const UID: usize = 8;
 
-    pub const MAX: usize = 9;
+    pub const READ: usize = 9;
 
-    pub const STARTUP: usize = 10;
+    pub const HELD: usize = 10;
 
-    pub const WINDOW: usize = 11;
+    pub const SLOTBYTE: usize = 11;
+
+    pub const MIN: usize = 12;
+
+    pub const MAX: usize = 13;
+
+    pub const STARTUP: usize = 14;
+
+    pub const WINDOW: usize = 15;
 }
 
 fn put_version(out: &mut [u8], at: usize, version: Version) -> usize {
@@ -260,14 +272,70 @@ fn poke_state(state: State, key: usize, n: u64) -> State {
     next
 }
 
-fn poke_stash(stash: CookieStash, key: usize, n: usize) -> CookieStash {
+fn with_uid(request: Pending, digits: &[u8]) -> Pending {
+    let mut uid = [0u8; UID_BYTES];
+    value::write_bytes(digits, &mut uid);
+    Pending {
+        present: request.present,
+        id: request.id,
+        uid,
+        deadline: request.deadline,
+    }
+}
+
+// One field of the request, which is present or absent as it was: so an absent one can be made other than zero.
+fn poke_request(request: Pending, key: usize, n: u64, digits: &[u8]) -> Pending {
+    let mut next = request;
+    match key {
+        field::ID => {
+            next.id = n;
+        }
+        field::DEADLINE => {
+            next.deadline = n;
+        }
+        _ => {
+            next = with_uid(request, digits);
+        }
+    }
+    next
+}
+
+// One byte of a slot, stored or not: so one past the stored bytes can be made other than zero.
+fn poke_slot(slot: Slot, at: usize, byte: u8) -> Slot {
+    let mut bytes = slot.bytes;
+    if at < SLOT_BYTES {
+        bytes[at] = byte;
+    }
+    Slot {
+        bytes,
+        len: slot.len,
+    }
+}
+
+fn poke_byte(stash: CookieStash, n: u64) -> CookieStash {
+    let mut next = stash;
+    let i = (n >> SLOT_SHIFT) as usize;
+    let low = value::low32(n) as u64;
+    let at = (low >> PLACE_SHIFT) as usize;
+    if i < MAX_COOKIES {
+        let slot = stash.slots[i];
+        let slot = poke_slot(slot, at, value::low8(n));
+        next.slots[i] = slot;
+    }
+    next
+}
+
+fn poke_stash(stash: CookieStash, key: usize, n: u64) -> CookieStash {
     let mut next = stash;
     match key {
         field::READ => {
-            next.read = n;
+            next.read = n as usize;
+        }
+        field::HELD => {
+            next.held = n as usize;
         }
         _ => {
-            next.held = n;
+            next = poke_byte(stash, n);
         }
     }
     next
@@ -294,8 +362,8 @@ fn poke_settings(settings: Settings, key: usize, n: u64) -> Settings {
     next
 }
 
-// Each group of the record has its keys.
-fn poked(a: Association, key: usize, n: u64) -> Association {
+// Each group of the record has its keys. The value is a number, and where 64 bits do not hold it its digits.
+fn poked(a: Association, key: usize, n: u64, digits: &[u8]) -> Association {
     let mut next = a;
     match key {
         field::REACH..=field::REMOTE => {
@@ -303,9 +371,16 @@ fn poked(a: Association, key: usize, n: u64) -> Association {
             let state = poke_state(state, key, n);
             next.state = state;
         }
-        field::READ..=field::HELD => {
+        field::ID..=field::UID => {
+            let mut state = a.state;
+            let request = state.request;
+            let request = poke_request(request, key, n, digits);
+            state.request = request;
+            next.state = state;
+        }
+        field::READ..=field::SLOTBYTE => {
             let stash = a.stash;
-            let stash = poke_stash(stash, key, n as usize);
+            let stash = poke_stash(stash, key, n);
             next.stash = stash;
         }
         _ => {
@@ -340,13 +415,13 @@ fn poke_by(
             end,
         };
     };
-    let association = poked(a, i, n);
+    let association = poked(a, i, n, value);
     let end = print::text(out, 0, b"poke");
     Ran { association, end }
 }
 
 // The keys of poke: reach, tries, stratum and startup are unsigned 8-bit numbers, refid is 8 hexadecimal digits, last, remote, min and
-// max are signed 8-bit numbers, read, held and window unsigned 64-bit ones.
+// max are signed 8-bit numbers, deadline, read, held and window unsigned 64-bit ones, id 16 digits, uid 32 bytes, slotbyte a byte of a slot.
 pub fn poke(a: Association, line: &[u8], number: u64, out: &mut [u8]) -> Ran {
     let v = keys::read(line, number, b"key:t value:t", out);
     if v.refused {
@@ -359,7 +434,7 @@ pub fn poke(a: Association, line: &[u8], number: u64, out: &mut [u8]) -> Ran {
         a,
         v.text(poke_key::KEY, line),
         v.text(poke_key::VALUE, line),
-        b"reach:u tries:u stratum:u refid:f last:b remote:b read:n held:n min:b max:b startup:u window:n",
+        b"reach:u tries:u stratum:u refid:f last:b remote:b id:x deadline:n uid:i read:n held:n slotbyte:p min:b max:b startup:u window:n",
         number,
         out,
     )

@@ -1,6 +1,7 @@
 // The calls reply and reply5.
 use crate::Ran;
 use association::Association;
+use collector::Collected;
 use drill_text::keys;
 use drill_text::keys::Values;
 use drill_text::names::kiss;
@@ -11,18 +12,17 @@ use drill_text::print;
 use drill_text::text;
 use drill_text::value::COLLECT;
 use drill_text::value::MAX_BYTES;
-use fields::collector::Collected;
-use fields::matching::Uid;
 use header::Kisses;
 use incoming::DecodedMode;
 use incoming::DecodedReply;
 use incoming::NtpLeapIndicator;
 use reply::ReplyOut;
-use reply_rules::Measurement;
+use reply_clauses::Measurement;
 use reply_rules::ReplyAnswer;
 use time_types::NtpDuration;
 use time_types::NtpTimestamp;
 use time_types::PollInterval;
+use uid_groups::Uid;
 
 // The keys that both calls have, and those of each, by their places in its table.
 mod key {
@@ -119,7 +119,7 @@ fn answered(done: ReplyOut, word: &[u8], out: &mut [u8]) -> Ran {
 
 // What the collector makes of decrypted bytes, nothing where it refuses.
 fn collected(decrypted: &[u8], list: &mut [u8]) -> usize {
-    match fields::collector::collect(decrypted, list) {
+    match collector::collect(decrypted, list) {
         Collected::Done(len) => len,
         Collected::Broken => 0,
         Collected::TooLong => 0,

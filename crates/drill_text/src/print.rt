@@ -34,7 +34,7 @@ pub fn decimal(out: &mut [u8], at: usize, n: u64) -> usize {
     text(out, at, &digits[..k])
 }
 
-pub fn signed(out: &mut [u8], at: usize, n: i64) -> usize {
+fn signed(out: &mut [u8], at: usize, n: i64) -> usize {
     let bits = words::i64_as_u64(n);
     if n < 0 {
         let next = byte(out, at, b'-');

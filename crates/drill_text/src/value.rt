@@ -9,6 +9,7 @@
 //   k names of kisses joined by commas, or '-': a bit for each
 //   v a version: its place among the names, and for upgrading the tries
 //   y no or yes, g absent, agree or disagree, m none, absent or present, e a kind of request: the place among the names
+//   p a byte of a cookie slot, SLOT/AT/BYTE: three decimal numbers, each with its bits
 //   t any text
 // Leading zeros are allowed, a sign '+' is not, and no value is empty.
 use crate::names::kiss;
@@ -42,6 +43,16 @@ pub const ID_DIGITS: usize = 16;
 
 // The hexadecimal digits of a reference identifier.
 pub const REFID_DIGITS: usize = 8;
+
+// The last of the cookie slots, and the last place in one.
+const LAST_SLOT: u64 = 7;
+
+const LAST_PLACE: u64 = 723;
+
+// How far up a byte of a slot has the bits of its slot and of its place; the byte itself has the lowest.
+pub const SLOT_SHIFT: u64 = 32;
+
+pub const PLACE_SHIFT: u64 = 8;
 
 // The hexadecimal digits of a byte.
 const BYTE_DIGITS: usize = 2;
@@ -314,6 +325,28 @@ fn version(s: &[u8]) -> Number {
     }
 }
 
+// A byte of a slot: the slot, the place in it and the byte, with a stroke between them.
+fn slot_byte(s: &[u8]) -> Number {
+    let first = text::find(s, 0, b'/', b'/');
+    if s.len() <= first {
+        return Number::Bad;
+    }
+    let second = text::find(s, first + 1, b'/', b'/');
+    if s.len() <= second {
+        return Number::Bad;
+    }
+    let Number::Is(slot) = decimal(text::part(s, 0, first), 0, LAST_SLOT) else {
+        return Number::Bad;
+    };
+    let Number::Is(at) = decimal(text::part(s, first + 1, second), 0, LAST_PLACE) else {
+        return Number::Bad;
+    };
+    let Number::Is(byte) = decimal(text::part(s, second + 1, s.len()), 0, MAX_U8) else {
+        return Number::Bad;
+    };
+    Number::Is((slot << SLOT_SHIFT) | (at << PLACE_SHIFT) | byte)
+}
+
 // What a text says as a value of a kind.
 pub fn parse(kind: u8, s: &[u8]) -> Number {
     match kind {
@@ -334,6 +367,7 @@ pub fn parse(kind: u8, s: &[u8]) -> Number {
         b'd' => identifier_count(s),
         b'k' => kisses(s),
         b'v' => version(s),
+        b'p' => slot_byte(s),
         b'y' => place(s, b"no yes"),
         b'g' => place(s, b"absent agree disagree"),
         b'm' => place(s, b"none absent present"),

@@ -1,44 +1,13 @@
--- Every claim of the table holds: each is computed from the definitions, but for the nine cookies, which are any nine.
+-- Every claim of the table holds: each is computed from the definitions; the nine cookies are any nine, and the calls any that come so far.
 -- Assumes nothing.
 use mathlib.Core.Path.{refl}
 use Rattle.reach.specs.Register.{trailing}
-use Rattle.timer_rules.specs.Poll.{pendingOf}
 use Rattle.cookiestash.proofs.Cookies.{nine}
+use Rattle.timer_rules.specs.Poll.{pendingOf}
+use Rattle.timer_rules.specs.Decide.{decideNts, decideOf}
+use Rattle.reply_rules.specs.Judge.{judgeOf}
 use Rattle.edge_cases.specs.Table.{All, table}
 
 pub table-holds : All table
-unfolding trailing pendingOf
-table-holds = (
-  nine,
-  (
-    refl,
-    (
-      refl,
-      (
-        refl,
-        (
-          refl,
-          (
-            refl,
-            (
-              refl,
-              (
-                refl,
-                (
-                  refl,
-                  (
-                    λ nts i e. rw e,
-                    (
-                      λ nts i e. rw e,
-                      (refl, (refl, (refl, (refl, (refl, ((refl, refl, refl), (refl, (refl, (refl, tt))))))))),
-                    ),
-                  ),
-                ),
-              ),
-            ),
-          ),
-        ),
-      ),
-    ),
-  ),
-)
+unfolding trailing pendingOf decideOf decideNts judgeOf
+table-holds = (nine, (refl, (refl, (refl, (λ g s v i room k. rw (k .whole, k .roomy, k .going, k .nts, k .found, k .gap-is, k .len-is) (refl, refl), (λ g s v i room k. rw (k .whole, k .roomy, k .going, k .nts, k .found, k .gap-is, k .len-is) (refl, refl), (λ g s v i room k. rw (k .whole, k .roomy, k .going, k .nts, k .found, k .gap-is, k .len-is) (refl, refl), (λ g s v i room k. rw (k .whole, k .roomy, k .going, k .nts, k .found, k .gap-is, k .len-is) (refl, refl), (λ g s v i room k. rw (k .whole, k .roomy, k .going, k .nts, k .found, k .gap-is, k .len-is) (refl, refl), (λ nts i e. rw e, (λ g s i r t h e q w. rw (h .listed, h .expected, q, w, e), (refl, (refl, (refl, (refl, (refl, ((refl, refl, refl), (refl, (refl, (refl, tt))))))))))))))))))))

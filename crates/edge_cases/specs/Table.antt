@@ -13,10 +13,22 @@ use Rattle.cookielist.specs.List.{AllShort}
 use Rattle.cookiestash.specs.Queue.{storeAll}
 use Rattle.version.specs.declared.ProtocolVersion.{ProtocolVersion}
 use Rattle.version.specs.declared.ProtocolVersion.the-variants.{V4, Upgrading}
-use Rattle.version.specs.Upgrade.{stepped}
+use Rattle.version.specs.Upgrade.{expectsOf, stepped}
+use Rattle.cookielist.specs.List.{listBroken}
+use Rattle.cookiestash.specs.declared.Seen.{Seen}
+use Rattle.association.specs.declared.Settings.{Settings}
+use Rattle.association.specs.declared.State.{State}
+use Rattle.association.specs.Record.{wholeSeen}
+use Rattle.incoming.specs.declared.Reply.{Reply}
+use Rattle.timer_rules.specs.declared.TimerAnswer.{TimerAnswer}
+use Rattle.timer_rules.specs.declared.TimerAnswer.the-variants.{Sent, Reset, Demobilize, NoCookie, CookieTooLarge, ShortBuffer, NotWhole}
+use Rattle.timer_rules.specs.Answer as timer
 use Rattle.timer_rules.specs.declared.TimerInput.{TimerInput}
-use Rattle.timer_rules.specs.Poll.{askedOf, pendingOf}
-use Rattle.reply_rules.specs.After.{live}
+use Rattle.timer_rules.specs.Poll.{shortBuffer, startupOver, pendingOf}
+use Rattle.timer_rules.specs.Decide.{decideOf}
+use Rattle.reply_rules.specs.Answer as reply
+use Rattle.reply_clauses.specs.After.{Arrival, live}
+use Rattle.reply_rules.specs.Judge.{judgeOf}
 use Rattle.time_types.specs.Time.{difference, delayOf, offsetOf, localTime}
 use Rattle.time_types.specs.Poll.{afterRate}
 
@@ -27,10 +39,12 @@ pub data Case : Type 0 where
   counts : (reach count : ℕ) → Case
   -- a reach register, polled
   polled : (reach next : ℕ) → Case
-  -- the gap after the take and the cookie's length, and how many new ones are asked for; none is 24
-  asks : (gap length number : ℕ) → Case
-  -- when a poll was sent and its window, and whether it is live at a time; where not, a reply gives 3
-  live-at : (sent window time : ℕ) (lives : Bool) → Case
+  -- the gap after the take and the cookie's length, the timer's number, and how many new cookies are asked for
+  asks : (gap length number asked : ℕ) → Case
+  -- when a poll was sent and its window, and a time at which it is live
+  live-at : (sent window time : ℕ) → Case
+  -- when a poll was sent and its window, and the number that a reply gives at a time
+  late-at : (sent window time number : ℕ) → Case
   -- a version and a plain reply
   plain-reply : (kind next : ProtocolVersion) → Case
   -- the remote minimum, the upper limit and the last poll, and the remote minimum after RATE
@@ -42,6 +56,31 @@ pub data Case : Type 0 where
   -- a difference of timestamps
   differ : (a b : ℕ) (difference : ℤ) → Case
 
+-- how many new cookies an answer asks for
+abbrev pub askedBy : TimerAnswer → ℕ
+askedBy (Sent kind poll len asked) = asked
+askedBy Reset = 0
+askedBy Demobilize = 0
+askedBy NoCookie = 0
+askedBy CookieTooLarge = 0
+askedBy ShortBuffer = 0
+askedBy NotWhole = 0
+
+-- a timer with NTS that tries a poll, and takes the oldest cookie
+pub record Taking (g : Settings) (s : State) (v : Seen) (room gap length : ℕ) : Type 0 where
+  pub whole : wholeSeen g v (s .request) ≡ true
+  pub roomy : shortBuffer g room ≡ false
+  pub going : startupOver g s ≡ false
+  pub nts : g .nts ≡ true
+  pub found : v .found ≡ true
+  pub gap-is : v .gap ≡ gap
+  pub len-is : v .len ≡ length
+
+-- a reply that was read, of a version that is expected and with a list that is not broken
+pub record Heard (g : Settings) (s : State) (r : Reply) (t : Arrival) : Type 0 where
+  pub listed : listBroken (g .nts) (t .list) ≡ false
+  pub expected : expectsOf (s .version) (r .version) ≡ true
+
 abbrev pub Right : Case → Type 0
 Right nine-stored =
     (a b c d e f g h i : List ℕ) →
@@ -50,8 +89,13 @@ Right nine-stored =
     × (getOf 8 (storeAll 8 newOf (a ∷ b ∷ c ∷ d ∷ e ∷ f ∷ g ∷ h ∷ i ∷ [])) .slot ≡ slotOf b)
 Right (counts r n) = unansweredOf (record { 0 = r }) ≡ n
 Right (polled r n) = polledOf (record { 0 = r }) ≡ record { 0 = n }
-Right (asks gap len n) = askedOf gap len ≡ n
-Right (live-at sent window time lives) = (nts : Bool) (i : TimerInput) → i .time ≡ sent → live (pendingOf nts window i) time ≡ lives
+Right (asks gap len n k) =
+    (g : Settings) (s : State) (v : Seen) (i : TimerInput) (room : ℕ) → Taking g s v room gap len →
+    (timer.numberOf (decideOf g s v i room .answer) ≡ n) × (askedBy (decideOf g s v i room .answer) ≡ k)
+Right (live-at sent window time) = (nts : Bool) (i : TimerInput) → i .time ≡ sent → live (pendingOf nts window i) time ≡ true
+Right (late-at sent window time n) =
+    (g : Settings) (s : State) (i : TimerInput) (r : Reply) (t : Arrival) → Heard g s r t →
+    i .time ≡ sent → s .request ≡ pendingOf (g .nts) window i → t .time ≡ time → reply.numberOf (judgeOf g s r t .answer) ≡ n
 Right (plain-reply k n) = stepped k false ≡ n
 Right (rated r m l n) = afterRate r m l ≡ n
 Right (measured t1 t2 t3 t4 d o l) = (delayOf t1 t2 t3 t4 ≡ d) × (offsetOf t1 t2 t3 t4 ≡ o) × (localTime t1 t4 ≡ l)
@@ -69,13 +113,13 @@ table =
     ∷ counts 0 8
     ∷ counts 128 7
     ∷ polled 128 0
-    ∷ asks 8 724 1
-    ∷ asks 8 725 0
-    ∷ asks 8 90 8
-    ∷ asks 8 91 7
-    ∷ asks 1 0 1
-    ∷ live-at 1000 5000 6000 true
-    ∷ live-at 1000 5000 6001 false
+    ∷ asks 8 724 20 1
+    ∷ asks 8 725 24 0
+    ∷ asks 8 90 20 8
+    ∷ asks 8 91 20 7
+    ∷ asks 1 0 20 1
+    ∷ live-at 1000 5000 6000
+    ∷ late-at 1000 5000 6001 3
     ∷ plain-reply (Upgrading 2) (Upgrading 1)
     ∷ plain-reply (Upgrading 1) V4
     ∷ plain-reply (Upgrading 0) V4

@@ -3,6 +3,7 @@
 use Prim.Native.Nat.{ℕ, _+_, _-_, _%_}
 use mathlib.Core.List.{List}
 use mathlib.Core.Bool.{Bool, _&&_, cond}
+use mathlib.Core.Option.{Option, none, some}
 use lib.ListN.{length}
 use lib.Dec.{ltb, leb, eqb}
 use Rattle.words.specs.Bytes.{be, part}
@@ -36,3 +37,9 @@ packetStep p at = stepAt p at 16 24
 -- decrypted fields: at least 4, and no tail
 abbrev pub decryptedStep : List ℕ → ℕ → Step
 decryptedStep p at = stepAt p at 4 0
+
+-- document 01's number: a broken answer makes the packet undecodable, 1; a field and the end are refused by none
+abbrev pub refusalOf : Step → Option ℕ
+refusalOf (Field kind start len next) = none
+refusalOf End = none
+refusalOf Broken = some 1

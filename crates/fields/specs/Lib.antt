@@ -1,6 +1,4 @@
 -- The definitions that the contracts of `fields` cite.
 pub mod Field
 pub mod Walk
-pub mod Matching
 pub mod Sound
-pub mod Collector

@@ -1,11 +1,14 @@
--- Statements on the walk and on the groups that the theorems of proofs/Sound.antt and proofs/Uids.antt prove (document 01, parts 7 and 8).
+-- Statements on the walk that the theorems of proofs/Sound.antt prove (document 01, part 7).
 -- Assumes nothing.
 use Prim.Native.Nat.{ℕ, _+_, _-_, _%_, _≤_}
 use mathlib.Core.Path.{_≡_}
-use mathlib.Core.List.{List, [], _∷_, _++_}
+use mathlib.Core.List.{List, [], _∷_}
 use mathlib.Core.Logic.{_⊎_}
+use mathlib.Core.Option.{some}
 use lib.ListN.{length}
+use Rattle.fields.specs.Field.{stepAt, refusalOf}
 use Rattle.fields.specs.Walk.{Found, fieldsOf, packetWalk, walkedOf}
+use Rattle.fields.specs.declared.Step.the-variants.{Field}
 use Rattle.fields.specs.declared.Walked.the-variants.{Ends}
 
 -- each, and one, of a list
@@ -41,12 +44,19 @@ pub record Sound (p : List ℕ) (at least tail end : ℕ) (fs : List Found) : Ty
   pub within : end ≤ length p
   pub left : length p - end ≤ tail
 
+-- an offset that a walk comes to: where it starts, and where a field ends that stands at one
+pub data Reached (p : List ℕ) (least tail : ℕ) : ℕ → ℕ → Type 0 where
+  here : {at : ℕ} → Reached p least tail at at
+  past : {at kind start len next to : ℕ} → stepAt p at least tail ≡ Field kind start len next → Reached p least tail next to → Reached p least tail at to
+
+-- the walk from an offset on comes to one where what stands there is refused with a number
+pub record Refused (p : List ℕ) (least tail at n : ℕ) : Type 0 where
+  pub place : ℕ
+  pub reached : Reached p least tail at place
+  pub number : refusalOf (stepAt p place least tail) ≡ some n
+
 -- a place of a packet's walk, which ends: the first, 48; one where a field starts; or the end
 pub record Place (p : List ℕ) (n : ℕ) : Type 0 where
   pub end : ℕ
   pub walked : walkedOf (packetWalk p) ≡ Ends end
   pub place : (n ≡ 48) ⊎ (One (λ f. f .at ≡ n) (fieldsOf (packetWalk p)) ⊎ (n ≡ end))
-
--- the bytes b are u and then others
-abbrev pub Begins : List ℕ → List ℕ → Type 0
-Begins u b = (r : List ℕ) × (b ≡ u ++ r)

@@ -3,6 +3,7 @@
 use Prim.Native.Nat.{ℕ, zero, suc, _-_}
 use mathlib.Core.List.{List, [], _∷_}
 use mathlib.Core.Bool.{Bool, true, false, _&&_, _||_, cond}
+use mathlib.Core.Option.{Option, none, some}
 use lib.ListN.{length}
 use lib.Dec.{ltb, leb, eqb}
 use Rattle.words.specs.Bytes.{part}
@@ -53,6 +54,11 @@ abbrev pub walkedOf : Walk → Walked
 walkedOf (field f w) = walkedOf w
 walkedOf (ends at) = W.Ends at
 walkedOf broken = W.Broken
+
+-- document 01's number: 1 for a broken walk; one that ends is refused by none
+abbrev pub refusalOf : Walked → Option ℕ
+refusalOf (W.Ends at) = none
+refusalOf W.Broken = some 1
 
 -- a walk that is not broken
 abbrev pub whole : Walk → Bool

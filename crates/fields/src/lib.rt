@@ -5,15 +5,6 @@ ghost use Prim.Native.Nat.{_≤_};
 ghost use Rattle.fields.specs.Field.{stepAt, packetStep, decryptedStep};
 ghost use Rattle.fields.specs.Walk.{broken, onStep, walkOf, packetWalk, decryptedWalk, walkedOf, isPlace};
 
-pub mod collector;
-pub mod matching;
-
-// The type of a field that carries the unique identifier.
-pub const UID_KIND: u16 = 0x0104;
-
-// The type of a field that carries a cookie.
-pub const COOKIE_KIND: u16 = 0x0204;
-
 // The length that a field of a packet has at least, and that a tail has at most.
 const PACKET_LEAST: usize = 16;
 

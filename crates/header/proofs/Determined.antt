@@ -4,7 +4,6 @@ use mathlib.Core.Path.{_∙_, sym}
 use Rattle.words.specs.Determined.{Determined}
 use Rattle.header.proofs.read_header.Reads as read-header
 use Rattle.header.proofs.write_header.Reads as write-header
-use Rattle.header.proofs.HeaderRead.number.Reads as number
 use Rattle.header.proofs.HeaderVersion.number.Reads as version-number
 use Rattle.header.proofs.Header.kisses.Reads as kisses
 
@@ -13,9 +12,6 @@ read-header-determined κs a y z e f p q = p ∙ sym q
 
 pub write-header-determined : Determined write-header.Post
 write-header-determined κs a y z e f p q = p ∙ sym q
-
-pub number-determined : Determined number.Post
-number-determined κs a y z e f p q = p ∙ sym q
 
 pub version-number-determined : Determined version-number.Post
 version-number-determined κs a y z e f p q = p ∙ sym q

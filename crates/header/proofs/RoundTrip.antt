@@ -3,7 +3,8 @@
 use mathlib.Core.Path.{_≡_, refl, sym, _∙_, ap, subst}
 use mathlib.Core.Bool.{Bool, true, false, cond}
 use mathlib.Core.List.{List, [], _∷_, _++_, append-assoc}
-use mathlib.Core.Logic.{_⊎_, inl, inr}
+use mathlib.Core.Logic.{_↔_, _⊎_, inl, inr}
+use mathlib.Core.Option.{some}
 use Prim.Native.Nat.{ℕ, _+_, _^_, _≤_, _<_}
 use native.Mathlib.Nat.{mod-eq-of-lt}
 use native.Mathlib.Omega.{arith}
@@ -14,7 +15,7 @@ use mir.Syntax.{w8}
 use Rattle.words.specs.Bytes.{be, part, toBe}
 use Rattle.words.proofs.Bytes.{Bytes, bytes-part, be-toBe, toBe-be, part-add, length-part}
 use Rattle.words.proofs.Readings.{unsigned-signed, signed-unsigned}
-use Rattle.header.specs.Header.{versionCode, versionBits, fields, headerOf, bytesOf}
+use Rattle.header.specs.Header.{versionCode, versionBits, fields, headerOf, refusalOf, bytesOf}
 use Rattle.header.specs.declared.HeaderVersion.{HeaderVersion}
 use Rattle.header.specs.declared.HeaderVersion.the-variants.{V3, V4}
 use Rattle.header.specs.declared.Header.{Header}
@@ -79,15 +80,20 @@ view p = go (ltb (length p) 48) (eqb (versionBits p) 3) (eqb (versionBits p) 4) 
 abbrev pub Refused : List ℕ → Type 0
 Refused p = (length p < 48) ⊎ ((versionBits p ≡ 3 → ⊥) × (versionBits p ≡ 4 → ⊥))
 
-pub undecodable : (p : List ℕ) → headerOf p ≡ Undecodable → Refused p
+-- the number 1, and no other, is that of bytes that are not decodable
+refused-by : (r : HeaderRead) (n : ℕ) → refusalOf r ≡ some n → (n ≡ 1) × (r ≡ Undecodable)
+refused-by (Decoded h) n e = let z : _≡_ {A = ℕ} 0 1 = cc in absurd (omega arith)
+refused-by Undecodable n e = (cc, refl)
+
+undecodable : (p : List ℕ) → headerOf p ≡ Undecodable → Refused p
 undecodable p e = go (subst (Read p) e (view p))
   where
     go : Read p Undecodable → Refused p
     go (short h) = inl h
     go (other a b) = inr (a, b)
 
-pub refused : (p : List ℕ) → Refused p → headerOf p ≡ Undecodable
-refused p f = go (headerOf p) (view p) f
+then-refused : (p : List ℕ) → Refused p → headerOf p ≡ Undecodable
+then-refused p f = go (headerOf p) (view p) f
   where
     go : (r : HeaderRead) → Read p r → Refused p → r ≡ Undecodable
     go _ (short h) f = refl
@@ -95,6 +101,13 @@ refused p f = go (headerOf p) (view p) f
     go _ (read v l e) (inl h) = absurd (omega arith)
     go _ (read V3 l e) (inr n) = absurd (n .0 e)
     go _ (read V4 l e) (inr n) = absurd (n .1 e)
+
+-- the reader refuses with document 01's number 1 exactly what is refused, and with no other number
+pub refused : (p : List ℕ) (n : ℕ) → (refusalOf (headerOf p) ≡ some n) ↔ ((n ≡ 1) × Refused p)
+refused p n = (
+  λ e. (let b = refused-by (headerOf p) n e in (b .0, undecodable p (b .1))),
+  λ f. ap refusalOf (then-refused p (f .1)) ∙ ap some (sym (f .0)),
+)
 
 -- ---- writing what was read
 

@@ -3,6 +3,7 @@
 use Prim.Native.Nat.{ℕ, _+_, _*_, _/_, _%_, _^_}
 use mathlib.Core.Bool.{cond}
 use mathlib.Core.List.{List, _∷_, _++_}
+use mathlib.Core.Option.{Option, none, some}
 use lib.Dec.{ltb, eqb}
 use lib.ListN.{length, getD}
 use lib.Seq.{paste}
@@ -95,10 +96,10 @@ headerOf p =
     (cond (eqb (versionBits p) 4) (Decoded (fields V4 p))
     Undecodable))
 
--- document 01's number: 1 for bytes that are not decodable, 0 for a header that is read, which is no refusal
-abbrev pub numberOf : HeaderRead → ℕ
-numberOf (Decoded h) = 0
-numberOf Undecodable = 1
+-- document 01's number: 1 for bytes that are not decodable; a header that is read is refused by none
+abbrev pub refusalOf : HeaderRead → Option ℕ
+refusalOf (Decoded h) = none
+refusalOf Undecodable = some 1
 
 -- ---- the writer
 

@@ -6,7 +6,7 @@ ghost use mathlib.Core.Path.{_≡_};
 ghost use Prim.Native.Nat.{_+_, _≤_, _<_};
 ghost use lib.ListN.{length};
 ghost use Rattle.words.specs.Bytes.{toBe};
-ghost use Rattle.header.specs.Header.{leapOf, modeOf, leapCode, modeCode, versionCode, firstByte, fields, headerOf, numberOf, placed, bytesOf};
+ghost use Rattle.header.specs.Header.{leapOf, modeOf, leapCode, modeCode, versionCode, firstByte, fields, headerOf, placed, bytesOf};
 ghost use Rattle.header.specs.Kiss.{kissesOf};
 
 // The bytes of a header.
@@ -233,18 +233,6 @@ pub fn write_header(h: Header) -> [u8; 48]
     let out = put64(out, 24, h.origin.0);
     let out = put64(out, 32, h.receive.0);
     put64(out, 40, h.transmit.0)
-}
-
-impl HeaderRead {
-    // Document 01's number of the answer.
-    pub fn number(self) -> u8
-        ensures { λ r. ⌜ r ≡ numberOf self ⌝ }
-    {
-        match self {
-            HeaderRead::Decoded(_) => 0,
-            HeaderRead::Undecodable => 1,
-        }
-    }
 }
 
 impl Header {

@@ -4,7 +4,6 @@ use mathlib.Core.Path.{_∙_, sym}
 use Rattle.words.specs.Determined.{Determined}
 use Rattle.incoming.proofs.NtpLeapIndicator.code.Reads as code
 use Rattle.incoming.proofs.read_reply.Reads as read-reply
-use Rattle.incoming.proofs.ReplyRead.number.Reads as number
 use Rattle.incoming.proofs.DecodedReply.value.Reads as value
 
 pub code-determined : Determined code.Post
@@ -12,9 +11,6 @@ code-determined κs a y z e f p q = p ∙ sym q
 
 pub read-reply-determined : Determined read-reply.Post
 read-reply-determined κs a y z e f p q = p ∙ sym q
-
-pub number-determined : Determined number.Post
-number-determined κs a y z e f p q = p ∙ sym q
 
 pub value-determined : Determined value.Post
 value-determined κs a y z e f p q = p ∙ sym q

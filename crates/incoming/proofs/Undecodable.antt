@@ -1,9 +1,10 @@
 -- The byte form of a reply is refused exactly where its header, its authenticated end or, with NTS, its decrypted fields do not hold.
 -- Assumes nothing.
-use mathlib.Core.Path.{_≡_, refl}
+use mathlib.Core.Path.{_≡_, refl, sym, ap, _∙_}
 use mathlib.Core.Bool.{Bool, true, false, _&&_, cond}
 use mathlib.Core.List.{List}
 use mathlib.Core.Logic.{_↔_, _⊎_, inl, inr, ⊎-elim}
+use mathlib.Core.Option.{some}
 use Prim.Native.Nat.{ℕ}
 use native.Mathlib.Omega.{arith}
 use borrow.Author.Tests.{ne-eqb, eqb-false}
@@ -17,8 +18,9 @@ use Rattle.fields.specs.declared.Walked.the-variants as W
 use Rattle.fields.specs.Walk.{Walk, field, ends, broken, decryptedWalk, walkedOf, whole, isPlace}
 use Rattle.fields.proofs.Sound.{not-whole, place-iff}
 use Rattle.incoming.specs.declared.Reply.{Reply}
+use Rattle.incoming.specs.declared.ReplyRead.{ReplyRead}
 use Rattle.incoming.specs.declared.ReplyRead.the-variants.{Decoded, Undecodable}
-use Rattle.incoming.specs.Incoming.{endValid, decryptedValid, bytesRead, onHeader, readOf}
+use Rattle.incoming.specs.Incoming.{endValid, decryptedValid, bytesRead, onHeader, readOf, refusalOf}
 use Rattle.incoming.specs.Refused.{Refused}
 
 -- a test is not both true and false
@@ -35,6 +37,11 @@ then-refused : (a b : Bool) (r : Reply) → (a ≡ false) ⊎ (b ≡ false) → 
 then-refused true true r e = absurd (⊎-elim (not-both true refl) (not-both true refl) e)
 then-refused true false r e = refl
 then-refused false b r e = refl
+
+-- the number 1, and no other, is that of a reply that is not decodable
+refused-by : (r : ReplyRead) (n : ℕ) → refusalOf r ≡ some n → (n ≡ 1) × (r ≡ Undecodable)
+refused-by (Decoded v) n e = let z : _≡_ {A = ℕ} 0 1 = cc in absurd (omega arith)
+refused-by Undecodable n e = (cc, refl)
 
 is-broken : (w : Walk) → whole w ≡ false → walkedOf w ≡ W.Broken
 is-broken (field f w) e = is-broken w e
@@ -67,7 +74,7 @@ module _ (nts : Bool) (p : List ℕ) (end : ℕ) (decrypted : List ℕ) where
       no-place false q = refl
   which-fails v e n (inr (inr (inr f))) = inr (rw (f .0) (not-whole (decryptedWalk decrypted) (f .1)))
 
-  pub undecodable : (uid : List ℕ) (upgrademark : ℕ) → (readOf nts uid upgrademark p end decrypted ≡ Undecodable) ↔ Refused nts p end decrypted
+  undecodable : (uid : List ℕ) (upgrademark : ℕ) → (readOf nts uid upgrademark p end decrypted ≡ Undecodable) ↔ Refused nts p end decrypted
   unfolding readOf bytesRead fields
   undecodable uid upgrademark = (there (headerOf p) (view p) refl, back (headerOf p) (view p) refl)
     where
@@ -80,3 +87,10 @@ module _ (nts : Bool) (p : List ℕ) (end : ℕ) (decrypted : List ℕ) where
       back _ (short l) e q = refl
       back _ (other a b) e q = refl
       back _ (read v l b) e q = then-refused (endValid v p end) (decryptedValid nts decrypted) _ (which-fails v b (λ u. let z : _≡_ {A = ℕ} 0 1 = cc in omega arith) q)
+
+  -- the byte form is refused with document 01's number 1 exactly there, and with no other number
+  pub refused : (uid : List ℕ) (upgrademark n : ℕ) → (refusalOf (readOf nts uid upgrademark p end decrypted) ≡ some n) ↔ ((n ≡ 1) × Refused nts p end decrypted)
+  refused uid upgrademark n = (
+    λ e. (let b = refused-by (readOf nts uid upgrademark p end decrypted) n e in (b .0, undecodable uid upgrademark .0 (b .1))),
+    λ f. ap refusalOf (undecodable uid upgrademark .1 (f .1)) ∙ ap some (sym (f .0)),
+  )

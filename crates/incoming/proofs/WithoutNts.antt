@@ -10,7 +10,7 @@ use Rattle.header.specs.declared.HeaderVersion.the-variants.{V3, V4}
 use Rattle.header.specs.declared.HeaderRead.{HeaderRead}
 use Rattle.header.specs.declared.HeaderRead.the-variants.{Decoded, Undecodable}
 use Rattle.header.specs.Header.{headerOf}
-use Rattle.fields.specs.declared.matching.Uid.the-variants.{Absent}
+use Rattle.uid_groups.specs.declared.Uid.the-variants.{Absent}
 use Rattle.incoming.specs.Incoming.{groupOf, bytesRead, onHeader, readOf}
 
 pub no-group : (v : HeaderVersion) (p : List ℕ) (from to : ℕ) (uid : List ℕ) → groupOf false v p from to uid ≡ Absent

@@ -2,6 +2,7 @@
 -- Assumes nothing.
 use mathlib.Core.Bool.{Bool, true, false, not, _&&_, _||_, cond}
 use mathlib.Core.List.{List}
+use mathlib.Core.Option.{Option, none, some}
 use Prim.Native.Nat.{ℕ}
 use lib.Dec.{eqb}
 use lib.ListN.{length}
@@ -19,10 +20,10 @@ use Rattle.header.specs.declared.Mode.{Mode}
 use Rattle.header.specs.declared.Mode.the-variants as M
 use Rattle.header.specs.Header.{headerOf, versionCode}
 use Rattle.header.specs.Kiss.{kissesOf}
-use Rattle.fields.specs.declared.matching.Uid.{Uid}
-use Rattle.fields.specs.declared.matching.Uid.the-variants.{Absent}
 use Rattle.fields.specs.Walk.{isPlace, decryptedWalk, whole}
-use Rattle.fields.specs.Matching.{packetUid, decryptedUid}
+use Rattle.uid_groups.specs.declared.Uid.{Uid}
+use Rattle.uid_groups.specs.declared.Uid.the-variants.{Absent}
+use Rattle.uid_groups.specs.Matching.{packetUid, decryptedUid}
 use Rattle.incoming.specs.declared.NtpLeapIndicator.{NtpLeapIndicator}
 use Rattle.incoming.specs.declared.NtpLeapIndicator.the-variants as I
 use Rattle.incoming.specs.declared.Reply.{Reply}
@@ -112,10 +113,10 @@ onHeader f H.Undecodable = Undecodable
 unfoldable pub readOf : Bool → List ℕ → ℕ → List ℕ → ℕ → List ℕ → ReplyRead
 readOf nts uid upgrademark p end decrypted = onHeader (bytesRead nts uid upgrademark p end decrypted) (headerOf p)
 
--- document 01's number: 1 for packet bytes that are not decodable, 0 for a reply that is read, which is no refusal
-abbrev pub numberOf : ReplyRead → ℕ
-numberOf (Decoded r) = 0
-numberOf Undecodable = 1
+-- document 01's number: 1 for packet bytes that are not decodable; a reply that is read is refused by none here
+abbrev pub refusalOf : ReplyRead → Option ℕ
+refusalOf (Decoded r) = none
+refusalOf Undecodable = some 1
 
 abbrev pub isResponse : DecodedMode → Bool
 isResponse Request = false

@@ -1,6 +1,5 @@
 // What a reply says, as one value, and how both of its forms come down to it (document 01, parts 6 to 9 and 11).
 use fields::Walked;
-use fields::matching::Uid;
 use header::HEADER_BYTES;
 use header::Header;
 use header::HeaderRead;
@@ -12,8 +11,9 @@ use identifiers::ReferenceId;
 use time_types::NtpDuration;
 use time_types::NtpTimestamp;
 use time_types::PollInterval;
+use uid_groups::Uid;
 ghost use mathlib.Core.Path.{_≡_};
-ghost use Rattle.incoming.specs.Incoming.{leapCode, leapOf, isServer, isResponse, endValid, decryptedValid, groupOf, encryptedOf, valueOf, readOf, numberOf, decodedOf};
+ghost use Rattle.incoming.specs.Incoming.{leapCode, leapOf, isServer, isResponse, endValid, decryptedValid, groupOf, encryptedOf, valueOf, readOf, decodedOf};
 
 // The leap kinds of a measurement: a header's four, and Unknown, which only the decoded form can carry.
 pub enum NtpLeapIndicator {
@@ -151,7 +151,7 @@ fn group(nts: bool, version: HeaderVersion, p: &[u8], from: usize, to: usize, ui
         HeaderVersion::V3 => Uid::Absent,
         HeaderVersion::V4 => {
             if nts {
-                fields::matching::packet_uid(p, from, to, uid)
+                uid_groups::packet_uid(p, from, to, uid)
             } else {
                 Uid::Absent
             }
@@ -164,7 +164,7 @@ fn encrypted(nts: bool, decrypted: &[u8], uid: [u8; 32]) -> Uid
     ensures { λ r. ⌜ r ≡ encryptedOf nts (now (decrypted .entry)) uid ⌝ }
 {
     if nts {
-        fields::matching::decrypted_uid(decrypted, uid)
+        uid_groups::decrypted_uid(decrypted, uid)
     } else {
         Uid::Absent
     }
@@ -234,18 +234,6 @@ pub fn read_reply(
     let encrypted = encrypted(nts, decrypted, uid);
     let untrusted = group(nts, version, packet, end, packet.len(), uid);
     ReplyRead::Decoded(value(h, upgrademark, authenticated, encrypted, untrusted))
-}
-
-impl ReplyRead {
-    // Document 01's number of the answer.
-    pub fn number(self) -> u8
-        ensures { λ r. ⌜ r ≡ numberOf self ⌝ }
-    {
-        match self {
-            ReplyRead::Decoded(_) => 0,
-            ReplyRead::Undecodable => 1,
-        }
-    }
 }
 
 fn is_response(mode: DecodedMode) -> bool

@@ -7,20 +7,10 @@ use denote.Triple.Clauses.{AtExit}
 use borrow.Fn.Read.{all-models, r-last}
 use borrow.Fn.World.{ArgsD, ResD}
 use Rattle.words.specs.Determined.{Determined, DeterminedLent, PostOf}
-use Rattle.reply.proofs.reply_core.Reads as reply-core
-use Rattle.reply.proofs.reply_decoded_core.Reads as reply-decoded-core
 use Rattle.reply.proofs.reply as reply
 use Rattle.reply.proofs.reply_decoded as reply-decoded
 use Rattle.reply.proofs.reply_owned as reply-owned
 use Rattle.reply.proofs.reply_decoded_owned as reply-decoded-owned
-
-pub reply-core-determined : Determined reply-core.Post
-reply-core-determined κs a y z e f p q = p ∙ sym q
-
-pub reply-decoded-core-determined : Determined reply-decoded-core.Post
-reply-decoded-core-determined κs a y z e f p q = p ∙ sym q
-
--- ---- the thin calls and the functions over them, whose proofs are by hand
 
 abbrev pub reply-post : (κs : Lfts 4) → ArgsD reply.signature κs → ResD reply.signature κs → AtExit reply.ended κs → Type 0
 reply-post =

@@ -15,7 +15,7 @@ use Rattle.association.specs.declared.Association.{Association}
 use Rattle.association.specs.Record.{noPending, pendingValid, idleValid}
 use Rattle.association.specs.Whole.{Whole}
 use Rattle.incoming.specs.declared.ReplyRead.{ReplyRead}
-use Rattle.reply_rules.specs.After.{Arrival, stepped, afterRateKiss, afterDenial, afterMeasured}
+use Rattle.reply_clauses.specs.After.{Arrival, stepped, afterRateKiss, afterDenial, afterMeasured}
 use Rattle.reply.specs.declared.ReplyOut.{ReplyOut}
 use Rattle.reply.specs.Reply.{repliedOf}
 use Rattle.reply.specs.Numbers.{Given, not-whole, undecodable, broken-list, unexpected-version, no-live-request, no-match, rate, denied, denied-nts, ntsn, other-kiss, bad-stratum, not-server, measured}

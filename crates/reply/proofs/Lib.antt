@@ -2,4 +2,5 @@
 pub mod Numbers
 pub mod After
 pub mod Kept
+pub mod Thin
 pub mod Determined

@@ -17,8 +17,9 @@ use Rattle.incoming.specs.declared.ReplyRead.the-variants as R
 use Rattle.reply_rules.specs.declared.ReplyAnswer.the-variants.{Measured, NotServer}
 use Rattle.reply_rules.specs.declared.Verdict.{Verdict}
 use Rattle.reply_rules.specs.Answer.{numberOf}
-use Rattle.reply_rules.specs.After.{Arrival, live, answers, denies, stepped, afterMeasured, measurementOf}
-use Rattle.reply_rules.specs.Judge.{leaves, listBroken, matchedOf, judgeOf, onRead, verdictOf}
+use Rattle.reply_clauses.specs.After.{Arrival, live, answers, denies, stepped, afterMeasured, measurementOf}
+use Rattle.cookielist.specs.List.{listBroken}
+use Rattle.reply_rules.specs.Judge.{leaves, matchedOf, judgeOf, onRead, verdictOf}
 use Rattle.reply.specs.declared.ReplyOut.{ReplyOut}
 use Rattle.reply.specs.Reply.{judged, repliedOf}
 use Rattle.reply.specs.Numbers as N
@@ -35,7 +36,7 @@ module _ (a : Association) (read : ReplyRead) (t : Arrival) where
   abbrev verdict : Verdict
   verdict = verdictOf (a .settings) (a .state) (seenOf 8 (a .stash)) read t
 
-  matched-told : (r : Reply) → N.Matching a read t r → Told (matchedOf (a .settings) (stepped (a .state) (r .upgrade)) r t)
+  matched-told : (r : Reply) → N.Matching a read t r → Told (matchedOf (a .settings) (stepped (a .state) (r .upgrade)) r (t .t1) (t .t4) (t .time))
   unfolding matchedOf
   matched-told r m =
       either Told (r .kisses .rate) (rate m)
@@ -77,7 +78,7 @@ module _ (a : Association) (read : ReplyRead) (t : Arrival) where
   unfolding verdictOf wholeOf
   to-read d = when _ _ (d .whole) ∙ ap (onRead (a .settings) (a .state) t) (d .decoded)
 
-  to-matched : {r : Reply} → N.Matching a read t r → verdict ≡ matchedOf (a .settings) (stepped (a .state) (r .upgrade)) r t
+  to-matched : {r : Reply} → N.Matching a read t r → verdict ≡ matchedOf (a .settings) (stepped (a .state) (r .upgrade)) r (t .t1) (t .t4) (t .time)
   unfolding judgeOf
   to-matched m =
       let i = m .in-time in
@@ -87,7 +88,7 @@ module _ (a : Association) (read : ReplyRead) (t : Arrival) where
 
   to-ranked : {r : Reply} → N.Ranked a read t r →
       let next = stepped (a .state) (r .upgrade) in
-      verdict ≡ cond (not (r .server)) (leaves NotServer next) (record { answer = Measured (measurementOf r t); state = afterMeasured next r; stores = a .settings .nts })
+      verdict ≡ cond (not (r .server)) (leaves NotServer next) (record { answer = Measured (measurementOf r (t .t1) (t .t4) (t .time)); state = afterMeasured next r; stores = a .settings .nts })
   unfolding matchedOf
   to-ranked s =
       let k = s .unkissed in

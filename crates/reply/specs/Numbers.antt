@@ -14,8 +14,8 @@ use Rattle.incoming.specs.declared.ReplyRead.{ReplyRead}
 use Rattle.incoming.specs.declared.ReplyRead.the-variants as R
 use Rattle.reply_rules.specs.declared.ReplyAnswer.the-variants.{Measured, Undecodable, UnexpectedVersion, NoLiveRequest, NoMatch, Rate, Denied, DeniedNts, Ntsn, OtherKiss, BadStratum, NotServer, NotWhole, BrokenList}
 use Rattle.reply.specs.declared.ReplyOut.{ReplyOut}
-use Rattle.reply_rules.specs.After.{Arrival, live, answers, denies, stepped, afterRateKiss, afterDenial, afterMeasured, measurementOf}
-use Rattle.reply_rules.specs.Judge.{listBroken}
+use Rattle.reply_clauses.specs.After.{Arrival, live, answers, denies, stepped, afterRateKiss, afterDenial, afterMeasured, measurementOf}
+use Rattle.cookielist.specs.List.{listBroken}
 use Rattle.reply.specs.Reply.{out}
 
 module _ (a : Association) (read : ReplyRead) (t : Arrival) where
@@ -90,4 +90,4 @@ module _ (a : Association) (read : ReplyRead) (t : Arrival) where
     not-server : {r : Reply} → Ranked r → r .server ≡ false → Given 11 (out NotServer (withState a (stepped (a .state) (r .upgrade))))
     -- with NTS the cookies are stored in order
     measured : {r : Reply} → Ranked r → r .server ≡ true →
-        Given 0 (out (Measured (measurementOf r t)) (withStash (withState a (afterMeasured (stepped (a .state) (r .upgrade)) r)) (cond (a .settings .nts) (storeListOf 8 (a .stash) (t .list)) (a .stash))))
+        Given 0 (out (Measured (measurementOf r (t .t1) (t .t4) (t .time))) (withStash (withState a (afterMeasured (stepped (a .state) (r .upgrade)) r)) (cond (a .settings .nts) (storeListOf 8 (a .stash) (t .list)) (a .stash))))

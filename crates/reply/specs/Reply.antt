@@ -12,7 +12,7 @@ use Rattle.incoming.specs.declared.DecodedReply.{DecodedReply}
 use Rattle.incoming.specs.Incoming.{decodedOf}
 use Rattle.reply_rules.specs.declared.ReplyAnswer.{ReplyAnswer}
 use Rattle.reply_rules.specs.declared.Verdict.{Verdict}
-use Rattle.reply_rules.specs.After.{Arrival}
+use Rattle.reply_clauses.specs.After.{Arrival}
 use Rattle.reply_rules.specs.Judge.{verdictOf, readWith}
 use Rattle.reply.specs.declared.ReplyOut.{ReplyOut}
 

@@ -1,3 +1,4 @@
 -- Laws that belong to no one function.
 pub mod Unread
+pub mod Actions
 pub mod Determined

@@ -1,5 +1,6 @@
 -- Document 01's number for each answer to a reply, and the actions that follow from the number.
 -- Assumes nothing.
+use mathlib.Core.Path.{_≡_}
 use mathlib.Core.Bool.{cond}
 use mathlib.Core.List.{List, [], _∷_}
 use Prim.Native.Nat.{ℕ}
@@ -39,3 +40,20 @@ numberOf BrokenList = 33
 -- actions follow from the number: 0 from a reply is one system update with the measurement; 7 demobilizes; others none
 abbrev pub actionsOf : ℕ → List Action
 actionsOf n = cond (eqb n 0) (updateSystem ∷ []) (cond (eqb n 7) (demobilize ∷ []) [])
+
+-- number by number
+pub record ReplyActs (actions : ℕ → List Action) : Type 0 where
+  pub measured-0 : actions 0 ≡ updateSystem ∷ []
+  pub none-1 : actions 1 ≡ []
+  pub none-2 : actions 2 ≡ []
+  pub none-3 : actions 3 ≡ []
+  pub none-4 : actions 4 ≡ []
+  pub none-5 : actions 5 ≡ []
+  pub none-6 : actions 6 ≡ []
+  pub demobilize-7 : actions 7 ≡ demobilize ∷ []
+  pub none-8 : actions 8 ≡ []
+  pub none-9 : actions 9 ≡ []
+  pub none-10 : actions 10 ≡ []
+  pub none-11 : actions 11 ≡ []
+  pub none-32 : actions 32 ≡ []
+  pub none-33 : actions 33 ≡ []

@@ -1,12 +1,13 @@
 -- Document 01, part 11: the verdict on a reply, of the settings, of the state and of what is seen of the stash. In order 32, 1 (byte form), 33, 2, 3, 4, the upgrade step, then 5 to 11.
 -- Assumes nothing.
-use mathlib.Core.Bool.{Bool, true, false, not, _&&_, cond}
+use mathlib.Core.Bool.{Bool, true, false, not, cond}
 use mathlib.Core.List.{List}
 use Prim.Native.Nat.{ℕ}
 use lib.Dec.{ltb}
-use Rattle.cookielist.specs.List.{isWhole, cookiesIn}
+use Rattle.cookielist.specs.List.{listBroken}
 use Rattle.cookiestash.specs.declared.Seen.{Seen}
 use Rattle.version.specs.Upgrade.{expectsOf}
+use Rattle.time_types.specs.declared.NtpTimestamp.{NtpTimestamp}
 use Rattle.association.specs.declared.Settings.{Settings}
 use Rattle.association.specs.declared.State.{State}
 use Rattle.association.specs.Record.{wholeSeen}
@@ -17,19 +18,15 @@ use Rattle.incoming.specs.Incoming.{readOf}
 use Rattle.reply_rules.specs.declared.ReplyAnswer.{ReplyAnswer}
 use Rattle.reply_rules.specs.declared.ReplyAnswer.the-variants.{Measured, Undecodable, UnexpectedVersion, NoLiveRequest, NoMatch, Rate, Denied, DeniedNts, Ntsn, OtherKiss, BadStratum, NotServer, NotWhole, BrokenList}
 use Rattle.reply_rules.specs.declared.Verdict.{Verdict}
-use Rattle.reply_rules.specs.After.{Arrival, live, answers, denies, stepped, afterRateKiss, afterDenial, afterMeasured, measurementOf}
+use Rattle.reply_clauses.specs.After.{Arrival, live, answers, denies, stepped, afterRateKiss, afterDenial, afterMeasured, measurementOf}
 
 -- the answer and the next state, with no cookie stored
 abbrev pub leaves : ReplyAnswer → State → Verdict
 leaves r s = record { answer = r; state = s; stores = false }
 
--- a cookie list counts only with NTS
-abbrev pub listBroken : Bool → List ℕ → Bool
-listBroken nts list = nts && not (isWhole (cookiesIn list))
-
 -- a matching reply, after the upgrade step: 5 to 11 in order, else 0; measured, with NTS the cookies are stored
-unfoldable pub matchedOf : Settings → State → Reply → Arrival → Verdict
-matchedOf g s r t =
+unfoldable pub matchedOf : Settings → State → Reply → NtpTimestamp → NtpTimestamp → ℕ → Verdict
+matchedOf g s r t1 t4 time =
     cond (r .kisses .rate) (leaves Rate (afterRateKiss g s))
     (cond (denies r)
     (cond (g .nts) (leaves DeniedNts s) (leaves Denied (afterDenial s)))
@@ -37,7 +34,7 @@ matchedOf g s r t =
     (cond (r .kisses .any) (leaves OtherKiss s)
     (cond (ltb 16 (r .stratum)) (leaves BadStratum s)
     (cond (not (r .server)) (leaves NotServer s)
-    (record { answer = Measured (measurementOf r t); state = afterMeasured s r; stores = g .nts }))))))
+    (record { answer = Measured (measurementOf r t1 t4 time); state = afterMeasured s r; stores = g .nts }))))))
 
 -- a reply that was read: 33, 2, 3, 4, then the upgrade step and what follows it
 unfoldable pub judgeOf : Settings → State → Reply → Arrival → Verdict
@@ -46,7 +43,7 @@ judgeOf g s r t =
     (cond (not (expectsOf (s .version) (r .version))) (leaves UnexpectedVersion s)
     (cond (not (live (s .request) (t .time))) (leaves NoLiveRequest s)
     (cond (not (answers (g .nts) (s .request .id) r)) (leaves NoMatch s)
-    (matchedOf g (stepped s (r .upgrade)) r t))))
+    (matchedOf g (stepped s (r .upgrade)) r (t .t1) (t .t4) (t .time)))))
 
 abbrev pub onRead : Settings → State → Arrival → ReplyRead → Verdict
 onRead g s t (R.Decoded r) = judgeOf g s r t

@@ -1,4 +1,3 @@
 -- The definitions that the contracts of `reply_rules` cite.
 pub mod Answer
-pub mod After
 pub mod Judge

@@ -1,45 +1,22 @@
 // The rules of a reply (document 01, parts 8, 9 and 11), over the settings, the state and what is seen of the stash: one judge for both forms.
-use association::Effort;
 use association::Pending;
-use association::Polls;
 use association::Settings;
-use association::Source;
 use association::State;
 use cookiestash::Seen;
-use header::Kisses;
 use incoming::DecodedReply;
-use incoming::NtpLeapIndicator;
 use incoming::Reply;
 use incoming::ReplyRead;
-use time_types::Exchange;
-use time_types::NtpDuration;
+use reply_clauses::Measurement;
 use time_types::NtpTimestamp;
-use time_types::PollInterval;
 ghost use mathlib.Core.Path.{_≡_};
 ghost use mathlib.Core.Bool.{cond, _||_};
-ghost use mathlib.Core.List.{List};
-ghost use Prim.Native.Nat.{ℕ};
 ghost use lib.ListN.{replicate};
 ghost use Rattle.incoming.specs.declared.ReplyRead.the-variants.{Decoded};
 ghost use Rattle.incoming.specs.Incoming.{decodedOf};
 ghost use Rattle.reply_rules.specs.Answer.{numberOf};
-ghost use Rattle.reply_rules.specs.After.{arrival, live, answers, stepped, afterRateKiss, afterDenial, raised, afterMeasured, measurementOf};
-ghost use Rattle.reply_rules.specs.Judge.{listBroken, matchedOf, judgeOf, verdictOf, readWith};
-
-// What a measured reply says of the clocks.
-pub struct Measurement {
-    pub delay: NtpDuration,
-    pub offset: NtpDuration,
-    // Our wall clock half way between request and reply.
-    pub local: NtpTimestamp,
-    // Our uptime clock when the reply was handled.
-    pub mono: u64,
-    pub stratum: u8,
-    pub rootdelay: NtpDuration,
-    pub rootdisp: NtpDuration,
-    pub leap: NtpLeapIndicator,
-    pub precision: i8,
-}
+ghost use Rattle.reply_clauses.specs.After.{arrival};
+ghost use Rattle.cookielist.specs.List.{listBroken};
+ghost use Rattle.reply_rules.specs.Judge.{matchedOf, judgeOf, verdictOf, readWith};
 
 pub enum ReplyAnswer {
     Measured(Measurement),
@@ -70,34 +47,6 @@ pub struct Verdict {
 // The largest stratum of a server.
 const MAX_STRATUM: u8 = 16;
 
-// Whether a request is pending and its deadline is not passed.
-fn live(request: Pending, time: u64) -> bool
-    ensures { λ r. ⌜ r ≡ live request time ⌝ }
-{
-    if request.present {
-        time <= request.deadline
-    } else {
-        false
-    }
-}
-
-// Whether a reply answers the request of an identifier; with NTS also by its unique identifier.
-fn answers(nts: bool, id: u64, reply: Reply) -> bool
-    ensures { λ r. ⌜ r ≡ answers nts id reply ⌝ }
-{
-    if reply.origin != id {
-        return false;
-    }
-    if !nts {
-        return true;
-    }
-    let authenticated = reply.authenticated;
-    let encrypted = reply.encrypted;
-    let untrusted = reply.untrusted;
-    let kisses = reply.kisses;
-    fields::matching::uid_matches(authenticated, encrypted, untrusted, kisses.ntsn)
-}
-
 // A cookie list counts only with NTS.
 fn list_broken(nts: bool, list: &[u8]) -> bool
     ensures { λ r. ⌜ r ≡ listBroken nts (now (list .entry)) ⌝ }
@@ -106,120 +55,6 @@ fn list_broken(nts: bool, list: &[u8]) -> bool
         !cookielist::list_whole(list)
     } else {
         false
-    }
-}
-
-fn denies(kisses: Kisses) -> bool
-    ensures { λ r. ⌜ r ≡ (kisses .deny || kisses .rstr) ⌝ }
-{
-    if kisses.deny { true } else { kisses.rstr }
-}
-
-// The upgrade step, on a matching reply.
-fn stepped(s: State, upgrade: bool) -> State
-    ensures { λ r. ⌜ r ≡ stepped s upgrade ⌝ }
-{
-    let old = s.version;
-    let version = old.upgrade_step(upgrade);
-    let mut next = s;
-    next.version = version;
-    next
-}
-
-// A RATE kiss raises the remote minimum.
-fn after_rate_kiss(settings: Settings, s: State) -> State
-    ensures { λ r. ⌜ r ≡ afterRateKiss settings s ⌝ }
-{
-    let limit = settings.max;
-    let old = s.polls;
-    let last = old.last;
-    let least = old.remote;
-    let remote = least.after_rate(limit, last);
-    let polls = Polls { last, remote };
-    let mut next = s;
-    next.polls = polls;
-    next
-}
-
-// A denial is noted.
-fn after_denial(s: State) -> State
-    ensures { λ r. ⌜ r ≡ afterDenial s ⌝ }
-{
-    let mut source = s.source;
-    source.denial = true;
-    let mut next = s;
-    next.source = source;
-    next
-}
-
-// V5 raises the remote minimum to a larger poll.
-fn raised(remote: PollInterval, reply: Reply) -> PollInterval
-    ensures { λ r. ⌜ r ≡ raised remote reply ⌝ }
-{
-    let poll = reply.poll;
-    if reply.version == 5 {
-        remote.max(poll)
-    } else {
-        remote
-    }
-}
-
-// What a measured reply leaves.
-fn after_measured(s: State, reply: Reply) -> State
-    ensures { λ r. ⌜ r ≡ afterMeasured s reply ⌝ }
-{
-    let tried = s.effort;
-    let reached = tried.reach;
-    let reach = reached.received_packet();
-    let old = s.polls;
-    let last = old.last;
-    let least = old.remote;
-    let remote = raised(least, reply);
-    let refid = reply.refid;
-    let effort = Effort {
-        reach,
-        tries: tried.tries,
-    };
-    let polls = Polls { last, remote };
-    let source = Source {
-        stratum: reply.stratum,
-        refid,
-        denial: false,
-    };
-    let request = Pending::none();
-    let version = s.version;
-    State {
-        effort,
-        version,
-        polls,
-        source,
-        request,
-    }
-}
-
-// The measurement of a reply to a request that left at t1, and which came at t4.
-fn measured(reply: Reply, t1: NtpTimestamp, t4: NtpTimestamp, time: u64) -> Measurement
-    ensures { λ r. ⌜ ((list : List ℕ) → r ≡ measurementOf reply (arrival list t1 t4 time)) ⌝ }
-{
-    let t2 = reply.receive;
-    let t3 = reply.transmit;
-    let exchange = Exchange { t1, t2, t3, t4 };
-    let delay = exchange.delay();
-    let offset = exchange.offset();
-    let local = exchange.local_time();
-    let rootdelay = reply.rootdelay;
-    let rootdisp = reply.rootdisp;
-    let leap = reply.leap;
-    Measurement {
-        delay,
-        offset,
-        local,
-        mono: time,
-        stratum: reply.stratum,
-        rootdelay,
-        rootdisp,
-        leap,
-        precision: reply.precision,
     }
 }
 
@@ -232,18 +67,18 @@ fn matched(
     t4: NtpTimestamp,
     time: u64,
 ) -> Verdict
-    ensures { λ r. ⌜ ((list : List ℕ) → r ≡ matchedOf settings s reply (arrival list t1 t4 time)) ⌝ }
+    ensures { λ r. ⌜ r ≡ matchedOf settings s reply t1 t4 time ⌝ }
 {
     let kisses = reply.kisses;
     if kisses.rate {
-        let slower = after_rate_kiss(settings, s);
+        let slower = reply_clauses::after_rate_kiss(settings, s);
         return Verdict {
             answer: ReplyAnswer::Rate,
             state: slower,
             stores: false,
         };
     }
-    if denies(kisses) {
+    if reply_clauses::denies(kisses) {
         if settings.nts {
             return Verdict {
                 answer: ReplyAnswer::DeniedNts,
@@ -251,7 +86,7 @@ fn matched(
                 stores: false,
             };
         }
-        let noted = after_denial(s);
+        let noted = reply_clauses::after_denial(s);
         return Verdict {
             answer: ReplyAnswer::Denied,
             state: noted,
@@ -286,8 +121,8 @@ fn matched(
             stores: false,
         };
     }
-    let measurement = measured(reply, t1, t4, time);
-    let next = after_measured(s, reply);
+    let measurement = reply_clauses::measured(reply, t1, t4, time);
+    let next = reply_clauses::after_measured(s, reply);
     Verdict {
         answer: ReplyAnswer::Measured(measurement),
         state: next,
@@ -323,21 +158,21 @@ fn judge(
         };
     }
     let request = s.request;
-    if !live(request, time) {
+    if !reply_clauses::live(request, time) {
         return Verdict {
             answer: ReplyAnswer::NoLiveRequest,
             state: s,
             stores: false,
         };
     }
-    if !answers(settings.nts, request.id, reply) {
+    if !reply_clauses::answers(settings.nts, request.id, reply) {
         return Verdict {
             answer: ReplyAnswer::NoMatch,
             state: s,
             stores: false,
         };
     }
-    let next = stepped(s, reply.upgrade);
+    let next = reply_clauses::stepped(s, reply.upgrade);
     matched(settings, next, reply, t1, t4, time)
 }
 

@@ -2,6 +2,5 @@
 pub mod Placing
 pub mod Sizes
 pub mod Fitting
-pub mod Reading
 pub mod Longest
 pub mod Determined

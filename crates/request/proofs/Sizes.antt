@@ -12,8 +12,8 @@ use borrow.Author.Tests.{leb-true}
 use Rattle.words.proofs.Tests.{both}
 use Rattle.header.specs.declared.Header.{Header}
 use Rattle.header.specs.Header.{bytesOf, placed}
-use Rattle.fields.specs.Matching.{uidKind}
-use Rattle.fields.specs.Collector.{cookieKind}
+use Rattle.uid_groups.specs.Matching.{uidKind}
+use Rattle.collector.specs.Collector.{cookieKind}
 use Rattle.request.specs.Extension.{extension, filled, fieldLength, extensionBytes, allBytes}
 use Rattle.request.specs.Request.{askValid, carrying, placeholder, fieldsFor, withFields}
 use Rattle.request.proofs.Placing.{placed-behind, placed-front, filled-full, length-extension, length-placeholders}

@@ -2,4 +2,3 @@
 pub mod Extension
 pub mod Request
 pub mod Answer
-pub mod Reading

@@ -14,8 +14,8 @@ use Rattle.header.specs.declared.HeaderVersion.the-variants as version
 use Rattle.header.specs.declared.Leap.the-variants as leap
 use Rattle.header.specs.declared.Mode.the-variants as mode
 use Rattle.header.specs.Header.{bytesOf}
-use Rattle.fields.specs.Matching.{uidKind}
-use Rattle.fields.specs.Collector.{cookieKind}
+use Rattle.uid_groups.specs.Matching.{uidKind}
+use Rattle.collector.specs.Collector.{cookieKind}
 use Rattle.version.specs.declared.SendKind.{SendKind}
 use Rattle.version.specs.declared.SendKind.the-variants.{V4, V4Upgrade, V5, NtsV4, NtsV5}
 use Rattle.request.specs.Extension.{Extension, extension, fieldLength, allBytes}

@@ -1,7 +1,6 @@
 // The request writer (document 02, No. 1): the packet of a poll, up to the place where the caller's authenticator goes.
+use collector::COOKIE_KIND;
 use cookielist::MAX_COOKIE;
-use fields::COOKIE_KIND;
-use fields::UID_KIND;
 use header::HEADER_BYTES;
 use header::Header;
 use header::HeaderVersion;
@@ -10,6 +9,7 @@ use header::Mode;
 use identifiers::ReferenceId;
 use time_types::NtpTimestamp;
 use time_types::PollInterval;
+use uid_groups::UID_KIND;
 use version::SendKind;
 ghost use mathlib.Core.Path.{_≡_};
 ghost use mathlib.Core.Bool.{true};

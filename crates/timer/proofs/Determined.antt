@@ -11,14 +11,8 @@ use borrow.Fn.World.{ArgsD, ResD}
 use Rattle.words.specs.Determined.{DeterminedLent, PostOf}
 use Rattle.association.specs.declared.Association.{Association}
 use Rattle.timer.specs.Timer.{Timed}
-use Rattle.timer.proofs.timer_core.Reads as timer-core
 use Rattle.timer.proofs.timer as timer
 use Rattle.timer.proofs.timer_owned as timer-owned
-
-pub timer-core-determined : DeterminedLent timer-core.Post (λ κs e. now (e .1 .1 .1 .1 .1 .0))
-timer-core-determined κs a y z e f p q = let e = p ∙ sym q in (ap (λ (t : Timed). t .gives) e, ap (λ (t : Timed). t .left) e)
-
--- ---- the thin call and the function over it, whose proofs are by hand
 
 abbrev pub timer-post : (κs : Lfts 2) → ArgsD timer.signature κs → ResD timer.signature κs → AtExit timer.ended κs → Type 0
 timer-post =

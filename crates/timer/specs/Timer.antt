@@ -1,11 +1,12 @@
 -- Document 01, part 10: the timer's answer and next record, and what it leaves in the lent buffer.
 -- Assumes nothing.
 use mathlib.Core.Bool.{cond}
-use mathlib.Core.List.{List, _++_}
+use mathlib.Core.List.{List}
 use Prim.Native.Nat.{ℕ}
-use lib.ListN.{length, take, drop}
+use lib.ListN.{length}
 use Rattle.cookiestash.specs.Stash.{getOf}
 use Rattle.cookiestash.specs.Whole.{seenOf}
+use Rattle.lent_stash.specs.Lent.{wrote}
 use Rattle.association.specs.declared.Association.{Association}
 use Rattle.timer_rules.specs.declared.Decision.{Decision}
 use Rattle.timer_rules.specs.declared.TimerAnswer.{TimerAnswer}
@@ -33,10 +34,6 @@ handed NoCookie = 0
 handed CookieTooLarge = 0
 handed ShortBuffer = 0
 handed NotWhole = 0
-
--- the cookie's bytes from the start, the rest untouched
-abbrev pub wrote : List ℕ → ℕ → List ℕ → List ℕ
-wrote cookie len buffer = take len cookie ++ drop len buffer
 
 -- only 20 with NTS writes to the buffer
 unfoldable pub bufferOf : Association → TimerInput → List ℕ → List ℕ

@@ -1,5 +1,6 @@
 -- Document 01's number for each answer of the timer, and the actions that follow from it.
 -- Assumes nothing.
+use mathlib.Core.Path.{_≡_}
 use mathlib.Core.Bool.{_||_, cond}
 use mathlib.Core.List.{List, [], _∷_}
 use Prim.Native.Nat.{ℕ}
@@ -25,3 +26,13 @@ actionsOf n =
     (cond (eqb n 22) (demobilize ∷ [])
     (cond (eqb n 21 || eqb n 23 || eqb n 24) (reset ∷ [])
     []))
+
+-- number by number
+pub record TimerActs (actions : ℕ → List Action) : Type 0 where
+  pub sent-20 : actions 20 ≡ send ∷ updateSystem ∷ setTimer ∷ []
+  pub reset-21 : actions 21 ≡ reset ∷ []
+  pub demobilize-22 : actions 22 ≡ demobilize ∷ []
+  pub reset-23 : actions 23 ≡ reset ∷ []
+  pub reset-24 : actions 24 ≡ reset ∷ []
+  pub none-31 : actions 31 ≡ []
+  pub none-32 : actions 32 ≡ []

@@ -1,20 +1,34 @@
--- Each public function's contract determines its result: any two that it allows are equal, and so are the contents of a slice that is handed back.
+-- Each public function's contract determines its result: any two that it allows are equal, and so are the place in memory and the contents of a slice that is handed back.
 -- Assumes nothing.
-use mathlib.Core.Path.{refl, sym, _∙_}
+use mathlib.Core.Path.{_≡_, refl, sym, ap₂, _∙_}
+use mathlib.Core.List.{List}
+use Prim.Native.Nat.{ℕ}
 use contract.Lifetimes.{Lfts}
-use denote.Ref.{now}
+use denote.Ref.{RefT, ptr, now}
 use denote.Triple.Clauses.{AtExit}
 use borrow.Fn.Read.{all-models, r-last}
 use borrow.Fn.World.{ArgsD, ResD}
 use Rattle.words.specs.Determined.{Determined, DeterminedContents, PostOf}
+use Rattle.walker.specs.Walker.{IsBody}
 use Rattle.walker.proofs.body_at.Reads as body-at
 use Rattle.walker.proofs.first.Reads as first
 use Rattle.walker.proofs.Walker.new as new
 use Rattle.walker.proofs.Walker.step as step
 use Rattle.walker.proofs.Walker.body as body
 
-pub body-at-determined : DeterminedContents body-at.Post (λ κs y. now y)
-body-at-determined κs a y z e f p q = p ∙ sym q
+-- what is told of a slice: where it lies, a block and an offset, and its bytes
+abbrev Told : Type 0
+Told = (ℕ × ℕ) × List ℕ
+
+abbrev told : RefT (List ℕ) → Told
+told y = (ptr y, now y)
+
+same-told : (x : RefT (List ℕ)) (start len : ℕ) (y z : RefT (List ℕ)) → IsBody x start len y → IsBody x start len z → told y ≡ told z
+same-told x start len y z p q =
+    ap₂ (λ a b. (a, b)) (ap₂ (λ a b. (a, b)) (p .block ∙ sym (q .block)) (p .offset ∙ sym (q .offset))) (p .bytes ∙ sym (q .bytes))
+
+pub body-at-determined : DeterminedContents body-at.Post (λ κs y. told y)
+body-at-determined κs a y z e f p q = same-told _ _ _ y z p q
 
 pub first-determined : Determined first.Post
 first-determined κs a y z e f p q = p ∙ sym q
@@ -42,5 +56,5 @@ new-determined κs a y z e f p q = p ∙ sym q
 pub step-determined : Determined step-post
 step-determined κs a y z e f p q = p ∙ sym q
 
-pub body-determined : DeterminedContents body-post (λ κs y. now y)
-body-determined κs a y z e f p q = p ∙ sym q
+pub body-determined : DeterminedContents body-post (λ κs y. told y)
+body-determined κs a y z e f p q = same-told _ _ _ y z p q

@@ -3,11 +3,11 @@ use fields::Step;
 use header::HEADER_BYTES;
 ghost use mathlib.Core.Path.{_≡_};
 ghost use Rattle.fields.specs.Field.{packetStep};
-ghost use Rattle.walker.specs.Walker.{walkerAt, bodyOf};
+ghost use Rattle.walker.specs.Walker.{walkerAt, IsBody};
 
 // The `len` bytes from `start` on, as that part of the packet itself, or none where they run past the end.
 pub fn body_at(p: &[u8], start: usize, len: usize) -> &[u8]
-    ensures { λ r. ⌜ now r ≡ bodyOf (now (p .entry)) start len ⌝ }
+    ensures { λ r. ⌜ IsBody (p .entry) start len r ⌝ }
 {
     if start <= p.len() {
         if len <= p.len() - start {
@@ -41,7 +41,7 @@ impl<'a> Walker<'a> {
 
     // The body of a field, by the start and the length that its step names.
     pub fn body(self, start: usize, len: usize) -> &'a [u8]
-        ensures { λ r. ⌜ now r ≡ bodyOf (now (self .entry .packet)) start len ⌝ }
+        ensures { λ r. ⌜ IsBody (self .entry .packet) start len r ⌝ }
     {
         body_at(self.packet, start, len)
     }

@@ -3,8 +3,7 @@ use crate::build;
 use crate::out;
 use crate::pieces;
 use crate::pieces::Piece;
-use fields::collector;
-use fields::collector::Collected;
+use collector::Collected;
 
 enum Fields {
     Nothing,

@@ -9,11 +9,19 @@ use header::HeaderVersion;
 use header::Leap;
 use header::Mode;
 
+// 1 is the number of bytes that are not decodable; 0 stands here for a header that is read.
+fn read_number(read: HeaderRead) -> u8 {
+    match read {
+        HeaderRead::Decoded(_) => 0,
+        HeaderRead::Undecodable => 1,
+    }
+}
+
 fn length_case(bytes: &[u8], count: usize) {
     out::say_size(b"header of ", count);
     out::say_byte(
         b" bytes: ",
-        header::read_header(build::first(bytes, count)).number(),
+        read_number(header::read_header(build::first(bytes, count))),
     );
     out::line_end();
 }
@@ -21,7 +29,10 @@ fn length_case(bytes: &[u8], count: usize) {
 pub fn version_case(bytes: &mut [u8], version: u8) {
     build::server_header(bytes, version);
     out::say_byte(b"version ", version);
-    out::say_byte(b": ", header::read_header(build::first(bytes, 48)).number());
+    out::say_byte(
+        b": ",
+        read_number(header::read_header(build::first(bytes, 48))),
+    );
     out::line_end();
 }
 

@@ -9,6 +9,7 @@ mod request_cases;
 mod sweep;
 mod uid_cases;
 mod walk_cases;
+mod walker_cases;
 
 use crate::sweep::Sweep;
 
@@ -17,6 +18,7 @@ fn main() {
     header_cases::run(&mut bytes);
     sweep::run(Sweep::Kisses, &mut bytes, 0, 8);
     walk_cases::run(&mut bytes);
+    walker_cases::run(&mut bytes);
     uid_cases::run(&mut bytes);
     uid_cases::matches();
     let mut room = [0u8; 256];

@@ -13,7 +13,7 @@ fn number(n: u64) {
     io::print_decimal(STDOUT_FILENO, n);
 }
 
-pub fn size(n: usize) {
+fn size(n: usize) {
     number(n as u64);
 }
 

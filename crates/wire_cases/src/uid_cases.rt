@@ -3,8 +3,7 @@ use crate::build;
 use crate::out;
 use crate::pieces;
 use crate::pieces::Piece;
-use fields::matching;
-use fields::matching::Uid;
+use uid_groups::Uid;
 
 // a0 to bf.
 fn uid() -> [u8; 32] {
@@ -70,15 +69,15 @@ fn end_at(end: End, middle: usize, last: usize) -> usize {
 // What the groups before and after an authenticated end say.
 fn show_packet(bytes: &[u8], end: usize) {
     out::text(b": authenticated ");
-    show(matching::packet_uid(bytes, 48, end, uid()));
+    show(uid_groups::packet_uid(bytes, 48, end, uid()));
     out::text(b" untrusted ");
-    show(matching::packet_uid(bytes, end, bytes.len(), uid()));
+    show(uid_groups::packet_uid(bytes, end, bytes.len(), uid()));
     out::line_end();
 }
 
 fn show_plain(bytes: &[u8]) {
     out::text(b": encrypted ");
-    show(matching::decrypted_uid(bytes, uid()));
+    show(uid_groups::decrypted_uid(bytes, uid()));
     out::line_end();
 }
 
@@ -184,7 +183,7 @@ fn match_case(authenticated: Uid, encrypted: Uid, untrusted: Uid, ntsn: bool) {
     out::text(b" ntsn ");
     out::yes_or_no(ntsn);
     out::text(b": ");
-    out::yes_or_no(matching::uid_matches(authenticated, encrypted, untrusted, ntsn));
+    out::yes_or_no(uid_groups::uid_matches(authenticated, encrypted, untrusted, ntsn));
     out::line_end();
 }
 

@@ -44,7 +44,7 @@ use types.Part.{agg}
 use types.Run.{look, init, forget, stop, from, load, addr, of-opd, and-then, no-more, assigns, land, returns, enter, alloc1, alloc0, params1, pass1, pass0, free1, free0}
 use types.SemTy.{Body}
 use types.Tokens.{lft-new, lft-end}
-use Rattle.reply_rules.specs.After.{arrival}
+use Rattle.reply_clauses.specs.After.{arrival}
 use Rattle.reply.specs.Reply.{replyOf}
 use Rattle.association.specs.declared.Association.{Association}
 use Rattle.reply.specs.declared.ReplyOut.{ReplyOut}
@@ -174,10 +174,10 @@ Core 𝓤 H A at-mem run = tripleOf 𝓤 H A core.signature (core.spec 𝓤 H A 
 
 module _ {M : Type 1} (𝓤 : URA M) (H : Heap 𝓤) (A : Atoms 𝓤) (W : Given 𝓤 H A) (at-mem : Memory → SProp 𝓤) (run : Routine → Fun 𝓤) (κ1 κ2 κ3 : Lft) (q1 q2 q3 : Share) (h : Association) (packet : RefT (List ℕ)) (end : ℕ) (decrypted : RefT (List ℕ)) (list : RefT (List ℕ)) (t1 : NtpTimestamp) (t4 : NtpTimestamp) (time : ℕ)
     (h-is : Is Rec.the-row h (rec h ∷ [])) (packet-is : Is (ShrSlice (named 0) κ1 u8) packet (sliceVal (packet .ptr) (length (packet .now)) ∷ [])) (end-is : Is (usize) end (vint w64 end ∷ [])) (decrypted-is : Is (ShrSlice (named 1) κ2 u8) decrypted (sliceVal (decrypted .ptr) (length (decrypted .now)) ∷ [])) (list-is : Is (ShrSlice (named 2) κ3 u8) list (sliceVal (list .ptr) (length (list .now)) ∷ [])) (t1-is : Is (NtpTimestamp·.the-row) t1 (LL.val NtpTimestamp·.the-type NtpTimestamp·′.the-laws t1 ∷ [])) (t4-is : Is (NtpTimestamp·.the-row) t4 (LL.val NtpTimestamp·.the-type NtpTimestamp·′.the-laws t4 ∷ [])) (time-is : Is (u64) time (vint w64 time ∷ [])) where
-  abbrev z : RefT (List ℕ) × (ℕ × (RefT (List ℕ) × (RefT (List ℕ) × (NtpTimestamp × (NtpTimestamp × (ℕ × (Unit {0})))))))
+  abbrev z : RefT (List ℕ) × (ℕ × (RefT (List ℕ) × (RefT (List ℕ) × (NtpTimestamp × (NtpTimestamp × (ℕ × Unit {0}))))))
   z = (packet, (end, (decrypted, (list, (t1, (t4, (time, tt)))))))
 
-  abbrev zv : List Val × (List Val × (List Val × (List Val × (List Val × (List Val × (List Val × (Unit {0})))))))
+  abbrev zv : List Val × (List Val × (List Val × (List Val × (List Val × (List Val × (List Val × Unit {0}))))))
   zv = (sliceVal (packet .ptr) (length (packet .now)) ∷ [], (vint w64 end ∷ [], (sliceVal (decrypted .ptr) (length (decrypted .now)) ∷ [], (sliceVal (list .ptr) (length (list .now)) ∷ [], (LL.val NtpTimestamp·.the-type NtpTimestamp·′.the-laws t1 ∷ [], (LL.val NtpTimestamp·.the-type NtpTimestamp·′.the-laws t4 ∷ [], (vint w64 time ∷ [], tt)))))))
 
   abbrev Post : Val → SProp 𝓤
@@ -213,7 +213,7 @@ module _ {M : Type 1} (𝓤 : URA M) (H : Heap 𝓤) (A : Atoms 𝓤) (W : Given
 
   said-of : (α l : ℕ) (δ : GName) (r : ReplyAnswer) → ent 𝓤 (Ensured α l δ r) (mean 𝓤 H A (some (λ (w : Association). given ((r ≡ replyOf h (packet .now) end (decrypted .now) (arrival (list .now) t1 t4 time) .answer) × (w ≡ replyOf h (packet .now) end (decrypted .now) (arrival (list .now) t1 t4 time) .association)) (‵ (fres δ (Rec.the-row .coded .code w))))))
   said-of α l δ r =
-      qed W (raw (Ensured α l δ r) ∷ []) ∵ use1 W (some (λ (w : Association × (Unit {0} × (Unit {0} × (Unit {0} × (Unit {0} × (Unit {0} × (Unit {0} × (Unit {0} × (Unit {0}))))))))). ‵ (lasts core.ended (α ∷ [], (κ1, (κ2, (κ3, tt)))) (lent l δ, z) w) ⊛ raw (fact 𝓤 ((r ≡ replyOf h (packet .now) end (decrypted .now) (arrival (list .now) t1 t4 time) .answer) × ((w .0) ≡ replyOf h (packet .now) end (decrypted .now) (arrival (list .now) t1 t4 time) .association))))) (id⊢ 𝓤 _) $ pick ! (λ w. split ! $ move ! (1 ∷ []) $ heard ! ((r ≡ replyOf h (packet .now) end (decrypted .now) (arrival (list .now) t1 t4 time) .answer) × ((w .0) ≡ replyOf h (packet .now) end (decrypted .now) (arrival (list .now) t1 t4 time) .association)) (λ e. fsplit ! $ move ! (1 ∷ []) $ drop ! $
+      qed W (raw (Ensured α l δ r) ∷ []) ∵ use1 W (some (λ (w : Association × (Unit {0} × (Unit {0} × (Unit {0} × (Unit {0} × (Unit {0} × (Unit {0} × (Unit {0} × Unit {0})))))))). ‵ (lasts core.ended (α ∷ [], (κ1, (κ2, (κ3, tt)))) (lent l δ, z) w) ⊛ raw (fact 𝓤 ((r ≡ replyOf h (packet .now) end (decrypted .now) (arrival (list .now) t1 t4 time) .answer) × ((w .0) ≡ replyOf h (packet .now) end (decrypted .now) (arrival (list .now) t1 t4 time) .association))))) (id⊢ 𝓤 _) $ pick ! (λ w. split ! $ move ! (1 ∷ []) $ heard ! ((r ≡ replyOf h (packet .now) end (decrypted .now) (arrival (list .now) t1 t4 time) .answer) × ((w .0) ≡ replyOf h (packet .now) end (decrypted .now) (arrival (list .now) t1 t4 time) .association)) (λ e. fsplit ! $ move ! (1 ∷ []) $ drop ! $
       show ! (λ (w : Association). guard 𝓤 ((r ≡ replyOf h (packet .now) end (decrypted .now) (arrival (list .now) t1 t4 time) .answer) × (w ≡ replyOf h (packet .now) end (decrypted .now) (arrival (list .now) t1 t4 time) .association)) (mean 𝓤 H A (‵ (fres δ (Rec.the-row .coded .code w))))) (w .0) $ check ! e $ done !))
 
   module _ (C : Calls 𝓤 H) (Λ : Loops 𝓤 H) (fm : FmC 𝓤 H (W .laws) C) (known : Triple 𝓤 (C #reply·reply) (Core 𝓤 H A at-mem run)) where

@@ -53,12 +53,11 @@ matched-requires c κs = search needs
 returns-5 : tie.Need-returns-5
 unfolding judgeOf
 returns-5 c =
-    let a = c .before .before .before .before .before .before .before .before .before .before .before .before .before .args in
     let m = c .before .before in
     let q = m .before .before in
     let v = q .before .before .before in
     let l = v .before .before .before in
-    rw (sym (l .before .list-broken .ensures) ∙ l .if1 .left, sym (v .before .expects .ensures) ∙ not-false _ (v .if2 .left), sym (q .before .live .ensures) ∙ not-false _ (q .if3 .left), sym (m .before .answers .ensures) ∙ not-false _ (m .if4 .left), ← c .before .stepped .ensures) (c .matched .ensures (a .list .now))
+    rw (sym (l .before .list-broken .ensures) ∙ l .if1 .left, sym (v .before .expects .ensures) ∙ not-false _ (v .if2 .left), sym (q .before .live .ensures) ∙ not-false _ (q .if3 .left), sym (m .before .answers .ensures) ∙ not-false _ (m .if4 .left), ← c .before .stepped .ensures) (c .matched .ensures)
 
 pub judge-spec : {M : Type 1} → statement M
 judge-spec = tie.close (tie.spec list-broken-requires returns expects-requires returns-2 live-requires returns-3 answers-requires returns-4 stepped-requires matched-requires returns-5)

@@ -177,10 +177,10 @@ Core 𝓤 H A at-mem run = tripleOf 𝓤 H A core.signature (core.spec 𝓤 H A 
 
 module _ {M : Type 1} (𝓤 : URA M) (H : Heap 𝓤) (A : Atoms 𝓤) (W : Given 𝓤 H A) (at-mem : Memory → SProp 𝓤) (run : Routine → Fun 𝓤) (κ1 : Lft) (q1 : Share) (h : Association) (time : ℕ) (desired : PollInterval) (id : ℕ) (uid : List ℕ) (buffer : RefT (List ℕ))
     (h-is : Is Rec.the-row h (rec h ∷ [])) (time-is : Is (u64) time (vint w64 time ∷ [])) (desired-is : Is (PollInterval·.the-row) desired (LL.val PollInterval·.the-type PollInterval·′.the-laws desired ∷ [])) (id-is : Is (u64) id (vint w64 id ∷ [])) (uid-is : Is (Array u8 32) uid (only (array-vals (uint-vals w8) uid) ∷ [])) (buffer-is : Is (MutSlice (named 0) κ1 u8) buffer (sliceVal (buffer .ptr) (length (buffer .now)) ∷ [])) where
-  abbrev z : ℕ × (PollInterval × (ℕ × (List ℕ × (RefT (List ℕ) × (Unit {0})))))
+  abbrev z : ℕ × (PollInterval × (ℕ × (List ℕ × (RefT (List ℕ) × Unit {0}))))
   z = (time, (desired, (id, (uid, (buffer, tt)))))
 
-  abbrev zv : List Val × (List Val × (List Val × (List Val × (List Val × (Unit {0})))))
+  abbrev zv : List Val × (List Val × (List Val × (List Val × (List Val × Unit {0}))))
   zv = (vint w64 time ∷ [], (LL.val PollInterval·.the-type PollInterval·′.the-laws desired ∷ [], (vint w64 id ∷ [], (only (array-vals (uint-vals w8) uid) ∷ [], (sliceVal (buffer .ptr) (length (buffer .now)) ∷ [], tt)))))
 
   abbrev Post : Val → SProp 𝓤
@@ -219,7 +219,7 @@ module _ {M : Type 1} (𝓤 : URA M) (H : Heap 𝓤) (A : Atoms 𝓤) (W : Given
 
   said-of : (α l : ℕ) (δ : GName) (r : TimerAnswer) → ent 𝓤 (Ensured α l δ r) (mean 𝓤 H A (some (λ (w : Association). some (λ (last : List ℕ). given ((timed (record { answer = r; association = w }) last ≡ timedOf h (timerInput time desired id uid) (buffer .now)) × (length last ≡ length (buffer .now))) (‵ (fres δ (Rec.the-row .coded .code w)) ⊛ raw (Last last))))))
   said-of α l δ r =
-      qed W (raw (Ensured α l δ r) ∷ []) ∵ use1 W (some (λ (w : Association × (Unit {0} × (Unit {0} × (Unit {0} × (Unit {0} × (List ℕ × (Unit {0}))))))). ‵ (lasts core.ended (α ∷ [], (κ1, tt)) (lent l δ, z) w) ⊛ raw (fact 𝓤 (timed (record { answer = r; association = (w .0) }) (w .1 .1 .1 .1 .1 .0) ≡ timedOf h (timerInput time desired id uid) (buffer .now))))) (id⊢ 𝓤 _) $ pick ! (λ w. split ! $ move ! (1 ∷ []) $ heard ! (timed (record { answer = r; association = (w .0) }) (w .1 .1 .1 .1 .1 .0) ≡ timedOf h (timerInput time desired id uid) (buffer .now)) (λ e. fsplit ! $ move ! (1 ∷ []) $
+      qed W (raw (Ensured α l δ r) ∷ []) ∵ use1 W (some (λ (w : Association × (Unit {0} × (Unit {0} × (Unit {0} × (Unit {0} × (List ℕ × Unit {0})))))). ‵ (lasts core.ended (α ∷ [], (κ1, tt)) (lent l δ, z) w) ⊛ raw (fact 𝓤 (timed (record { answer = r; association = (w .0) }) (w .1 .1 .1 .1 .1 .0) ≡ timedOf h (timerInput time desired id uid) (buffer .now))))) (id⊢ 𝓤 _) $ pick ! (λ w. split ! $ move ! (1 ∷ []) $ heard ! (timed (record { answer = r; association = (w .0) }) (w .1 .1 .1 .1 .1 .0) ≡ timedOf h (timerInput time desired id uid) (buffer .now)) (λ e. fsplit ! $ move ! (1 ∷ []) $
       fsplit ! $ drop ! $ fsplit ! $ drop ! $ fsplit ! $ drop ! $ fsplit ! $ drop ! $ fsplit ! $ fsplit ! $ move ! (1 ∷ []) $ feqL ! (λ long. move ! (1 ∷ []) $ drop ! $
       show ! (λ (w : Association). mean 𝓤 H A (some (λ (last : List ℕ). given ((timed (record { answer = r; association = w }) last ≡ timedOf h (timerInput time desired id uid) (buffer .now)) × (length last ≡ length (buffer .now))) (‵ (fres δ (Rec.the-row .coded .code w)) ⊛ raw (Last last))))) (w .0) $
       show ! (λ (last : List ℕ). guard 𝓤 ((timed (record { answer = r; association = (w .0) }) last ≡ timedOf h (timerInput time desired id uid) (buffer .now)) × (length last ≡ length (buffer .now))) (mean 𝓤 H A (‵ (fres δ (Rec.the-row .coded .code (w .0))) ⊛ raw (Last last)))) (w .1 .1 .1 .1 .1 .0) $ check ! (e, long) $ move ! (1 ∷ 0 ∷ []) $ frame ! $ done !)))

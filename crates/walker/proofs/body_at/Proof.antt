@@ -1,10 +1,15 @@
 -- `walker::body_at` meets its contract.
 -- Assumes nothing.
+use mathlib.Core.Path.{refl}
+use Prim.Native.Nat.{_+_, _≤_, _<_}
 use borrow.Author.Needs.{needs}
 use borrow.Author.Tests.{le-leb, lt-leb}
 use native.Mathlib.Nat.{add-sub-cancel-left}
+use native.Mathlib.Omega.{arith}
+use denote.Ref.{now}
+use lib.ListN.{length}
 use Rattle.words.specs.Bytes.{part}
-use Rattle.walker.specs.Walker.{bodyOf}
+use Rattle.walker.specs.Walker.{bodyOf, bodyFrom}
 use Rattle.walker.proofs.body_at.Statement.{statement}
 use Rattle.walker.proofs.body_at.Tie as tie
 
@@ -30,16 +35,28 @@ slice-aggregate-result-2 : tie.Need-slice-aggregate-result-2
 slice-aggregate-result-2 c = search needs
 
 returns : tie.Need-returns
-unfolding bodyOf part
-returns c = simp (le-leb _ _ (c .before .before .if1 .taken), le-leb _ _ (c .before .if2 .taken), add-sub-cancel-left)
+unfolding bodyOf bodyFrom part
+returns c =
+    let a = c .before .before .before .args in
+    let h : a .start + a .len ≤ length (now (a .p)) = omega arith in
+    let e = le-leb _ _ h in
+    record { bytes = simp (e, add-sub-cancel-left); block = refl; offset = simp e (omega arith) }
 
 returns-2 : tie.Need-returns-2
-unfolding bodyOf
-returns-2 c = simp (le-leb _ _ (c .before .before .if1 .taken), lt-leb _ _ (c .before .if2 .left))
+unfolding bodyOf bodyFrom
+returns-2 c =
+    let a = c .before .before .before .args in
+    let h : length (now (a .p)) < a .start + a .len = omega arith in
+    let e = lt-leb _ _ h in
+    record { bytes = simp e; block = refl; offset = simp e (omega arith) }
 
 returns-3 : tie.Need-returns-3
-unfolding bodyOf
-returns-3 c = simp (lt-leb _ _ (c .before .if1 .left))
+unfolding bodyOf bodyFrom
+returns-3 c =
+    let a = c .before .before .args in
+    let h : length (now (a .p)) < a .start + a .len = omega arith in
+    let e = lt-leb _ _ h in
+    record { bytes = simp e; block = refl; offset = simp e (omega arith) }
 
 pub body-at-spec : {M : Type 1} → statement M
 body-at-spec =

@@ -42,7 +42,7 @@ use denote.Triple.Table.{entered, cited}
 use denote.Triple.Walked.{says, Stays, stay-none, walkOf, goes-none, Walks, ends-at, walked, walk-meets}
 use denote.Exit.{yes}
 use denote.Triple.Clauses.{ensured, lasts}
-use Rattle.walker.specs.Walker.{bodyOf}
+use Rattle.walker.specs.Walker.{IsBody}
 use Rattle.walker.specs.declared.Walker.{Walker}
 use Rattle.walker.proofs.Walker as T
 use Rattle.walker.proofs.Walker.Laws as T′
@@ -83,7 +83,7 @@ module _ {M : Type 1} (𝓤 : URA M) (H : Heap 𝓤) (A : Atoms 𝓤) (W : Given
   Slice = ShrSlice (named 0) κ u8
 
   abbrev Found : RefT (List ℕ) → Type 0
-  Found r = now r ≡ bodyOf (now (d .packet)) i n
+  Found r = IsBody (d .packet) i n r
 
   abbrev Post : Val → SProp 𝓤
   Post = walkOf 𝓤 H A body.ended stayed (body.clauses 𝓤 H A mem run) .post (((κ, tt), (q, tt), tt, (d, (i, (n, tt))), at), tt)

@@ -1,0 +1,7 @@
+-- The actions that follow from each number are document 01's.
+-- Assumes nothing.
+use mathlib.Core.Path.{refl}
+use Rattle.association.specs.Actions.{actionsOfNew, NewActs}
+
+pub new-acts : NewActs actionsOfNew
+new-acts = record { made-0 = refl; none-30 = refl; none-33 = refl }

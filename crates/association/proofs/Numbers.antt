@@ -1,0 +1,45 @@
+-- Each number of `new` is given exactly under its rule (specs/Numbers.antt).
+-- Assumes nothing.
+use mathlib.Core.Path.{_≡_, refl, ap, subst, _∙_}
+use mathlib.Core.List.{List}
+use mathlib.Core.Logic.{_↔_}
+use Prim.Native.Nat.{ℕ}
+use Rattle.words.proofs.Tests.{either}
+use Rattle.cookielist.specs.List.{listBroken}
+use Rattle.association.specs.declared.Settings.{Settings}
+use Rattle.association.specs.declared.NewOut.{NewOut}
+use Rattle.association.specs.Settings.{settingsValid}
+use Rattle.association.specs.New.{numberOf, newOf}
+use Rattle.association.specs.Numbers as N
+use Rattle.association.specs.Numbers.{bad-settings, broken-list, made}
+
+module _ (s : Settings) (list : List ℕ) where
+  abbrev Given : ℕ → NewOut → Type 0
+  Given = N.Given s list
+
+  abbrev Told : NewOut → Type 0
+  Told o = Given (numberOf (o .answer)) o
+
+  -- what is given is given under the rule of its number
+  pub given : Told (newOf s list)
+  unfolding newOf
+  given = either Told (settingsValid s) (λ v. either Told (listBroken (s .nts) list) (broken-list v) (made v)) bad-settings
+
+  -- where a number's rule holds, that rule's answer and record are given
+  pub only : {n : ℕ} {o : NewOut} → Given n o → newOf s list ≡ o
+  unfolding newOf
+  only (bad-settings v) = rw v
+  only (broken-list v b) = rw (v, b)
+  only (made v b) = rw (v, b)
+
+  numbered : {n : ℕ} {o : NewOut} → Given n o → numberOf (o .answer) ≡ n
+  numbered (bad-settings v) = refl
+  numbered (broken-list v b) = refl
+  numbered (made v b) = refl
+
+  -- so a number is given if and only if its rule holds
+  pub number : (n : ℕ) → (numberOf (newOf s list .answer) ≡ n) ↔ ((o : NewOut) × Given n o)
+  number n = (
+    λ e. (newOf s list, subst (λ (k : ℕ). Given k (newOf s list)) e given),
+    λ g. ap (λ (o : NewOut). numberOf (o .answer)) (only (g .1)) ∙ numbered (g .1),
+  )

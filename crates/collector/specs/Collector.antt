@@ -1,0 +1,41 @@
+-- The collector of cookies (document 01, part 7): the list of the cookies among decrypted fields, what collecting it answers, and what it leaves in the buffer.
+-- Assumes nothing.
+use Prim.Native.Nat.{ℕ}
+use mathlib.Core.List.{List, _++_}
+use mathlib.Core.Bool.{cond}
+use lib.ListN.{length, drop}
+use lib.Dec.{leb}
+use Rattle.cookielist.specs.List.{listOf}
+use Rattle.fields.specs.Walk.{decryptedWalk, whole, fieldsOf, bodiesOf}
+use Rattle.collector.specs.declared.Collected.{Collected}
+use Rattle.collector.specs.declared.Collected.the-variants.{Done, Broken, TooLong}
+
+-- the type of a field that carries a cookie
+abbrev pub cookieKind : ℕ
+cookieKind = 0x0204
+
+-- the cookies: whole bodies, padding counted
+abbrev pub cookiesOf : List ℕ → List (List ℕ)
+cookiesOf p = bodiesOf cookieKind p (fieldsOf (decryptedWalk p))
+
+unfoldable pub listIn : List ℕ → List ℕ
+listIn p = listOf (cookiesOf p)
+
+-- refused for broken fields, then for a list longer than the buffer; else the list's length
+unfoldable pub collectOf : List ℕ → ℕ → Collected
+collectOf p room = cond (whole (decryptedWalk p)) (cond (leb (length (listIn p)) room) (Done (length (listIn p))) TooLong) Broken
+
+-- the list from the start on and the bytes past it untouched, or nothing written
+abbrev pub leftIn : List ℕ → List ℕ → Collected → List ℕ
+leftIn list out (Done n) = list ++ drop n out
+leftIn list out Broken = out
+leftIn list out TooLong = out
+
+unfoldable pub bufferOf : List ℕ → List ℕ → List ℕ
+bufferOf p out = leftIn (listIn p) out (collectOf p (length out))
+
+-- document 01's numbers
+abbrev pub numberOf : Collected → ℕ
+numberOf (Done n) = 0
+numberOf Broken = 1
+numberOf TooLong = 31

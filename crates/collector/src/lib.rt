@@ -1,0 +1,103 @@
+// The cookies among decrypted fields, collected as a cookie list in a lent buffer.
+use cookielist::HEAD_BYTES;
+use cookielist::RECORD_MARK;
+use fields::Step;
+use fields::Walked;
+ghost use mathlib.Core.Path.{_≡_};
+ghost use mathlib.Core.List.{_++_};
+ghost use Prim.Native.Nat.{_+_, _≤_, _<_};
+ghost use lib.ListN.{length, take, drop};
+ghost use Rattle.cookielist.specs.List.{recordOf};
+ghost use Rattle.collector.specs.Collector.{listIn, collectOf, bufferOf, numberOf};
+
+// The type of a field that carries a cookie.
+pub const COOKIE_KIND: u16 = 0x0204;
+
+// The list's length where it is in the buffer, or why nothing was written.
+pub enum Collected {
+    Done(usize),
+    Broken,
+    TooLong,
+}
+
+impl Collected {
+    pub fn number(self) -> u8
+        ensures { λ r. ⌜ r ≡ numberOf self ⌝ }
+    {
+        match self {
+            Collected::Done(_) => 0,
+            Collected::Broken => 1,
+            Collected::TooLong => 31,
+        }
+    }
+}
+
+// How long the list is.
+fn list_length(decrypted: &[u8]) -> usize
+    ensures { λ r. ⌜ r ≡ length (listIn (now (decrypted .entry))) ⌝ }
+{
+    let mut at = 0;
+    let mut n = 0;
+    loop {
+        let Step::Field {
+            kind,
+            start: _,
+            len,
+            next,
+        } = fields::decrypted_field_at(decrypted, at)
+        else {
+            return n;
+        };
+        if kind == COOKIE_KIND {
+            n = n + HEAD_BYTES + len;
+        }
+        at = next;
+    }
+}
+
+// Writes a record of the list at an offset, and gives the offset behind it.
+fn put_record(out: &mut [u8], to: usize, body: &[u8]) -> usize
+    requires { ⌜ (to + 4 + length (now body) ≤ length (now out)) × (length (now body) < 65536) ⌝ }
+    ensures { λ r. ⌜ (r ≡ to + 4 + length (now (body .entry))) × (now (out .exit) ≡ take to (now (out .entry)) ++ recordOf (now (body .entry)) ++ drop (to + 4 + length (now (body .entry))) (now (out .entry))) ⌝ }
+{
+    let n = body.len();
+    let mark = words::be16_bytes(RECORD_MARK);
+    let len = words::be16_bytes(n as u16);
+    out[to] = mark[0];
+    out[to + 1] = mark[1];
+    out[to + 2] = len[0];
+    out[to + 3] = len[1];
+    let from = to + HEAD_BYTES;
+    bytes::copy(body, &mut out[from..]);
+    from + n
+}
+
+// Writes the list of the cookies from the buffer's start on; broken fields are refused first, then a list longer than the buffer.
+pub fn collect(decrypted: &[u8], out: &mut [u8]) -> Collected
+    ensures { λ r. ⌜ (r ≡ collectOf (now (decrypted .entry)) (length (now (out .entry)))) × (now (out .exit) ≡ bufferOf (now (decrypted .entry)) (now (out .entry))) ⌝ }
+{
+    let Walked::Ends(_) = fields::decrypted_walk(decrypted) else {
+        return Collected::Broken;
+    };
+    if out.len() < list_length(decrypted) {
+        return Collected::TooLong;
+    }
+    let mut at = 0;
+    let mut to = 0;
+    loop {
+        let Step::Field {
+            kind,
+            start,
+            len,
+            next,
+        } = fields::decrypted_field_at(decrypted, at)
+        else {
+            return Collected::Done(to);
+        };
+        if kind == COOKIE_KIND {
+            let end = start + len;
+            to = put_record(out, to, &decrypted[start..end]);
+        }
+        at = next;
+    }
+}

@@ -1,0 +1,2 @@
+-- The definitions that the contracts of `lent_stash` cite.
+pub mod Lent

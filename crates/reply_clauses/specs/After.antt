@@ -1,0 +1,108 @@
+-- Document 01, parts 8, 9 and 11, clause by clause: when a reply answers what is pending, the state after each kind of reply, and the measurement.
+-- Assumes nothing.
+use mathlib.Core.Bool.{Bool, true, false, not, _&&_, _||_, cond}
+use mathlib.Core.List.{List}
+use Prim.Native.Nat.{ℕ}
+use lib.Dec.{leb, eqb}
+use Rattle.reach.specs.Register.{answeredOf}
+use Rattle.version.specs.Upgrade.{steppedOf}
+use Rattle.time_types.specs.declared.NtpTimestamp.{NtpTimestamp}
+use Rattle.time_types.specs.declared.PollInterval.{PollInterval}
+use Rattle.time_types.specs.Time.{timestamp, duration, delayOf, offsetOf, localTime}
+use Rattle.time_types.specs.Poll.{interval, larger, afterRate}
+use Rattle.uid_groups.specs.Matching.{uidMatches}
+use Rattle.association.specs.declared.Settings.{Settings}
+use Rattle.association.specs.declared.State.{State}
+use Rattle.association.specs.declared.Pending.{Pending}
+use Rattle.association.specs.Record.{noPending}
+use Rattle.incoming.specs.declared.Reply.{Reply}
+use Rattle.reply_clauses.specs.declared.Measurement.{Measurement}
+
+-- what comes with a reply of either form: its cookie list, T1, T4 and now
+pub record Arrival : Type 0 where
+  pub list : List ℕ
+  pub t1 : NtpTimestamp
+  pub t4 : NtpTimestamp
+  pub time : ℕ
+
+abbrev pub arrival : List ℕ → NtpTimestamp → NtpTimestamp → ℕ → Arrival
+arrival list t1 t4 time = record { list = list; t1 = t1; t4 = t4; time = time }
+
+-- a request is unexpired if now ≤ its deadline
+abbrev pub unexpired : ℕ → ℕ → Bool
+unexpired deadline time = leb time deadline
+
+-- 3: no pending request, or its deadline < now
+abbrev pub live : Pending → ℕ → Bool
+live q time = q .present && unexpired (q .deadline) time
+
+-- 4: the 64 bits equal the pending ones; with NTS also the uid
+abbrev pub answers : Bool → ℕ → Reply → Bool
+answers nts id r = eqb (r .origin) id && (not nts || uidMatches (r .authenticated) (r .encrypted) (r .untrusted) (r .kisses .ntsn))
+
+-- DENY or RSTR
+abbrev pub denies : Reply → Bool
+denies r = r .kisses .deny || r .kisses .rstr
+
+-- the upgrade step
+unfoldable pub stepped : State → Bool → State
+stepped s upgrade =
+    record {
+      effort = s .effort;
+      version = steppedOf (s .version) upgrade;
+      polls = s .polls;
+      source = s .source;
+      request = s .request;
+    }
+
+-- 5: RATE: remote minimum becomes max(min(it + 1, max), last poll)
+unfoldable pub afterRateKiss : Settings → State → State
+afterRateKiss g s =
+    record {
+      effort = s .effort;
+      version = s .version;
+      polls = record { last = s .polls .last; remote = interval (afterRate (s .polls .remote .0) (g .max .0) (s .polls .last .0)) };
+      source = s .source;
+      request = s .request;
+    }
+
+-- 6: denial noted
+unfoldable pub afterDenial : State → State
+afterDenial s =
+    record {
+      effort = s .effort;
+      version = s .version;
+      polls = s .polls;
+      source = record { stratum = s .source .stratum; refid = s .source .refid; denial = true };
+      request = s .request;
+    }
+
+-- V5 raises the remote minimum to a larger poll, with no upper limit
+abbrev pub raised : PollInterval → Reply → PollInterval
+raised remote r = cond (eqb (r .version) 5) (interval (larger (remote .0) (r .poll .0))) remote
+
+-- 0: reach bit, denial cleared, pending cleared, stratum and reference identifier taken
+unfoldable pub afterMeasured : State → Reply → State
+afterMeasured s r =
+    record {
+      effort = record { reach = answeredOf (s .effort .reach); tries = s .effort .tries };
+      version = s .version;
+      polls = record { last = s .polls .last; remote = raised (s .polls .remote) r };
+      source = record { stratum = r .stratum; refid = r .refid; denial = false };
+      request = noPending;
+    }
+
+-- the measurement (RFC 5905, section 8); its monotonic time is the reply's now
+unfoldable pub measurementOf : Reply → NtpTimestamp → NtpTimestamp → ℕ → Measurement
+measurementOf r t1 t4 time =
+    record {
+      delay = duration (delayOf (t1 .0) (r .receive .0) (r .transmit .0) (t4 .0));
+      offset = duration (offsetOf (t1 .0) (r .receive .0) (r .transmit .0) (t4 .0));
+      local = timestamp (localTime (t1 .0) (t4 .0));
+      mono = time;
+      stratum = r .stratum;
+      rootdelay = r .rootdelay;
+      rootdisp = r .rootdisp;
+      leap = r .leap;
+      precision = r .precision;
+    }

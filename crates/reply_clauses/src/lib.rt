@@ -1,0 +1,174 @@
+// The clauses of a reply (document 01, parts 8, 9 and 11): when it answers what is pending, what each kind of it leaves of the state, and the measurement.
+use association::Effort;
+use association::Pending;
+use association::Polls;
+use association::Settings;
+use association::Source;
+use association::State;
+use header::Kisses;
+use incoming::NtpLeapIndicator;
+use incoming::Reply;
+use time_types::Exchange;
+use time_types::NtpDuration;
+use time_types::NtpTimestamp;
+use time_types::PollInterval;
+ghost use mathlib.Core.Path.{_≡_};
+ghost use mathlib.Core.Bool.{_||_};
+ghost use Rattle.reply_clauses.specs.After.{live, answers, stepped, afterRateKiss, afterDenial, raised, afterMeasured, measurementOf};
+
+// What a measured reply says of the clocks.
+pub struct Measurement {
+    pub delay: NtpDuration,
+    pub offset: NtpDuration,
+    // Our wall clock half way between request and reply.
+    pub local: NtpTimestamp,
+    // Our uptime clock when the reply was handled.
+    pub mono: u64,
+    pub stratum: u8,
+    pub rootdelay: NtpDuration,
+    pub rootdisp: NtpDuration,
+    pub leap: NtpLeapIndicator,
+    pub precision: i8,
+}
+
+// Whether a request is pending and its deadline is not passed.
+pub fn live(request: Pending, time: u64) -> bool
+    ensures { λ r. ⌜ r ≡ live request time ⌝ }
+{
+    if request.present {
+        time <= request.deadline
+    } else {
+        false
+    }
+}
+
+// Whether a reply answers the request of an identifier; with NTS also by its unique identifier.
+pub fn answers(nts: bool, id: u64, reply: Reply) -> bool
+    ensures { λ r. ⌜ r ≡ answers nts id reply ⌝ }
+{
+    if reply.origin != id {
+        return false;
+    }
+    if !nts {
+        return true;
+    }
+    let authenticated = reply.authenticated;
+    let encrypted = reply.encrypted;
+    let untrusted = reply.untrusted;
+    let kisses = reply.kisses;
+    uid_groups::uid_matches(authenticated, encrypted, untrusted, kisses.ntsn)
+}
+
+pub fn denies(kisses: Kisses) -> bool
+    ensures { λ r. ⌜ r ≡ (kisses .deny || kisses .rstr) ⌝ }
+{
+    if kisses.deny { true } else { kisses.rstr }
+}
+
+// The upgrade step, on a matching reply.
+pub fn stepped(s: State, upgrade: bool) -> State
+    ensures { λ r. ⌜ r ≡ stepped s upgrade ⌝ }
+{
+    let old = s.version;
+    let version = old.upgrade_step(upgrade);
+    let mut next = s;
+    next.version = version;
+    next
+}
+
+// A RATE kiss raises the remote minimum.
+pub fn after_rate_kiss(settings: Settings, s: State) -> State
+    ensures { λ r. ⌜ r ≡ afterRateKiss settings s ⌝ }
+{
+    let limit = settings.max;
+    let old = s.polls;
+    let last = old.last;
+    let least = old.remote;
+    let remote = least.after_rate(limit, last);
+    let polls = Polls { last, remote };
+    let mut next = s;
+    next.polls = polls;
+    next
+}
+
+// A denial is noted.
+pub fn after_denial(s: State) -> State
+    ensures { λ r. ⌜ r ≡ afterDenial s ⌝ }
+{
+    let mut source = s.source;
+    source.denial = true;
+    let mut next = s;
+    next.source = source;
+    next
+}
+
+// V5 raises the remote minimum to a larger poll.
+fn raised(remote: PollInterval, reply: Reply) -> PollInterval
+    ensures { λ r. ⌜ r ≡ raised remote reply ⌝ }
+{
+    let poll = reply.poll;
+    if reply.version == 5 {
+        remote.max(poll)
+    } else {
+        remote
+    }
+}
+
+// What a measured reply leaves.
+pub fn after_measured(s: State, reply: Reply) -> State
+    ensures { λ r. ⌜ r ≡ afterMeasured s reply ⌝ }
+{
+    let tried = s.effort;
+    let reached = tried.reach;
+    let reach = reached.received_packet();
+    let old = s.polls;
+    let last = old.last;
+    let least = old.remote;
+    let remote = raised(least, reply);
+    let refid = reply.refid;
+    let effort = Effort {
+        reach,
+        tries: tried.tries,
+    };
+    let polls = Polls { last, remote };
+    let source = Source {
+        stratum: reply.stratum,
+        refid,
+        denial: false,
+    };
+    let request = Pending::none();
+    let version = s.version;
+    State {
+        effort,
+        version,
+        polls,
+        source,
+        request,
+    }
+}
+
+// The measurement of a reply to a request that left at t1, and which came at t4.
+pub fn measured(reply: Reply, t1: NtpTimestamp, t4: NtpTimestamp, time: u64) -> Measurement
+    ensures { λ r. ⌜ r ≡ measurementOf reply t1 t4 time ⌝ }
+{
+    let t2 = reply.receive;
+    let t3 = reply.transmit;
+    let exchange = Exchange { t1, t2, t3, t4 };
+    let delay = exchange.delay();
+    let offset = exchange.offset();
+    let local = exchange.local_time();
+    let rootdelay = reply.rootdelay;
+    let rootdisp = reply.rootdisp;
+    let leap = reply.leap;
+    Measurement {
+        delay,
+        offset,
+        local,
+        mono: time,
+        stratum: reply.stratum,
+        rootdelay,
+        rootdisp,
+        leap,
+        precision: reply.precision,
+    }
+}

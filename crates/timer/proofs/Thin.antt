@@ -1,0 +1,80 @@
+-- The parts of a call over a lent association do what the definitions say: the record, and each byte of the buffer.
+-- Assumes nothing.
+use Prim.Native.Nat.{ℕ, _<_}
+use mathlib.Core.Path.{_≡_, refl, sym, _∙_, ap}
+use mathlib.Core.Bool.{true, cond}
+use mathlib.Core.List.{List}
+use native.Mathlib.Decide.{decLe}
+use native.Mathlib.Omega.{arith}
+use borrow.Author.Tests.{eqb-true, eqb-false, ltb-false, lt-leb}
+use lib.Dec.{eqb}
+use lib.ListN.{length}
+use Rattle.words.proofs.Tests.{passes, either}
+use Rattle.cookiestash.specs.declared.CookieStash.{CookieStash}
+use Rattle.cookiestash.specs.declared.Seen.{Seen}
+use Rattle.cookiestash.specs.Stash.{stored, getOf}
+use Rattle.cookiestash.specs.Whole.{seenOf}
+use Rattle.cookiestash.proofs.Lengths.{found-gap}
+use Rattle.lent_stash.specs.Lent.{wrote, handedOf}
+use Rattle.lent_stash.proofs.Taken.{handed-none, handed-all}
+use Rattle.association.specs.declared.Association.{Association}
+use Rattle.association.specs.Record.{wholeSeen}
+use Rattle.timer_rules.specs.declared.Decision.{Decision}
+use Rattle.timer_rules.specs.declared.TimerInput.{TimerInput}
+use Rattle.timer_rules.specs.Poll.{shortBuffer, startupOver}
+use Rattle.timer_rules.specs.Decide.{askedWith, decideNts, decideOf}
+use Rattle.timer_rules.proofs.Count.{asked-some, asked-short}
+use Rattle.timer.specs.Timer.{out, decided, handed, timerOf, bufferOf, timed, timedOf}
+
+-- of a longer cookie nothing is stored
+none : (n : ℕ) → 724 < n → stored n ≡ 0
+unfolding stored
+none n h = simp (lt-leb n 724 h)
+
+not-both : (n : ℕ) → n ≡ 0 → 0 < n → ⊥
+not-both n e k = omega arith
+
+module _ (a : Association) (i : TimerInput) (ys : List ℕ) where
+  abbrev seen : Seen
+  seen = seenOf 8 (a .stash)
+
+  -- what a take leaves in the buffer is what the answer hands out
+  abbrev Same : Decision → Type 0
+  Same d = cond (d .takes) (handedOf (getOf 8 (a .stash) .slot) ys) ys ≡ wrote (getOf 8 (a .stash) .slot .bytes) (handed (d .answer)) ys
+
+  -- 24: since the take leaves room, the cookie is longer than 724 bytes, and none of them is stored
+  too-large : seen .found ≡ true → askedWith seen ≡ 0 → handedOf (getOf 8 (a .stash) .slot) ys ≡ ys
+  too-large f z =
+      elim (decLe (seen .len) 724) [
+        | yes l ↦ absurd (not-both (askedWith seen) z (asked-some (seen .gap) (seen .len) (found-gap 8 (a .stash) f) l))
+        | no n ↦ handed-none (getOf 8 (a .stash) .slot) ys (none (seen .len) (omega arith))
+      ]
+
+  same : Same (decideOf (a .settings) (a .state) seen i (length ys))
+  unfolding decideOf decideNts
+  same =
+      either Same (wholeSeen (a .settings) seen (a .state .request))
+      (λ _. either Same (shortBuffer (a .settings) (length ys)) (λ _. refl)
+      (λ b. either Same (startupOver (a .settings) (a .state)) (λ _. either Same (a .state .source .denial) (λ _. refl) (λ _. refl))
+      (λ _. either Same (a .settings .nts)
+      (λ n. either Same (seen .found)
+      (λ f. either Same (eqb (askedWith seen) 0) (λ z. too-large f (eqb-true _ _ z))
+      (λ z.
+      let short = asked-short (seen .gap) (seen .len) (eqb-false _ _ z) in
+      let roomy = ltb-false (length ys) 724 (sym (passes _ n) ∙ b) in
+      handed-all (getOf 8 (a .stash) .slot) ys short (omega arith)))
+      (λ _. refl))
+      (λ _. refl))))
+      (λ _. refl)
+
+  -- what was seen, decided and left
+  pub told : (rs : Seen) (d : Decision) (w : CookieStash) (zs : List ℕ) → rs ≡ seen → d ≡ decideOf (a .settings) (a .state) rs i (length ys)
+      → w ≡ cond (d .takes) (getOf 8 (a .stash) .stash) (a .stash) → zs ≡ cond (d .takes) (handedOf (getOf 8 (a .stash) .slot) ys) ys
+      → timed (out (d .answer) (record { settings = a .settings; stash = w; state = d .state })) zs ≡ timedOf a i ys
+  unfolding timerOf bufferOf
+  told rs d w zs es ed ew ez =
+      let k : d ≡ decideOf (a .settings) (a .state) seen i (length ys) = ed ∙ ap (λ (v : Seen). decideOf (a .settings) (a .state) v i (length ys)) es in
+      let o : out (d .answer) (record { settings = a .settings; stash = w; state = d .state }) ≡ decided a d = ap (λ (t : CookieStash). out (d .answer) (record { settings = a .settings; stash = t; state = d .state })) ew in
+      (λ j. timed (o j) (ez j))
+      ∙ ap (λ (e : Decision). timed (decided a e) (cond (e .takes) (handedOf (getOf 8 (a .stash) .slot) ys) ys)) k
+      ∙ ap (timed (decided a (decideOf (a .settings) (a .state) seen i (length ys)))) same

@@ -1,0 +1,7 @@
+-- The actions that follow from each number are document 01's.
+-- Assumes nothing.
+use mathlib.Core.Path.{refl}
+use Rattle.timer_rules.specs.Answer.{actionsOf, TimerActs}
+
+pub timer-acts : TimerActs actionsOf
+timer-acts = record { sent-20 = refl; reset-21 = refl; demobilize-22 = refl; reset-23 = refl; reset-24 = refl; none-31 = refl; none-32 = refl }

@@ -1,0 +1,5 @@
+-- Laws that belong to no one function.
+pub mod Prefix
+pub mod Groups
+pub mod Uids
+pub mod Determined

@@ -1,0 +1,33 @@
+-- `uid_groups::uid_matches` meets its contract.
+-- Assumes nothing.
+use borrow.Author.Needs.{needs}
+use mathlib.Core.Bool.{cond}
+use Rattle.uid_groups.specs.declared.Uid.the-variants.{Absent}
+use Rattle.uid_groups.specs.Matching.{uidMatches}
+use Rattle.uid_groups.proofs.Groups.{joined-match}
+use Rattle.uid_groups.proofs.uid_matches.Statement.{statement}
+use Rattle.uid_groups.proofs.uid_matches.Tie as tie
+
+joined-requires : tie.Need-joined-requires
+joined-requires c κs = search needs
+
+looked-at-requires : tie.Need-looked-at-requires
+looked-at-requires c κs = search needs
+
+joined-requires-2 : tie.Need-joined-requires-2
+joined-requires-2 c κs = search needs
+
+agrees-requires : tie.Need-agrees-requires
+agrees-requires c κs = search needs
+
+returns : tie.Need-returns
+unfolding uidMatches
+returns c =
+    let a = c .before .before .before .before .args in
+    let m = joined-match (a .authenticated) (a .encrypted) (cond (a .ntsn) (a .untrusted) Absent) in
+    rw (c .before .joined2 .ensures, c .before .before .looked-at .ensures, c .before .before .before .joined .ensures, ← m) at (c .agrees .ensures)
+
+pub uid-matches-spec : {M : Type 1} → statement M
+uid-matches-spec =
+    tie.close
+    (tie.spec joined-requires looked-at-requires joined-requires-2 agrees-requires returns)

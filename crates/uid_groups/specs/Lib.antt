@@ -1,0 +1,2 @@
+-- The definitions that the contracts of `uid_groups` cite.
+pub mod Matching
