@@ -1,4 +1,4 @@
-// Acceptance (document 01, part 12): whether the source may be synchronised to.
+// Acceptance (RULES, part 12): whether the source may be synchronised to.
 use association::Association;
 ghost use mathlib.Core.Path.{_≡_};
 ghost use Rattle.accept.specs.Accept.{among, isPresent, loops, numberOf, acceptOf};

@@ -1,4 +1,4 @@
-// The association's settings and record, when a record is whole, and how a new one is made (document 01, "Settings and a whole record").
+// The association's settings and record, when a record is whole, and how a new one is made (RULES, "Settings and a whole record").
 use cookiestash::CAPACITY;
 use cookiestash::CookieStash;
 use cookiestash::Seen;

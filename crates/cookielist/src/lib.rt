@@ -1,4 +1,4 @@
-// The list in which cookies come, in the house form (document 01, "Settings and a whole record"): a run of records, each a mark, a length and a cookie.
+// The list in which cookies come, in the house form (RULES, "Settings and a whole record"): a run of records, each a mark, a length and a cookie.
 ghost use mathlib.Core.Path.{_≡_};
 ghost use Rattle.cookielist.specs.List.{entryAt, isWhole, cookiesIn};
 

@@ -1,4 +1,4 @@
-// The cookies that a client holds, given out oldest first (document 01, part 3).
+// The cookies that a client holds, given out oldest first (RULES, part 3).
 use cookielist::Entry;
 ghost use mathlib.Core.Path.{_≡_};
 ghost use mathlib.Core.Bool.{_&&_};

@@ -1,1 +1,1 @@
-// Document 01's starred cases: one table of the definitions, under a single theorem (specs/Table.antt).
+// The starred cases of RULES: one table of the definitions, under a single theorem (specs/Table.antt).

@@ -1,4 +1,4 @@
-// The NTP header: 48 bytes, read from a packet and written by value (document 01, part 6), and the kiss that it may be (part 9).
+// The NTP header: 48 bytes, read from a packet and written by value (RULES, part 6), and the kiss that it may be (part 9).
 use identifiers::ReferenceId;
 use time_types::NtpTimestamp;
 use time_types::PollInterval;

@@ -1,4 +1,4 @@
-// What a reply says, as one value, and how both of its forms come down to it (document 01, parts 6 to 9 and 11).
+// What a reply says, as one value, and how both of its forms come down to it (RULES, parts 6 to 9 and 11).
 use fields::Walked;
 use header::HEADER_BYTES;
 use header::Header;

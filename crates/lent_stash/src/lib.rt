@@ -1,4 +1,4 @@
-// A stash that is lent: it is looked at, a cookie is taken, and a list is stored, where it lies (document 01, part 3). Of its bytes only those are copied that are handed out or change.
+// A stash that is lent: it is looked at, a cookie is taken, and a list is stored, where it lies (RULES, part 3). Of its bytes only those are copied that are handed out or change.
 use cookielist::Entry;
 use cookiestash::CookieStash;
 use cookiestash::Seen;

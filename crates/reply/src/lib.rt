@@ -1,4 +1,4 @@
-// The reply (document 01, part 11): both forms of the call, on a record that the caller lends and on one of its own.
+// The reply (RULES, part 11): both forms of the call, on a record that the caller lends and on one of its own.
 use association::Association;
 use cookiestash::CAPACITY;
 use incoming::DecodedReply;

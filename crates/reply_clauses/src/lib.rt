@@ -1,4 +1,4 @@
-// The clauses of a reply (document 01, parts 8, 9 and 11): when it answers what is pending, what each kind of it leaves of the state, and the measurement.
+// The clauses of a reply (RULES, parts 8, 9 and 11): when it answers what is pending, what each kind of it leaves of the state, and the measurement.
 use association::Effort;
 use association::Pending;
 use association::Polls;

@@ -1,4 +1,4 @@
-// The rules of a reply (document 01, parts 8, 9 and 11), over the settings, the state and what is seen of the stash: one judge for both forms.
+// The rules of a reply (RULES, parts 8, 9 and 11), over the settings, the state and what is seen of the stash: one judge for both forms.
 use association::Pending;
 use association::Settings;
 use association::State;
@@ -254,7 +254,7 @@ pub fn judge_decoded(
 }
 
 impl ReplyAnswer {
-    // Document 01's number for the answer.
+    // The number in RULES for the answer.
     pub fn number(self) -> u8
         ensures { λ r. ⌜ r ≡ numberOf self ⌝ }
     {

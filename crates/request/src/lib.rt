@@ -1,4 +1,4 @@
-// The request writer (document 02, No. 1): the packet of a poll, up to the place where the caller's authenticator goes.
+// The request writer (RULES, No. 1): the packet of a poll, up to the place where the caller's authenticator goes.
 use collector::COOKIE_KIND;
 use cookielist::MAX_COOKIE;
 use header::HEADER_BYTES;
@@ -43,7 +43,7 @@ pub enum Requested {
 }
 
 impl Requested {
-    // Document 02's number of the answer.
+    // The number of the answer, in RULES.
     pub fn number(self) -> u8
         ensures { λ r. ⌜ r ≡ numberOf self ⌝ }
     {

@@ -1,4 +1,4 @@
-// The timer (document 01, part 10): a poll is sent, or the association gives up.
+// The timer (RULES, part 10): a poll is sent, or the association gives up.
 use association::Association;
 use cookiestash::CAPACITY;
 use time_types::PollInterval;

@@ -1,4 +1,4 @@
-// The rules of the timer (document 01, part 10), over the settings, the state and what is seen of the stash.
+// The rules of the timer (RULES, part 10), over the settings, the state and what is seen of the stash.
 use association::Effort;
 use association::Pending;
 use association::Polls;
@@ -247,7 +247,7 @@ pub fn decide(settings: Settings, s: State, seen: Seen, input: TimerInput, room:
 }
 
 impl TimerAnswer {
-    // Document 01's number for the answer.
+    // The number in RULES for the answer.
     pub fn number(self) -> u8
         ensures { λ r. ⌜ r ≡ numberOf self ⌝ }
     {

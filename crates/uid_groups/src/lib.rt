@@ -1,4 +1,4 @@
-// What groups of fields say of the unique identifier, and when they match (rule 8).
+// What groups of fields say of the unique identifier, and when they match (RULES, part 8).
 use fields::Step;
 use header::HEADER_BYTES;
 ghost use mathlib.Core.Path.{_≡_};

@@ -1,4 +1,4 @@
-// Runs the cases of the wire (document 01, parts 6 to 9; document 02, No. 1) and prints a line for each; tools/wire_cases.py writes what must be printed.
+// Runs the cases of the wire (RULES, parts 6 to 9 and No. 1) and prints a line for each; tools/wire_cases.py writes what must be printed.
 mod build;
 mod collector_cases;
 mod header_cases;
