@@ -1,4 +1,6 @@
-// The request writer (RULES, No. 1): the packet of a poll, up to the place where the caller's authenticator goes.
+// The request writer: the packet of a poll, up to the place where the caller's authenticator goes.
+// Promises: the packet byte by byte, and that nothing else of the buffer is written; nothing at all after a refusal.
+// Rule: RULES, No. 1; definitions in specs/Request.antt, specs/Extension.antt and specs/Answer.antt.
 use collector::COOKIE_KIND;
 use cookielist::MAX_COOKIE;
 use header::HEADER_BYTES;
