@@ -1,4 +1,4 @@
--- A log, and what it alone says (RULES, "Slips to keep out"; demand 3): the log holds each call's inputs and number. Nothing here knows a record.
+-- A log, and what it alone says (RULES, "The three demands"): the log holds each call's inputs and number. Nothing here knows a record.
 -- Assumes nothing.
 use mathlib.Core.Bool.{Bool, true, false, cond, not, _&&_, _||_}
 use mathlib.Core.List.{List, [], _∷_}
