@@ -1,7 +1,7 @@
 #!/usr/bin/env python3
 """Writes crates/wire_cases/stdout: what the program wire_cases must print.
 
-A small reference of the wire, written from RFC 5905, RFC 7822, RFC 8915, parts 6 to 9 of document 01 and No. 1 of document 02, and from nothing else.
+A small reference of the wire, written from RFC 5905, RFC 7822, RFC 8915, RULES (parts 6 to 9, No. 1), and from nothing else.
 It builds each packet anew and shares no code with the program.  Run it from anywhere; with '-' it prints instead.
 """
 
@@ -17,7 +17,7 @@ def say(line):
     LINES.append(line)
 
 
-# ---- RFC 5905 section 7.3, figure 8: the packet header, 48 bytes, big-endian (document 01, part 6)
+# ---- RFC 5905 section 7.3, figure 8: the packet header, 48 bytes, big-endian (RULES, part 6)
 
 def header(leap=0, version=4, mode=4, stratum=0, poll=0, precision=0, delay=0, dispersion=0, refid=0,
            reference=0, origin=0, receive=0, transmit=0):
@@ -119,7 +119,7 @@ def headers():
             say('first byte %02x: undecodable' % b)
 
 
-# ---- 3. kisses (RFC 5905 section 7.4, RFC 8915 section 5.7; document 01, parts 1 and 9)
+# ---- 3. kisses (RFC 5905 section 7.4, RFC 8915 section 5.7; RULES, parts 1 and 9)
 
 def yes(b):
     return 'yes' if b else 'no'
@@ -136,7 +136,7 @@ def kisses():
             yes(kiss and code == 'NTSN'), yes(kiss)))
 
 
-# ---- extension fields (RFC 7822 section 3; document 01, part 7)
+# ---- extension fields (RFC 7822 section 3; RULES, part 7)
 
 def field_at(data, at, least, tail):
     """What stands at an offset: ('field', type, start, length, next), ('end',) or ('broken',)."""
@@ -246,7 +246,7 @@ def edges():
         say('places of %s:' % name + ''.join(' %d' % n for n in range(40, len(packet) + 5) if n in places))
 
 
-# ---- the walker (document 01, what must change shape): a field's body is that part of the packet itself
+# ---- the walker (RULES, "What must change shape"): a field's body is that part of the packet itself
 
 def body_at(packet, start, length):
     body = packet[start:start + length] if start + length <= len(packet) else b''
@@ -274,7 +274,7 @@ def walker():
     show_first('a field before a tail', HEADER + field(0x0204, counted[:12]) + counted[12:])
 
 
-# ---- 7. the unique identifier (RFC 8915 section 5.3; document 01, part 8)
+# ---- 7. the unique identifier (RFC 8915 section 5.3; RULES, part 8)
 
 UID = bytes(0xa0 + i for i in range(32))
 OTHER = UID[:31] + b'\0'
@@ -334,7 +334,7 @@ def matches():
                         authenticated, encrypted, untrusted, yes(ntsn), yes(ok)))
 
 
-# ---- 8. the collector (RFC 8915 sections 5.4 and 5.5; document 01, part 7 and the cookie list)
+# ---- 8. the collector (RFC 8915 sections 5.4 and 5.5; RULES, part 7 and the cookie list)
 
 FILL = 0xee
 
@@ -396,7 +396,7 @@ def collector():
     show_collect('broken and too small', hundred + bytes(4), 8)
 
 
-# ---- 9. the request writer (document 02, No. 1; RFC 5905 section 7.3, RFC 8915 sections 5.3 to 5.5)
+# ---- 9. the request writer (RULES, No. 1; RFC 5905 section 7.3, RFC 8915 sections 5.3 to 5.5)
 
 def padded(kind, body):
     """A field, filled with zeros to a multiple of four and to the least length, 16."""

@@ -1,4 +1,4 @@
--- Document 01, part 12: acceptance, in order 32, 40, 41, 42, 0.
+-- RULES, part 12: acceptance, in order 32, 40, 41, 42, 0.
 -- Assumes nothing.
 use mathlib.Core.Bool.{Bool, true, false, not, _&&_, _||_, cond}
 use mathlib.Core.List.{List, [], _∷_}

@@ -1,4 +1,4 @@
--- Document 01, the table of numbers: when acceptance gives each number, and with which answer, in the order of the tests. The record stays.
+-- RULES, "The numbers": when acceptance gives each number, and with which answer, in the order of the tests. The record stays.
 -- Assumes nothing.
 use mathlib.Core.Path.{_≡_}
 use mathlib.Core.Bool.{true, false}

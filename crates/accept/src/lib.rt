@@ -1,4 +1,6 @@
-// Acceptance (document 01, part 12): whether the source may be synchronised to.
+// Acceptance: whether the source may be synchronised to.
+// Promises: each number exactly under its rule, in its order.
+// Rule: RULES, part 12; definitions in specs/Accept.antt, number by number in specs/Numbers.antt.
 use association::Association;
 ghost use mathlib.Core.Path.{_≡_};
 ghost use Rattle.accept.specs.Accept.{among, isPresent, loops, numberOf, acceptOf};
@@ -56,7 +58,7 @@ fn is_present(bloom: Bloom) -> bool
     }
 }
 
-// Whether the source gets its time from us.
+// Whether the source gets its time from us: each would then follow the other. A source of stratum 1 has a clock of its own, so its identifier is not looked at.
 fn is_loop(stratum: u8, id: u32, local: &[u32], bloom: Bloom) -> bool
     ensures { λ r. ⌜ r ≡ loops stratum id (now (local .entry)) bloom ⌝ }
 {

@@ -1,4 +1,4 @@
--- The call that makes an association: its answer, document 01's number for it, and the record.
+-- The call that makes an association: its answer, the number in RULES for it, and the record.
 -- Assumes nothing.
 use mathlib.Core.Bool.{cond}
 use mathlib.Core.List.{List}

@@ -1,4 +1,4 @@
--- The record: blank, new, and when it is whole (document 01, "Settings and a whole record").
+-- The record: blank, new, and when it is whole (RULES, "Settings and a whole record").
 -- Assumes nothing.
 use mathlib.Core.Bool.{Bool, false, _&&_, _||_}
 use mathlib.Core.List.{List}

@@ -1,4 +1,6 @@
-// The association's settings and record, when a record is whole, and how a new one is made (document 01, "Settings and a whole record").
+// The association's settings and record, when a record is whole, and how a new one is made.
+// Promises: `new` gives 0 with a whole record, or 30 or 33 with the blank one, each exactly under its rule.
+// Rule: RULES, "Settings and a whole record"; definitions in specs/Settings.antt, specs/Record.antt and specs/New.antt.
 use cookiestash::CAPACITY;
 use cookiestash::CookieStash;
 use cookiestash::Seen;

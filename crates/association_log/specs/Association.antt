@@ -44,7 +44,7 @@ abbrev pub readAs : Settings → Pending → ReplyIn → ReplyRead
 readAs s q (bytes packet end decrypted t) = readOf (s .nts) (q .uid) (s .upgrademark) packet end decrypted
 readAs s q (decoded d t) = Decoded (decodedOf d)
 
--- a reply answers a request if rule 8 holds for its identifiers
+-- a reply answers a request if part 8 holds for its identifiers
 abbrev pub answersAs : Settings → Pending → ReplyRead → Bool
 answersAs s q (Decoded r) = answers (s .nts) (q .id) r
 answersAs s q Undecodable = false

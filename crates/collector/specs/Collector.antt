@@ -1,4 +1,4 @@
--- The collector of cookies (document 01, part 7): the list of the cookies among decrypted fields, what collecting it answers, and what it leaves in the buffer.
+-- The collector of cookies (RULES, part 7): the list of the cookies among decrypted fields, what collecting it answers, and what it leaves in the buffer.
 -- Assumes nothing.
 use Prim.Native.Nat.{ℕ}
 use mathlib.Core.List.{List, _++_}
@@ -34,7 +34,7 @@ leftIn list out TooLong = out
 unfoldable pub bufferOf : List ℕ → List ℕ → List ℕ
 bufferOf p out = leftIn (listIn p) out (collectOf p (length out))
 
--- document 01's numbers
+-- the numbers in RULES
 abbrev pub numberOf : Collected → ℕ
 numberOf (Done n) = 0
 numberOf Broken = 1

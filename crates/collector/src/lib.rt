@@ -1,4 +1,6 @@
 // The cookies among decrypted fields, collected as a cookie list in a lent buffer.
+// Promises: the list is whole and has the cookies in order; the rest of the buffer, and after a refusal all of it, is untouched.
+// Rule: RULES, part 7; definitions in specs/Collector.antt.
 use cookielist::HEAD_BYTES;
 use cookielist::RECORD_MARK;
 use fields::Step;

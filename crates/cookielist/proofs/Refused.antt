@@ -1,4 +1,4 @@
--- A list is no cookie list exactly where its reader comes to an entry that is refused with document 01's number, 33.
+-- A list is no cookie list exactly where its reader comes to an entry that is refused with number 33 of RULES.
 -- Assumes nothing.
 use mathlib.Core.Path.{_≡_, refl, sym, ap, _∙_}
 use mathlib.Core.Bool.{false}

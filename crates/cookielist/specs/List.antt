@@ -1,4 +1,4 @@
--- The cookie list (document 01, settings and a whole record): a run of records, each the mark C0 0E, the length in two bytes, big-endian, and the bytes. An empty list is legal.
+-- The cookie list (RULES, "Settings and a whole record"): a run of records, each the mark C0 0E, the length in two bytes, big-endian, and the bytes. An empty list is legal.
 -- Assumes nothing.
 use Prim.Native.Nat.{ℕ, zero, suc, _+_, _-_, _≤_}
 use mathlib.Core.List.{List, [], _∷_, _++_}
@@ -50,7 +50,7 @@ entryAt l at =
     (Cookie (at + 4) (at + 4 + lengthAt l at)))
     Broken)))
 
--- document 01's number: 33 where the list is broken; a cookie and the end are refused by none
+-- the number in RULES: 33 where the list is broken; a cookie and the end are refused by none
 abbrev pub refusalOf : Entry → Option ℕ
 refusalOf (Cookie start end) = none
 refusalOf End = none

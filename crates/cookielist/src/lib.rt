@@ -1,4 +1,6 @@
-// The list in which cookies come, in the house form (document 01, "Settings and a whole record"): a run of records, each a mark, a length and a cookie.
+// The list in which cookies are handed over, in this project's own form: a run of records, each a mark, a length and a cookie.
+// Promises: what is written is read back; a list is refused exactly where an entry on the way is broken.
+// Rule: RULES, "Settings and a whole record"; definitions in specs/List.antt.
 ghost use mathlib.Core.Path.{_≡_};
 ghost use Rattle.cookielist.specs.List.{entryAt, isWhole, cookiesIn};
 

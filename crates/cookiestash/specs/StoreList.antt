@@ -1,4 +1,4 @@
--- A cookie list that is stored (document 01, parts 3 and 11): its cookies in order; a broken list changes nothing.
+-- A cookie list that is stored (RULES, parts 3 and 11): its cookies in order; a broken list changes nothing.
 -- Assumes nothing.
 use Prim.Native.Nat.{ℕ}
 use mathlib.Core.List.{List}

@@ -1,4 +1,4 @@
--- When a stash is whole (document 01, settings and a whole record): as the test that the code makes, and as a statement.
+-- When a stash is whole (RULES, "Settings and a whole record"): as the test that the code makes, and as a statement.
 -- Assumes nothing.
 use Prim.Native.Nat.{ℕ, zero, suc, _+_, _-_, _≤_, _<_}
 use mathlib.Core.Path.{_≡_}

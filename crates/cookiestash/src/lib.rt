@@ -1,4 +1,6 @@
-// The cookies that a client holds, given out oldest first (document 01, part 3).
+// The cookies that a client holds, given out oldest first.
+// Promises: the stash is a queue of at most as many cookies as its capacity; what is given out is no longer held, and a whole stash stays whole.
+// Rule: RULES, part 3; definitions in specs/Stash.antt, as a queue in specs/Queue.antt, when it is whole in specs/Whole.antt.
 use cookielist::Entry;
 ghost use mathlib.Core.Path.{_≡_};
 ghost use mathlib.Core.Bool.{_&&_};
@@ -226,7 +228,7 @@ impl CookieStash {
         }
     }
 
-    // A slot goes behind the newest; when all are held the oldest falls out.
+    // A slot goes behind the newest; when all are held the oldest falls out, since a newer cookie is good for longer.
     fn put(mut self, cap: usize, slot: Slot) -> CookieStash
         requires { ⌜ (cap ≤ 8) × (self .read < cap) × (self .held ≤ cap) ⌝ }
         ensures { λ r. ⌜ r ≡ putOf cap self slot ⌝ }
@@ -255,7 +257,7 @@ impl CookieStash {
         self.put(cap, slot)
     }
 
-    // The oldest cookie, whose slot is cleared.
+    // The oldest cookie, whose slot is cleared: a cookie that is used twice would tell who watches that both requests are the same client's.
     pub fn get(mut self, capacity: u8) -> Taken
         ensures { λ r. ⌜ r ≡ getOf capacity self ⌝ }
     {

@@ -1,4 +1,6 @@
-// Replays a log against the association and answers each of its lines.
+// The drill, a program: replays a log against the association and answers each of its lines.
+// Promises: it ends and stays in its bounds. What it prints is tested, not proved: tools/reference and the crate have the same answers (docs/EXCEPTIONS.md).
+// Rule: the language is docs/DRILL.md's, the numbers are those of RULES.
 use association::Association;
 use drill_calls::Ran;
 use drill_calls::calls;

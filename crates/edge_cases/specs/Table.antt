@@ -1,4 +1,4 @@
--- Document 01, "Either side of each edge": the starred cases as one table of the definitions. A case is a call of a definition and what it is to give,
+-- RULES, "Either side of each edge": the starred cases as one table of the definitions. A case is a call of a definition and what it is to give,
 -- and `Right` says what the case claims. proofs/Holds.antt has the one theorem: every claim of the table holds.
 -- Assumes nothing.
 use mathlib.Core.Path.{_≡_}

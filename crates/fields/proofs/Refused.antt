@@ -1,4 +1,4 @@
--- A walk is refused, with document 01's number 1, exactly where it comes to an offset at which what stands there is.
+-- A walk is refused, with number 1 of RULES, exactly where it comes to an offset at which what stands there is.
 -- Assumes nothing.
 use mathlib.Core.Path.{_≡_, refl, sym, ap, _∙_}
 use mathlib.Core.List.{List}

@@ -1,4 +1,4 @@
--- What stands at an offset of a run of extension fields (document 01, part 7; RFC 7822, section 3).
+-- What stands at an offset of a run of extension fields (RULES, part 7; RFC 7822, section 3).
 -- Assumes nothing.
 use Prim.Native.Nat.{ℕ, _+_, _-_, _%_}
 use mathlib.Core.List.{List}
@@ -38,7 +38,7 @@ packetStep p at = stepAt p at 16 24
 abbrev pub decryptedStep : List ℕ → ℕ → Step
 decryptedStep p at = stepAt p at 4 0
 
--- document 01's number: a broken answer makes the packet undecodable, 1; a field and the end are refused by none
+-- the number in RULES: a broken answer makes the packet undecodable, 1; a field and the end are refused by none
 abbrev pub refusalOf : Step → Option ℕ
 refusalOf (Field kind start len next) = none
 refusalOf End = none

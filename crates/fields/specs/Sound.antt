@@ -1,4 +1,4 @@
--- Statements on the walk that the theorems of proofs/Sound.antt prove (document 01, part 7).
+-- Statements on the walk that the theorems of proofs/Sound.antt prove (RULES, part 7).
 -- Assumes nothing.
 use Prim.Native.Nat.{ℕ, _+_, _-_, _%_, _≤_}
 use mathlib.Core.Path.{_≡_}

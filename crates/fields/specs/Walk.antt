@@ -1,4 +1,4 @@
--- The walk over extension fields, the places of it, and its fields (document 01, part 7).
+-- The walk over extension fields, the places of it, and its fields (RULES, part 7).
 -- Assumes nothing.
 use Prim.Native.Nat.{ℕ, zero, suc, _-_}
 use mathlib.Core.List.{List, [], _∷_}
@@ -55,7 +55,7 @@ walkedOf (field f w) = walkedOf w
 walkedOf (ends at) = W.Ends at
 walkedOf broken = W.Broken
 
--- document 01's number: 1 for a broken walk; one that ends is refused by none
+-- the number in RULES: 1 for a broken walk; one that ends is refused by none
 abbrev pub refusalOf : Walked → Option ℕ
 refusalOf (W.Ends at) = none
 refusalOf W.Broken = some 1

@@ -1,4 +1,6 @@
-// Extension fields (RFC 7822): what stands at an offset, the walk over them, and its places.
+// Extension fields: what stands at an offset, the walk over them, and its places.
+// Promises: the fields of a walk lie one behind the other within the packet, and it is refused exactly where it comes to something broken.
+// Rule: RULES, part 7 (RFC 7822); definitions in specs/Field.antt and specs/Walk.antt.
 use header::HEADER_BYTES;
 ghost use mathlib.Core.Path.{_≡_};
 ghost use Prim.Native.Nat.{_≤_};
@@ -10,7 +12,7 @@ const PACKET_LEAST: usize = 16;
 
 const PACKET_TAIL: usize = 24;
 
-// Decrypted fields have a head at least, and no tail.
+// Decrypted fields have a head at least, and no tail: RFC 8915 lets them be short, and nothing follows them that could be taken for a field.
 const DECRYPTED_LEAST: usize = 4;
 
 const DECRYPTED_TAIL: usize = 0;

@@ -102,7 +102,7 @@ then-refused p f = go (headerOf p) (view p) f
     go _ (read V3 l e) (inr n) = absurd (n .0 e)
     go _ (read V4 l e) (inr n) = absurd (n .1 e)
 
--- the reader refuses with document 01's number 1 exactly what is refused, and with no other number
+-- the reader refuses with number 1 of RULES exactly what is refused, and with no other number
 pub refused : (p : List ℕ) (n : ℕ) → (refusalOf (headerOf p) ≡ some n) ↔ ((n ≡ 1) × Refused p)
 refused p n = (
   λ e. (let b = refused-by (headerOf p) n e in (b .0, undecodable p (b .1))),

@@ -1,4 +1,4 @@
--- Document 01, part 6: the header's 48 bytes, with fields at 0, 1, 2, 3, 4, 8, 12, 16, 24, 32 and 40 (RFC 5905, section 7.3).
+-- RULES, part 6: the header's 48 bytes, with fields at 0, 1, 2, 3, 4, 8, 12, 16, 24, 32 and 40 (RFC 5905, section 7.3).
 -- Assumes nothing.
 use Prim.Native.Nat.{ℕ, _+_, _*_, _/_, _%_, _^_}
 use mathlib.Core.Bool.{cond}
@@ -96,7 +96,7 @@ headerOf p =
     (cond (eqb (versionBits p) 4) (Decoded (fields V4 p))
     Undecodable))
 
--- document 01's number: 1 for bytes that are not decodable; a header that is read is refused by none
+-- the number in RULES: 1 for bytes that are not decodable; a header that is read is refused by none
 abbrev pub refusalOf : HeaderRead → Option ℕ
 refusalOf (Decoded h) = none
 refusalOf Undecodable = some 1

@@ -1,4 +1,4 @@
--- Document 01, part 9: a kiss has stratum 0, and its name by the reference identifier.
+-- RULES, part 9: a kiss has stratum 0, and its name by the reference identifier.
 -- Assumes nothing.
 use Prim.Native.Nat.{ℕ}
 use mathlib.Core.Bool.{Bool, _&&_}

@@ -1,4 +1,6 @@
-// The NTP header: 48 bytes, read from a packet and written by value (document 01, part 6), and the kiss that it may be (part 9).
+// The NTP header: 48 bytes, read from a packet and written by value, and the kiss that it may be.
+// Promises: reader and writer undo each other, and the reader refuses exactly what is too short or of another version.
+// Rule: RULES, parts 6 and 9; definitions in specs/Header.antt and specs/Kiss.antt.
 use identifiers::ReferenceId;
 use time_types::NtpTimestamp;
 use time_types::PollInterval;

@@ -88,7 +88,7 @@ module _ (nts : Bool) (p : List ℕ) (end : ℕ) (decrypted : List ℕ) where
       back _ (other a b) e q = refl
       back _ (read v l b) e q = then-refused (endValid v p end) (decryptedValid nts decrypted) _ (which-fails v b (λ u. let z : _≡_ {A = ℕ} 0 1 = cc in omega arith) q)
 
-  -- the byte form is refused with document 01's number 1 exactly there, and with no other number
+  -- the byte form is refused with number 1 of RULES exactly there, and with no other number
   pub refused : (uid : List ℕ) (upgrademark n : ℕ) → (refusalOf (readOf nts uid upgrademark p end decrypted) ≡ some n) ↔ ((n ≡ 1) × Refused nts p end decrypted)
   refused uid upgrademark n = (
     λ e. (let b = refused-by (readOf nts uid upgrademark p end decrypted) n e in (b .0, undecodable uid upgrademark .0 (b .1))),

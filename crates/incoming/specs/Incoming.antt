@@ -1,4 +1,4 @@
--- Both forms of a reply as one value (document 01, part 11): the byte form through its header, its walk and its groups, and V5's decoded form.
+-- Both forms of a reply as one value (RULES, part 11): the byte form through its header, its walk and its groups, and V5's decoded form.
 -- Assumes nothing.
 use mathlib.Core.Bool.{Bool, true, false, not, _&&_, _||_, cond}
 use mathlib.Core.List.{List}
@@ -113,7 +113,7 @@ onHeader f H.Undecodable = Undecodable
 unfoldable pub readOf : Bool → List ℕ → ℕ → List ℕ → ℕ → List ℕ → ReplyRead
 readOf nts uid upgrademark p end decrypted = onHeader (bytesRead nts uid upgrademark p end decrypted) (headerOf p)
 
--- document 01's number: 1 for packet bytes that are not decodable; a reply that is read is refused by none here
+-- the number in RULES: 1 for packet bytes that are not decodable; a reply that is read is refused by none here
 abbrev pub refusalOf : ReplyRead → Option ℕ
 refusalOf (Decoded r) = none
 refusalOf Undecodable = some 1

@@ -1,4 +1,4 @@
--- When the byte form of a reply is refused with 1, as a statement: what `readOf` of specs/Incoming.antt tests (document 01, parts 6, 7 and 11).
+-- When the byte form of a reply is refused with 1, as a statement: what `readOf` of specs/Incoming.antt tests (RULES, parts 6, 7 and 11).
 -- Assumes nothing.
 use mathlib.Core.Path.{_≡_}
 use mathlib.Core.Bool.{Bool, true}

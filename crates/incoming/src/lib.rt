@@ -1,4 +1,6 @@
-// What a reply says, as one value, and how both of its forms come down to it (document 01, parts 6 to 9 and 11).
+// What a reply says, as one value, and how both of its forms come down to it.
+// Promises: the byte form is refused (1) exactly where its header, its authenticated end or, with NTS, its decrypted fields do not hold.
+// Rule: RULES, parts 6 to 9 and 11; definitions in specs/Incoming.antt.
 use fields::Walked;
 use header::HEADER_BYTES;
 use header::Header;

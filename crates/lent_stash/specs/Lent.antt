@@ -1,4 +1,4 @@
--- A stash that is lent (document 01, part 3): what is read of its slots, what is handed out of one, and what is stored in it.
+-- A stash that is lent (RULES, part 3): what is read of its slots, what is handed out of one, and what is stored in it.
 -- Assumes nothing.
 use Prim.Native.Nat.{ℕ, _+_, _-_, _<_, min}
 use mathlib.Core.Path.{_≡_}

@@ -1,4 +1,6 @@
-// A stash that is lent: it is looked at, a cookie is taken, and a list is stored, where it lies (document 01, part 3). Of its bytes only those are copied that are handed out or change.
+// A stash that is lent: it is looked at, a cookie is taken, and a list is stored, where it lies.
+// Promises: what `cookiestash` promises of a stash by value; proved by hand (tools/walk). Of its bytes only those are copied that are handed out or change.
+// Rule: RULES, part 3; definitions in specs/Lent.antt.
 use cookielist::Entry;
 use cookiestash::CookieStash;
 use cookiestash::Seen;

@@ -1,4 +1,4 @@
--- A log, and what it alone says (document 01, "Slips to keep out"; demand 3): the log holds each call's inputs and number. Nothing here knows a record.
+-- A log, and what it alone says (RULES, "The three demands"): the log holds each call's inputs and number. Nothing here knows a record.
 -- Assumes nothing.
 use mathlib.Core.Bool.{Bool, true, false, cond, not, _&&_, _||_}
 use mathlib.Core.List.{List, [], _∷_}
@@ -6,7 +6,7 @@ use mathlib.Core.Option.{Option, none, some}
 use Prim.Native.Nat.{ℕ, suc}
 use lib.Dec.{T, eqb}
 
--- What document 01 says of the inputs: the request that a sent poll asks for, rule 8 for a reply's identifiers, and its time at most the deadline.
+-- What RULES says of the inputs: the request that a sent poll asks for, part 8 for a reply's identifiers, and its time at most the deadline.
 pub record Rule : Type 1 where
   pub Settings : Type 0
   pub Timer : Type 0

@@ -1,4 +1,4 @@
--- Document 01, the table of numbers: when a reply gives each number, and which answer and record come with it, in the order of the tests.
+-- RULES, "The numbers": when a reply gives each number, and which answer and record come with it, in the order of the tests.
 -- A reply of either form comes down to what is read of it.
 -- Assumes nothing.
 use mathlib.Core.Path.{_≡_}

@@ -1,4 +1,4 @@
--- Document 01, part 11: the answer and the next record of both forms of the call.
+-- RULES, part 11: the answer and the next record of both forms of the call.
 -- Assumes nothing.
 use mathlib.Core.Bool.{cond}
 use mathlib.Core.List.{List}

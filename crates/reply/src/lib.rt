@@ -1,4 +1,6 @@
-// The reply (document 01, part 11): both forms of the call, on a record that the caller lends and on one of its own.
+// The reply: both forms of the call, on a record that the caller lends and on one of its own.
+// Promises: each number exactly under its rule, and the next record; a whole record stays whole, and a refusal leaves it as it was.
+// Rule: RULES, part 11; definitions in specs/Reply.antt, number by number in specs/Numbers.antt.
 use association::Association;
 use cookiestash::CAPACITY;
 use incoming::DecodedReply;

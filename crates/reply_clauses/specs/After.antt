@@ -1,4 +1,4 @@
--- Document 01, parts 8, 9 and 11, clause by clause: when a reply answers what is pending, the state after each kind of reply, and the measurement.
+-- RULES, parts 8, 9 and 11, clause by clause: when a reply answers what is pending, the state after each kind of reply, and the measurement.
 -- Assumes nothing.
 use mathlib.Core.Bool.{Bool, true, false, not, _&&_, _||_, cond}
 use mathlib.Core.List.{List}

@@ -1,4 +1,6 @@
-// The clauses of a reply (document 01, parts 8, 9 and 11): when it answers what is pending, what each kind of it leaves of the state, and the measurement.
+// The clauses of a reply: when it answers what is pending, what each kind of it leaves of the state, and the measurement.
+// Promises: each function is one clause of the rule; what a clause does not name stays.
+// Rule: RULES, parts 8, 9 and 11; definitions in specs/After.antt.
 use association::Effort;
 use association::Pending;
 use association::Polls;
@@ -42,7 +44,7 @@ pub fn live(request: Pending, time: u64) -> bool
     }
 }
 
-// Whether a reply answers the request of an identifier; with NTS also by its unique identifier.
+// Whether a reply answers the request of an identifier; with NTS also by its unique identifier. This is what keeps out replies that are old, doubled or forged.
 pub fn answers(nts: bool, id: u64, reply: Reply) -> bool
     ensures { λ r. ⌜ r ≡ answers nts id reply ⌝ }
 {
@@ -91,7 +93,7 @@ pub fn after_rate_kiss(settings: Settings, s: State) -> State
     next
 }
 
-// A denial is noted.
+// A denial is noted, until a reply is measured: when the timer gives up it then demobilizes instead of beginning again.
 pub fn after_denial(s: State) -> State
     ensures { λ r. ⌜ r ≡ afterDenial s ⌝ }
 {
@@ -102,7 +104,7 @@ pub fn after_denial(s: State) -> State
     next
 }
 
-// V5 raises the remote minimum to a larger poll.
+// A V5 reply says with its poll how seldom the server wants to be asked; it only ever raises the remote minimum.
 fn raised(remote: PollInterval, reply: Reply) -> PollInterval
     ensures { λ r. ⌜ r ≡ raised remote reply ⌝ }
 {
@@ -136,6 +138,7 @@ pub fn after_measured(s: State, reply: Reply) -> State
         refid,
         denial: false,
     };
+    // Nothing is pending any more, so that the same reply, come twice, is not measured twice.
     let request = Pending::none();
     let version = s.version;
     State {

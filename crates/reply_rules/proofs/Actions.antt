@@ -1,4 +1,4 @@
--- The actions that follow from each number are document 01's.
+-- The actions that follow from each number are those of RULES.
 -- Assumes nothing.
 use mathlib.Core.Path.{refl}
 use Rattle.reply_rules.specs.Answer.{actionsOf, ReplyActs}

@@ -1,4 +1,4 @@
--- Document 01's number for each answer to a reply, and the actions that follow from the number.
+-- The number in RULES for each answer to a reply, and the actions that follow from the number.
 -- Assumes nothing.
 use mathlib.Core.Path.{_≡_}
 use mathlib.Core.Bool.{cond}

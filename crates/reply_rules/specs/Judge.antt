@@ -1,4 +1,4 @@
--- Document 01, part 11: the verdict on a reply, of the settings, of the state and of what is seen of the stash. In order 32, 1 (byte form), 33, 2, 3, 4, the upgrade step, then 5 to 11.
+-- RULES, part 11: the verdict on a reply, of the settings, of the state and of what is seen of the stash. In order 32, 1 (byte form), 33, 2, 3, 4, the upgrade step, then 5 to 11.
 -- Assumes nothing.
 use mathlib.Core.Bool.{Bool, true, false, not, cond}
 use mathlib.Core.List.{List}

@@ -1,4 +1,6 @@
-// The rules of a reply (document 01, parts 8, 9 and 11), over the settings, the state and what is seen of the stash: one judge for both forms.
+// The rules of a reply, over the settings, the state and what is seen of the stash: one judge for both forms. `reply` makes the calls of them.
+// Promises: the verdict, with its answer and the next state, is the one of the rule, in its order, and actions follow from its number.
+// Rule: RULES, parts 8, 9 and 11; definitions in specs/Judge.antt and specs/Answer.antt.
 use association::Pending;
 use association::Settings;
 use association::State;
@@ -70,6 +72,7 @@ fn matched(
     ensures { λ r. ⌜ r ≡ matchedOf settings s reply t1 t4 time ⌝ }
 {
     let kisses = reply.kisses;
+    // The timestamps of a kiss need not be right, so nothing is measured of it.
     if kisses.rate {
         let slower = reply_clauses::after_rate_kiss(settings, s);
         return Verdict {
@@ -79,6 +82,7 @@ fn matched(
         };
     }
     if reply_clauses::denies(kisses) {
+        // With NTS a denial that matches is signed. Without, it is easily forged: it is noted, and counts once nothing else is heard.
         if settings.nts {
             return Verdict {
                 answer: ReplyAnswer::DeniedNts,
@@ -93,6 +97,7 @@ fn matched(
             stores: false,
         };
     }
+    // It comes without a signature and is easily forged, so a true reply is still awaited.
     if kisses.ntsn {
         return Verdict {
             answer: ReplyAnswer::Ntsn,
@@ -100,6 +105,7 @@ fn matched(
             stores: false,
         };
     }
+    // A kiss that is not understood asks for nothing.
     if kisses.any {
         return Verdict {
             answer: ReplyAnswer::OtherKiss,
@@ -158,6 +164,7 @@ fn judge(
         };
     }
     let request = s.request;
+    // An expired request stays pending: a clock that goes back may make it live again.
     if !reply_clauses::live(request, time) {
         return Verdict {
             answer: ReplyAnswer::NoLiveRequest,
@@ -165,6 +172,7 @@ fn judge(
             stores: false,
         };
     }
+    // This comes before every kiss. A kiss that answers nothing is not believed: else anybody could stop an association by sending it one.
     if !reply_clauses::answers(settings.nts, request.id, reply) {
         return Verdict {
             answer: ReplyAnswer::NoMatch,
@@ -254,7 +262,7 @@ pub fn judge_decoded(
 }
 
 impl ReplyAnswer {
-    // Document 01's number for the answer.
+    // The number in RULES for the answer.
     pub fn number(self) -> u8
         ensures { λ r. ⌜ r ≡ numberOf self ⌝ }
     {

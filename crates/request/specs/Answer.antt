@@ -1,4 +1,4 @@
--- What the writer answers, and what it leaves in the lent buffer (document 02, No. 1).
+-- What the writer answers, and what it leaves in the lent buffer (RULES, No. 1).
 -- Assumes nothing.
 use Prim.Native.Nat.{ℕ}
 use mathlib.Core.Bool.{_&&_, not, cond}

@@ -1,4 +1,4 @@
--- The packet of a request (document 02, No. 1): RFC 5905, section 7.3, and with NTS RFC 8915, section 5.7.
+-- The packet of a request (RULES, No. 1): RFC 5905, section 7.3, and with NTS RFC 8915, section 5.7.
 -- Assumes nothing.
 use Prim.Native.Nat.{ℕ, _-_}
 use mathlib.Core.Bool.{Bool, true, false, _&&_, cond}

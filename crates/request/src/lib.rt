@@ -1,4 +1,6 @@
-// The request writer (document 02, No. 1): the packet of a poll, up to the place where the caller's authenticator goes.
+// The request writer: the packet of a poll, up to the place where the caller's authenticator goes.
+// Promises: the packet byte by byte, and that nothing else of the buffer is written; nothing at all after a refusal.
+// Rule: RULES, No. 1; definitions in specs/Request.antt, specs/Extension.antt and specs/Answer.antt.
 use collector::COOKIE_KIND;
 use cookielist::MAX_COOKIE;
 use header::HEADER_BYTES;
@@ -43,7 +45,7 @@ pub enum Requested {
 }
 
 impl Requested {
-    // Document 02's number of the answer.
+    // The number of the answer, in RULES.
     pub fn number(self) -> u8
         ensures { λ r. ⌜ r ≡ numberOf self ⌝ }
     {

@@ -1,4 +1,4 @@
--- Document 01, part 10: the timer's answer and next record, and what it leaves in the lent buffer.
+-- RULES, part 10: the timer's answer and next record, and what it leaves in the lent buffer.
 -- Assumes nothing.
 use mathlib.Core.Bool.{cond}
 use mathlib.Core.List.{List}

@@ -1,4 +1,6 @@
-// The timer (document 01, part 10): a poll is sent, or the association gives up.
+// The timer: a poll is sent, or the association gives up. The call is made on a record that the caller lends, or on one of its own.
+// Promises: each number exactly under its rule, the next record and every byte of the buffer; a whole record stays whole.
+// Rule: RULES, part 10; definitions in specs/Timer.antt, number by number in specs/Numbers.antt.
 use association::Association;
 use cookiestash::CAPACITY;
 use time_types::PollInterval;

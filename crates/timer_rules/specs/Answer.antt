@@ -1,4 +1,4 @@
--- Document 01's number for each answer of the timer, and the actions that follow from it.
+-- The number in RULES for each answer of the timer, and the actions that follow from it.
 -- Assumes nothing.
 use mathlib.Core.Path.{_≡_}
 use mathlib.Core.Bool.{_||_, cond}

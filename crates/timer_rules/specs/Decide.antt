@@ -1,4 +1,4 @@
--- Document 01, part 10: what the timer decides, of the settings, of the state and of what is seen of the stash. In order 32, 31, the rest.
+-- RULES, part 10: what the timer decides, of the settings, of the state and of what is seen of the stash. In order 32, 31, the rest.
 -- Assumes nothing.
 use mathlib.Core.Bool.{Bool, true, false, cond}
 use Prim.Native.Nat.{ℕ}

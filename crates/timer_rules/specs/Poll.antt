@@ -1,4 +1,4 @@
--- Document 01, part 10, clause by clause: giving up, the poll that is tried, what is asked for, and the request that it leaves pending.
+-- RULES, part 10, clause by clause: giving up, the poll that is tried, what is asked for, and the request that it leaves pending.
 -- Assumes nothing.
 use mathlib.Core.Bool.{Bool, true, _&&_, cond}
 use mathlib.Core.List.{List}

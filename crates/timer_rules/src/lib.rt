@@ -1,4 +1,6 @@
-// The rules of the timer (document 01, part 10), over the settings, the state and what is seen of the stash.
+// The rules of the timer, over the settings, the state and what is seen of the stash. `timer` makes the call of them.
+// Promises: the decision, with its answer and the next state, is the one of the rule, and actions follow from its number.
+// Rule: RULES, part 10; definitions in specs/Decide.antt, clause by clause in specs/Poll.antt.
 use association::Effort;
 use association::Pending;
 use association::Polls;
@@ -45,7 +47,7 @@ pub struct Decision {
     pub takes: bool,
 }
 
-// Whether nothing was ever answered and the startup limit is reached.
+// Whether none of the last eight polls was answered and the startup limit is reached.
 fn startup_over(settings: Settings, s: State) -> bool
     ensures { λ r. ⌜ r ≡ startupOver settings s ⌝ }
 {
@@ -86,7 +88,7 @@ fn polled(effort: Effort) -> Effort
     }
 }
 
-// Once a poll is tried.
+// Once a poll is tried. Where two polls of V5 came to nothing, V5 does not come through, although both ends can do it: the version falls back.
 fn tried(s: State) -> State
     ensures { λ r. ⌜ r ≡ triedOf s ⌝ }
 {
@@ -107,7 +109,7 @@ fn at_least_one(len: u16) -> u16
     if len == 0 { 1 } else { len }
 }
 
-// How many new cookies are asked for: no more than there is room for, here and in the packet.
+// How many new cookies are asked for: no more than there is room for in the stash, and than fit into a packet whose placeholders are each as long as the cookie.
 fn asked(gap: u8, len: u16) -> u8
     ensures { λ r. ⌜ r ≡ askedOf gap len ⌝ }
 {
@@ -195,6 +197,7 @@ fn decide_nts(settings: Settings, s: State, seen: Seen, input: TimerInput) -> De
         };
     }
     let count = asked(seen.gap, seen.len);
+    // A poll that brings no new cookie would only use the stash up: keys are to be exchanged again.
     if count == 0 {
         return Decision {
             answer: TimerAnswer::CookieTooLarge,
@@ -225,6 +228,7 @@ pub fn decide(settings: Settings, s: State, seen: Seen, input: TimerInput, room:
         };
     }
     if startup_over(settings, s) {
+        // A server that denied us is not asked without end; one that is silent may have moved, so it is looked up again.
         let source = s.source;
         if source.denial {
             return Decision {
@@ -247,7 +251,7 @@ pub fn decide(settings: Settings, s: State, seen: Seen, input: TimerInput, room:
 }
 
 impl TimerAnswer {
-    // Document 01's number for the answer.
+    // The number in RULES for the answer.
     pub fn number(self) -> u8
         ensures { λ r. ⌜ r ≡ numberOf self ⌝ }
     {

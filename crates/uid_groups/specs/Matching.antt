@@ -1,4 +1,4 @@
--- What groups of fields say of the unique identifier, and when a reply's groups match (document 01, part 8; RFC 8915, section 5.3).
+-- What groups of fields say of the unique identifier, and when a reply's groups match (RULES, part 8; RFC 8915, section 5.3).
 -- Assumes nothing.
 use Prim.Native.Nat.{ℕ}
 use mathlib.Core.Path.{_≡_}
@@ -65,7 +65,7 @@ oneAgrees (g ∷ gs) = agrees g || oneAgrees gs
 abbrev pub groupsMatch : List Uid → Bool
 groupsMatch gs = noneDisagrees gs && oneAgrees gs
 
--- rule 8: the authenticated and the encrypted group; the untrusted one joins for an NTSN kiss only, and else is as good as absent
+-- part 8: the authenticated and the encrypted group; the untrusted one joins for an NTSN kiss only, and else is as good as absent
 unfoldable pub uidMatches : Uid → Uid → Uid → Bool → Bool
 uidMatches authenticated encrypted untrusted ntsn = groupsMatch (authenticated ∷ encrypted ∷ cond ntsn untrusted Absent ∷ [])
 

@@ -1,4 +1,6 @@
-// What groups of fields say of the unique identifier, and when they match (rule 8).
+// What groups of fields say of the unique identifier, and when they match.
+// Promises: a group agrees, disagrees or is absent exactly as its fields do; an untrusted group never counts but for NTSN.
+// Rule: RULES, part 8; definitions in specs/Matching.antt.
 use fields::Step;
 use header::HEADER_BYTES;
 ghost use mathlib.Core.Path.{_≡_};
@@ -124,7 +126,7 @@ fn joined(a: Uid, b: Uid) -> Uid
     }
 }
 
-// The untrusted group is looked at for an NTSN kiss only.
+// The untrusted group is looked at for an NTSN kiss only: a server that cannot read our cookie has no key to authenticate its answer with.
 fn looked_at(untrusted: Uid, ntsn: bool) -> Uid
     ensures { λ r. ⌜ r ≡ cond ntsn untrusted Uid.Absent ⌝ }
 {

@@ -1,4 +1,4 @@
--- Document 01, part 10: the send names one of five kinds. With NTS an upgrading association sends NTS V5.
+-- RULES, part 10: the send names one of five kinds. With NTS an upgrading association sends NTS V5.
 -- Assumes nothing.
 use mathlib.Core.Bool.{Bool, cond}
 use Rattle.version.specs.declared.ProtocolVersion.{ProtocolVersion}

@@ -1,4 +1,4 @@
--- The walker (document 01, what must change shape): the caller's bytes and an offset, and a field's body as that part of the packet itself.
+-- The walker (RULES, "What must change shape"): the caller's bytes and an offset, and a field's body as that part of the packet itself.
 -- Assumes nothing.
 use Prim.Native.Nat.{ℕ, _+_, _≤_}
 use mathlib.Core.Path.{_≡_}

@@ -1,4 +1,6 @@
-// Runs the cases of the wire (document 01, parts 6 to 9; document 02, No. 1) and prints a line for each; tools/wire_cases.py writes what must be printed.
+// A program that runs the cases of the wire and prints a line for each; tools/wire_cases.py writes what must be printed.
+// Promises: it ends and stays in its bounds. What it prints is tested, not proved (docs/EXCEPTIONS.md).
+// Rule: RULES, parts 6 to 9 and No. 1.
 mod build;
 mod collector_cases;
 mod header_cases;

@@ -1,4 +1,4 @@
-// The request writer (document 02, No. 1) into buffers of every edge: its number, and every byte that it leaves in the lent buffer.
+// The request writer (RULES, No. 1) into buffers of every edge: its number, and every byte that it leaves in the lent buffer.
 use crate::build;
 use crate::out;
 use time_types::PollInterval;

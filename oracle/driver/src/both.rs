@@ -4,12 +4,12 @@ use crate::rules::{self, Rules};
 use crate::state::*;
 use ntp_proto::tls_utils::identifier_of;
 
-/// Document 01 over the crate, by the name that a log's reasons carry.
+/// RULES over the crate, by the name that a log's reasons carry.
 pub const REASONS: [(&str, &str); 4] = [
-    ("field-under-16", "a V4 field of length 4, 8 or 12: broken by rule 7 (RFC 7822), read by the crate"),
-    ("placeholder-not-zero", "a 0304 field whose body is not all zero: rule 7 looks at no body, the crate refuses it"),
-    ("0404-decrypted", "a 0404 field among the decrypted ones: rule 7 looks at no type, the crate refuses it"),
-    ("rate-at-127", "RATE at the remote minimum 127: rule 11's sum never wraps, the crate's wraps to -128"),
+    ("field-under-16", "a V4 field of length 4, 8 or 12: broken by part 7 (RFC 7822), read by the crate"),
+    ("placeholder-not-zero", "a 0304 field whose body is not all zero: part 7 looks at no body, the crate refuses it"),
+    ("0404-decrypted", "a 0404 field among the decrypted ones: part 7 looks at no type, the crate refuses it"),
+    ("rate-at-127", "RATE at the remote minimum 127: part 11's sum never wraps, the crate's wraps to -128"),
 ];
 
 pub struct Step {

@@ -189,7 +189,7 @@ impl Log {
         writeln!(self.drill, "# {text}").unwrap();
     }
 
-    /// A command with an answer that stands in document 01 alone.
+    /// A command with an answer that stands in RULES alone.
     pub fn own(&mut self, command: &str, answer: &str) {
         self.put(command, answer, answer, None);
     }

@@ -1,4 +1,4 @@
-//! Runs operations on the published NtpSource and brings what it did to document 01's numbers and record.
+//! Runs operations on the published NtpSource and brings what it did to the numbers and the record of RULES.
 use crate::rules;
 use crate::state::*;
 use ntp_proto::tls_utils::{FakeCipher, NtpHeader, Record, set_now, set_window};
@@ -7,7 +7,7 @@ use ntp_proto::*;
 use std::net::SocketAddr;
 use std::panic::{AssertUnwindSafe, catch_unwind};
 
-/// The number that stands for a panic of the crate; document 01 has none such.
+/// The number that stands for a panic of the crate; RULES has none such.
 pub const PANIC: u8 = 255;
 
 /// The controller that gives the desired poll exponent and keeps the measurement.
@@ -245,7 +245,7 @@ impl Exec {
                 let poll = source.record().last_poll;
                 Answer { number: 20, sent: Some(sent(p, poll, id, nts.then_some(uid), oldest)), measured: None }
             }
-            _ => panic!("actions that document 01 does not name"),
+            _ => panic!("actions that RULES does not name"),
         }
     }
 
@@ -287,13 +287,13 @@ impl Exec {
                 t if t.contains("invalid mode") => 11,
                 t => panic!("no number for the event {t}"),
             },
-            _ => panic!("actions that document 01 does not name"),
+            _ => panic!("actions that RULES does not name"),
         };
         assert_eq!(measured.is_some(), number == 0);
         Answer { number, sent: None, measured }
     }
 
-    /// What the crate draws from a packet; where it refuses a V4 one, the caller's part is that of rule 7's walk, since
+    /// What the crate draws from a packet; where it refuses a V4 one, what the caller hands over is that of part 7's walk, since
     /// the rule may still decode it.
     fn draw(&mut self, packet: &[u8]) -> Drawn {
         let mut d = Drawn { auth: 48, ..Drawn::default() };
@@ -349,7 +349,7 @@ impl Exec {
         d
     }
 
-    /// Authenticated end and decrypted bytes by rule 7's walk: 0 where a 0404 field is broken, is met without NTS or does
+    /// Authenticated end and decrypted bytes by part 7's walk: 0 where a 0404 field is broken, is met without NTS or does
     /// not decrypt; it stops behind decrypted fields that are broken, as the crate does.
     fn callers_part(&self, packet: &[u8]) -> (usize, Vec<u8>) {
         let (mut auth, mut plain) = (48, vec![]);

@@ -1,4 +1,4 @@
-//! Runs the published crate and document 01's rules side by side and writes what the drill must answer.
+//! Runs the published crate and the rules (RULES) side by side and writes what the drill must answer.
 mod both;
 mod drill;
 mod exec;

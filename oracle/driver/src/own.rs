@@ -1,4 +1,4 @@
-//! What document 01 says of its own, so that no crate answers it: settings, lists, buffers and records that are refused
+//! What RULES says of its own, so that no crate answers it: settings, lists, buffers and records that are refused
 //! (30 to 33), the caller's part of a reply, the collector's limit, another upgrade mark. The answers are written by hand.
 use crate::drill::Log;
 use crate::state::hex;
@@ -295,7 +295,7 @@ fn decoded_form(log: &mut Log) {
     }
 }
 
-/// Writes what document 01 alone answers.
+/// Writes what RULES alone answers.
 pub fn write(log: &mut Log) {
     settings(log);
     wholeness(log);

@@ -45,7 +45,7 @@ impl Rng {
 /// What is generated.
 #[derive(Clone, Copy, Default)]
 pub struct Manner {
-    /// Fields of odd lengths and types, odd tails: where rule 7 and the crate part.
+    /// Fields of odd lengths and types, odd tails: where part 7 and the crate differ.
     pub wild: bool,
     /// Numbers of the record set by hand between the steps.
     pub set: bool,

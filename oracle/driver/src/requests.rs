@@ -1,7 +1,7 @@
 //! Lines of the request writer, and what the published crate sends for each. A packet is built by the crate's own function
 //! (`poll_message`, `poll_message_upgrade_request` and `nts_poll_message` of packet/mod.rs), which draws the line's
 //! identifier and uid from the queue of random numbers, and written by the crate's own `NtpPacket::serialize`; with NTS it is
-//! cut where its 0404 field starts. What the crate does not have is document 02's rule, and such a line is listed with its
+//! cut where its 0404 field starts. What the crate does not have is the rule of RULES, No. 1, and such a line is listed with its
 //! reason: the refusals, and a mark that is not the crate's, for which the crate's eight bytes are replaced.
 use crate::drill::{Log, uid_text};
 use crate::exec::Controller;
@@ -56,7 +56,7 @@ impl Request {
         self.kind.starts_with("nts-")
     }
 
-    /// Document 02's first two refusals, and why the crate has no answer there.
+    /// The first two refusals of RULES, No. 1, and why the crate has no answer there.
     fn refused(&self) -> Option<(&'static str, &'static str)> {
         if self.kind.ends_with("v5") {
             Some(("request 50", "v5-kind"))
@@ -84,7 +84,7 @@ impl Request {
             "v4" => NtpPacket::poll_message(poll),
             "v4-upgrade" => NtpPacket::poll_message_upgrade_request(poll),
             "nts-v4" => NtpPacket::nts_poll_message(&self.cookie, self.asked, poll),
-            other => panic!("document 02 refuses {other}"),
+            other => panic!("RULES, No. 1, refuses {other}"),
         };
         assert_eq!(rand::oracle::left(), (0, 0));
         // The serialiser's buffer is dirty, so that every byte is one that it wrote, and has space for any 0404 field.
@@ -270,7 +270,7 @@ pub fn write(log: &mut Log, seed: u64, count: u64) {
     }
 }
 
-/// What the crate does where document 02 refuses; docs/DIFFERENCES.md cites it.
+/// What the crate does where RULES, No. 1, refuses; docs/DIFFERENCES.md cites it.
 #[cfg(test)]
 mod tests {
     use super::*;

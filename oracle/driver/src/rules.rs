@@ -1,4 +1,4 @@
-//! Document 01's rules in Rust, set against the crate step by step. They only decide where a difference is listed.
+//! The rules (RULES) in Rust, set against the crate step by step. They only decide where a difference is listed.
 use crate::state::*;
 
 #[derive(Debug, Clone, PartialEq, Eq)]
@@ -18,7 +18,7 @@ fn name(s: &[u8; 4]) -> u32 {
 /// Fields as type, start and body, and where the walk ended.
 type Walk<'a> = (Vec<(u16, usize, &'a [u8])>, usize);
 
-/// Rule 7's walk with a least field length and a longest tail; none if broken.
+/// Part 7's walk with a least field length and a longest tail; none if broken.
 pub fn walk(b: &[u8], from: usize, least: usize, tail: usize) -> Option<Walk<'_>> {
     let mut at = from;
     let mut out = vec![];
@@ -39,13 +39,13 @@ pub fn walk(b: &[u8], from: usize, least: usize, tail: usize) -> Option<Walk<'_>
     }
 }
 
-/// Rule 7's collector, without its limit.
+/// Part 7's collector, without its limit.
 pub fn collect(plain: &[u8]) -> Option<Vec<Vec<u8>>> {
     let (fields, _) = walk(plain, 0, 4, 0)?;
     Some(fields.into_iter().filter(|f| f.0 == 0x0204).map(|f| f.2.to_vec()).collect())
 }
 
-/// Rule 8's state of one group: absent, agree or disagree.
+/// Part 8's state of one group: absent, agree or disagree.
 fn uid_group<'a>(bodies: impl Iterator<Item = &'a [u8]>, uid: &[u8; 32]) -> Option<bool> {
     bodies.fold(None, |s, b| Some(s != Some(false) && b.starts_with(uid)))
 }
@@ -73,7 +73,7 @@ impl Rules {
         r
     }
 
-    /// Rule 3.
+    /// RULES, part 3.
     fn store(&mut self, list: &[Vec<u8>]) {
         let s = &mut self.state;
         for c in list {
@@ -85,7 +85,7 @@ impl Rules {
         }
     }
 
-    /// Rule 10.
+    /// RULES, part 10.
     pub fn timer(&mut self, now: u64, desired: i8, id: u64, uid: &[u8; 32]) -> Answer {
         let number = |number| Answer { number, ..Answer::default() };
         let s = &mut self.state;
@@ -125,7 +125,7 @@ impl Rules {
         Answer { number: 20, sent: Some(Sent { kind, poll: s.last, cookie, asked }), measured: None }
     }
 
-    /// Rule 11, byte form.
+    /// RULES, part 11, byte form.
     #[expect(clippy::too_many_arguments)]
     pub fn reply(&mut self, p: &[u8], auth: usize, plain: &[u8], list: &[Vec<u8>], t1: u64, t4: u64, now: u64) -> Answer {
         match self.read(p, auth, plain) {
@@ -175,7 +175,7 @@ impl Rules {
         })
     }
 
-    /// Rule 11, decoded form; the reference identifier stays XNON, as in the crate.
+    /// RULES, part 11, decoded form; the reference identifier stays XNON, as in the crate.
     pub fn reply5(&mut self, d: &Decoded, list: &[Vec<u8>], t1: u64, t4: u64, now: u64) -> Answer {
         self.matched(5, false, name(b"XNON"), d, list, t1, t4, now)
     }
@@ -272,7 +272,7 @@ impl Rules {
         Answer { number: 0, sent: None, measured: Some(measured) }
     }
 
-    /// Rule 12.
+    /// RULES, part 12.
     pub fn accept(&self, stratum: u8, local: &[u32], bloom: Bloom) -> Answer {
         let s = &self.state;
         let number = if s.stratum >= stratum {

@@ -1,4 +1,4 @@
-//! Operations, answers and the association's record in document 01's terms; crate and rules are both brought to them.
+//! Operations, answers and the association's record in the terms of RULES; crate and rules are both brought to them.
 pub use ntp_proto::ProtocolVersion as Version;
 use std::net::IpAddr;
 

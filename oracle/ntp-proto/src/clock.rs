@@ -46,7 +46,7 @@ impl Sub for Instant {
 }
 
 impl AddAssign<Duration> for Instant {
-    /// The standard library panics where the sum does not fit; document 01 rule 10 holds it at 2^64-1, and so does this.
+    /// The standard library panics where the sum does not fit; RULES, part 10, holds it at 2^64-1, and so does this.
     fn add_assign(&mut self, rhs: Duration) {
         assert_eq!(rhs, Duration::from_secs(5), "only POLL_WINDOW is ever added");
         self.0 = self.0.saturating_add(WINDOW.get());

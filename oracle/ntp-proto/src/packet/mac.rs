@@ -1,5 +1,5 @@
 //! Stands for packet/mac.rs, which is not among the published files: a V4 tail of at most 24 bytes is a MAC of any
-//! content, as document 01 rule 7 has it, and the tail of a V3 packet has any length.
+//! content, as RULES, part 7, has it, and the tail of a V3 packet has any length.
 use std::borrow::Cow;
 
 use super::error::ParsingError;
