@@ -7,7 +7,7 @@ ghost use Prim.Native.Nat.{_≤_};
 ghost use Rattle.fields.specs.Field.{stepAt, packetStep, decryptedStep};
 ghost use Rattle.fields.specs.Walk.{broken, onStep, walkOf, packetWalk, decryptedWalk, walkedOf, isPlace};
 
-// The length that a field of a packet has at least, and that a tail has at most.
+// The length that a field of a packet has at least, and that a tail has at most: what is no longer than a MAC is taken for one, and not for a field.
 const PACKET_LEAST: usize = 16;
 
 const PACKET_TAIL: usize = 24;

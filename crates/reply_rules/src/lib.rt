@@ -120,6 +120,7 @@ fn matched(
             stores: false,
         };
     }
+    // Only a server's answer is measured: no other mode is spoken here.
     if !reply.server {
         return Verdict {
             answer: ReplyAnswer::NotServer,

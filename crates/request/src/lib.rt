@@ -119,6 +119,7 @@ fn field_length(len: usize) -> usize
     if long < 16 { 16 } else { long }
 }
 
+// The header of a request. Its transmit timestamp is not the time but the random identifier: nobody can guess it, and a true reply brings it back.
 fn request_header(kind: SendKind, poll: PollInterval, id: u64, upgrademark: u64) -> Header
     ensures { λ r. ⌜ r ≡ headerFor kind poll id upgrademark ⌝ }
 {
