@@ -4,12 +4,13 @@ use crate::rules::{self, Rules};
 use crate::state::*;
 use ntp_proto::tls_utils::identifier_of;
 
-/// Document 01 over the crate, by the name that a log's reasons carry.
-pub const REASONS: [(&str, &str); 4] = [
+/// Documents 01 and 02 over the crate, by the name that a log's reasons carry.
+pub const REASONS: [(&str, &str); 5] = [
     ("field-under-16", "a V4 field of length 4, 8 or 12: broken by rule 7 (RFC 7822), read by the crate"),
     ("placeholder-not-zero", "a 0304 field whose body is not all zero: rule 7 looks at no body, the crate refuses it"),
     ("0404-decrypted", "a 0404 field among the decrypted ones: rule 7 looks at no type, the crate refuses it"),
     ("rate-at-127", "RATE at the remote minimum 127: rule 11's sum never wraps, the crate's wraps to -128"),
+    ("served-by-us", "a source of stratum 2 or more that reports one of our identifiers: 41 by No. 2, no loop to the crate"),
 ];
 
 pub struct Step {
@@ -70,7 +71,14 @@ impl Both {
             .is_none_or(|d| !d.decoded || d.v5.is_some() || rules::collect(&d.plain).is_some_and(|list| list == d.cookies));
         let mut step = Step { of_crate, of_rules, drawn, reason: None, failed: !collected, left_out };
         if step.of_crate != step.of_rules {
-            step.reason = listed(op, &step, before.as_ref());
+            step.reason = before.as_ref().and_then(|before| match op {
+                Op::Reply { packet, .. } => listed_reply(packet, &step, before),
+                Op::Accept { stratum, local, bloom } => {
+                    let local: Vec<u32> = local.iter().map(|ip| identifier_of(*ip)).collect();
+                    listed_accept(*stratum, &local, *bloom, rules.source, &step, before)
+                }
+                _ => None,
+            });
             step.failed |= step.reason.is_none();
         }
         match step.reason {
@@ -81,9 +89,9 @@ impl Both {
     }
 }
 
-/// The listed reason for a step where crate and rules differ, recognised by its cause and by its effect.
-fn listed(op: &Op, step: &Step, before: Option<&State>) -> Option<&'static str> {
-    let (Op::Reply { packet, .. }, Some(d), Some(before)) = (op, &step.drawn, before) else { return None };
+/// The listed reason for a reply on which crate and rules differ, recognised by its cause and by its effect.
+fn listed_reply(packet: &[u8], step: &Step, before: &State) -> Option<&'static str> {
+    let d = step.drawn.as_ref()?;
     let ((of_crate, after_crate), (of_rules, after_rules)) = (&step.of_crate, &step.of_rules);
     let refused = of_crate.number == 1 && after_crate == before;
     let fields = || rules::walk(packet, 48, 16, 24).into_iter().chain(rules::walk(&d.plain, 0, 4, 0)).flat_map(|w| w.0);
@@ -118,4 +126,16 @@ fn listed(op: &Op, step: &Step, before: Option<&State>) -> Option<&'static str> 
         return Some(REASONS[3].0);
     }
     None
+}
+
+/// The same for an acceptance: the source reports one of our identifiers and nothing else makes it a loop, so the crate's
+/// answer hangs on reach alone; ours is 41, and neither changes the record.
+fn listed_accept(stratum: u8, local: &[u32], bloom: Bloom, source: u32, step: &Step, before: &State) -> Option<&'static str> {
+    let ((of_crate, after_crate), (of_rules, after_rules)) = (&step.of_crate, &step.of_rules);
+    let cause = (2..stratum).contains(&before.stratum)
+        && local.contains(&before.refid)
+        && !local.contains(&source)
+        && bloom != Bloom::Present;
+    let effect = of_crate.number == if before.reach == 0 { 42 } else { 0 } && of_rules.number == 41;
+    (cause && effect && after_crate == before && after_rules == before).then_some(REASONS[4].0)
 }

@@ -1,4 +1,4 @@
-//! Document 01's rules in Rust, set against the crate step by step. They only decide where a difference is listed.
+//! Document 01's rules, with what document 02 has changed in them, in Rust, set against the crate step by step. They only decide where a difference is listed.
 use crate::state::*;
 
 #[derive(Debug, Clone, PartialEq, Eq)]
@@ -272,12 +272,14 @@ impl Rules {
         Answer { number: 0, sent: None, measured: Some(measured) }
     }
 
-    /// Rule 12.
+    /// Rule 12, amended by document 02, No. 2: the reported identifier is compared too, from stratum 2 up.
     pub fn accept(&self, stratum: u8, local: &[u32], bloom: Bloom) -> Answer {
         let s = &self.state;
+        let is_ours = s.stratum != 1 && local.contains(&self.source);
+        let served_by_us = s.stratum >= 2 && local.contains(&s.refid);
         let number = if s.stratum >= stratum {
             40
-        } else if (s.stratum != 1 && local.contains(&self.source)) || bloom == Bloom::Present {
+        } else if is_ours || served_by_us || bloom == Bloom::Present {
             41
         } else if s.reach == 0 {
             42
