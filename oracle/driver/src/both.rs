@@ -139,3 +139,72 @@ fn listed_accept(stratum: u8, local: &[u32], bloom: Bloom, source: u32, step: &S
     let effect = of_crate.number == if before.reach == 0 { 42 } else { 0 } && of_rules.number == 41;
     (cause && effect && after_crate == before && after_rules == before).then_some(REASONS[4].0)
 }
+
+#[cfg(test)]
+mod tests {
+    use super::*;
+    use std::net::{IpAddr, Ipv4Addr};
+
+    const SOURCE: u32 = 0xc0000201;
+    const XNON: u32 = u32::from_be_bytes(*b"XNON");
+
+    fn address(identifier: u32) -> IpAddr {
+        IpAddr::V4(Ipv4Addr::from(identifier))
+    }
+
+    /// The numbers of the crate and of the rules for a source that reports XNON, and the reason.
+    fn told(stratum: u8, reach: u8, local: &[u32], bloom: Bloom) -> (u8, u8, Option<&'static str>) {
+        let mut both = Both::new();
+        let source = address(SOURCE);
+        both.step(&Op::New {
+            nts: false,
+            min: 4,
+            max: 10,
+            startup: 3,
+            window: 5000,
+            start: Version::V4,
+            source,
+            cookies: vec![],
+        });
+        both.step(&Op::Poke(vec![("stratum", stratum as i64), ("reach", reach as i64)]));
+        let local = local.iter().map(|i| address(*i)).collect();
+        let step = both.step(&Op::Accept { stratum: 17, local, bloom });
+        assert!(!step.failed);
+        (step.of_crate.0.number, step.of_rules.0.number, step.reason)
+    }
+
+    #[test]
+    fn the_crate_accepts_a_source_that_we_serve() {
+        let reason = Some("served-by-us");
+        assert_eq!(told(2, 1, &[XNON], Bloom::None), (0, 41, reason));
+        assert_eq!(told(16, 0, &[1, XNON], Bloom::Absent), (42, 41, reason));
+        assert_eq!(told(0, 1, &[XNON], Bloom::None), (0, 0, None));
+        assert_eq!(told(1, 1, &[XNON, SOURCE], Bloom::None), (0, 0, None));
+        assert_eq!(told(2, 1, &[XNON, SOURCE], Bloom::None), (41, 41, None));
+        assert_eq!(told(2, 1, &[XNON], Bloom::Present), (41, 41, None));
+        assert_eq!(told(17, 1, &[XNON], Bloom::None), (40, 40, None));
+    }
+
+    /// Another cause, another effect and a changed record have no reason.
+    #[test]
+    fn nothing_else_passes_for_a_source_that_we_serve() {
+        let before = Rules::new(false, 4, 10, 3, 5000, Version::V4, SOURCE, &[]).state;
+        let listed = |stratum, local: &[u32], bloom, numbers: (u8, u8), after: &State| {
+            let side = |number| (Answer { number, ..Answer::default() }, after.clone());
+            let (of_crate, of_rules) = (side(numbers.0), side(numbers.1));
+            let step = Step { of_crate, of_rules, drawn: None, reason: None, failed: false, left_out: false };
+            listed_accept(stratum, local, bloom, SOURCE, &step, &before)
+        };
+        // A new association: stratum 16, XNON, not reached.
+        assert!(listed(17, &[XNON], Bloom::None, (42, 41), &before).is_some());
+        assert!(listed(16, &[XNON], Bloom::None, (42, 41), &before).is_none());
+        assert!(listed(17, &[SOURCE, XNON], Bloom::None, (42, 41), &before).is_none());
+        assert!(listed(17, &[1], Bloom::None, (42, 41), &before).is_none());
+        assert!(listed(17, &[XNON], Bloom::Present, (42, 41), &before).is_none());
+        for numbers in [(0, 41), (40, 41), (42, 0), (42, 40)] {
+            assert!(listed(17, &[XNON], Bloom::None, numbers, &before).is_none());
+        }
+        let touched = State { reach: 1, ..before.clone() };
+        assert!(listed(17, &[XNON], Bloom::None, (42, 41), &touched).is_none());
+    }
+}
