@@ -30,15 +30,33 @@ isPresent NoFilter = false
 isPresent Absent = false
 isPresent Present = true
 
--- stratum ≠ 1 and the source's own identifier is among the local ones (as the crate compares it), or Bloom says present
-abbrev pub loops : ℕ → ℕ → List ℕ → Bloom → Bool
-loops stratum id local bloom = (not (eqb stratum 1) && among id local) || isPresent bloom
+-- stratum ≠ 1 and the source's own identifier is among the local ones
+abbrev pub isOurs : ℕ → ℕ → List ℕ → Bool
+isOurs stratum id local = not (eqb stratum 1) && among id local
+
+-- stratum ≥ 2 and the reference identifier that the source reports is among the local ones (No. 2)
+abbrev pub servedByUs : ℕ → ℕ → List ℕ → Bool
+servedByUs stratum refid local = leb 2 stratum && among refid local
+
+-- the loop test: either of the two hits, or Bloom says present
+abbrev pub loops : ℕ → ℕ → ℕ → List ℕ → Bloom → Bool
+loops stratum id refid local bloom = (isOurs stratum id local || servedByUs stratum refid local) || isPresent bloom
 
 -- 40 if stratum ≥ local stratum; 41 for a loop; 42 if reach is 0
-unfoldable pub acceptOf : Association → ℕ → List ℕ → Bloom → AcceptAnswer
-acceptOf a stratum local bloom =
+abbrev pub acceptBy : Bool → Association → ℕ → AcceptAnswer
+acceptBy loop a stratum =
     cond (wholeOf a)
     (cond (leb stratum (a .state .source .stratum)) Stratum
-    (cond (loops (a .state .source .stratum) (a .settings .source .0) local bloom) Loop
+    (cond loop Loop
     (cond (reachableOf (a .state .effort .reach)) Accepted Unreachable)))
     NotWhole
+
+unfoldable pub acceptOf : Association → ℕ → List ℕ → Bloom → AcceptAnswer
+acceptOf a stratum local bloom = acceptBy (loops (a .state .source .stratum) (a .settings .source .0) (a .state .source .refid .0) local bloom) a stratum
+
+-- the crate's rule, which does not look at what the source reports; only theorems cite it (docs/DIFFERENCES.md)
+abbrev pub crateLoops : ℕ → ℕ → List ℕ → Bloom → Bool
+crateLoops stratum id local bloom = isOurs stratum id local || isPresent bloom
+
+unfoldable pub crateAcceptOf : Association → ℕ → List ℕ → Bloom → AcceptAnswer
+crateAcceptOf a stratum local bloom = acceptBy (crateLoops (a .state .source .stratum) (a .settings .source .0) local bloom) a stratum

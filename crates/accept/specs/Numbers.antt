@@ -11,7 +11,7 @@ use Rattle.association.specs.Record.{wholeOf}
 use Rattle.accept.specs.declared.Bloom.{Bloom}
 use Rattle.accept.specs.declared.AcceptAnswer.{AcceptAnswer}
 use Rattle.accept.specs.declared.AcceptAnswer.the-variants.{Accepted, Stratum, Loop, Unreachable, NotWhole}
-use Rattle.accept.specs.Accept.{loops}
+use Rattle.accept.specs.Accept.{isPresent, isOurs, servedByUs, loops}
 
 module _ (a : Association) (stratum : ℕ) (local : List ℕ) (bloom : Bloom) where
   -- ---- the tests that a source has passed, each with those before it
@@ -24,12 +24,14 @@ module _ (a : Association) (stratum : ℕ) (local : List ℕ) (bloom : Bloom) wh
   -- nor 41
   pub record Unlooped : Type 0 where
     pub below : Below
-    pub free : loops (a .state .source .stratum) (a .settings .source .0) local bloom ≡ false
+    pub free : loops (a .state .source .stratum) (a .settings .source .0) (a .state .source .refid .0) local bloom ≡ false
 
   -- ---- the numbers, each with its answer
   pub data Given : ℕ → AcceptAnswer → Type 0 where
     not-whole : wholeOf a ≡ false → Given 32 NotWhole
     too-high : wholeOf a ≡ true → leb stratum (a .state .source .stratum) ≡ true → Given 40 Stratum
-    looped : Below → loops (a .state .source .stratum) (a .settings .source .0) local bloom ≡ true → Given 41 Loop
+    ours : Below → isOurs (a .state .source .stratum) (a .settings .source .0) local ≡ true → Given 41 Loop
+    served-by-us : Below → servedByUs (a .state .source .stratum) (a .state .source .refid .0) local ≡ true → Given 41 Loop
+    in-the-filter : Below → isPresent bloom ≡ true → Given 41 Loop
     unreached : Unlooped → reachableOf (a .state .effort .reach) ≡ false → Given 42 Unreachable
     accepted : Unlooped → reachableOf (a .state .effort .reach) ≡ true → Given 0 Accepted

@@ -3,7 +3,7 @@
 // Rule: RULES, part 12; definitions in specs/Accept.antt, number by number in specs/Numbers.antt.
 use association::Association;
 ghost use mathlib.Core.Path.{_≡_};
-ghost use Rattle.accept.specs.Accept.{among, isPresent, loops, numberOf, acceptOf};
+ghost use Rattle.accept.specs.Accept.{among, isPresent, isOurs, servedByUs, loops, numberOf, acceptOf};
 
 // What the caller's Bloom filter says of us: there is none, or we are absent from it, or present.
 pub enum Bloom {
@@ -58,15 +58,29 @@ fn is_present(bloom: Bloom) -> bool
     }
 }
 
-// Whether the source gets its time from us: each would then follow the other. A source of stratum 1 has a clock of its own, so its identifier is not looked at.
-fn is_loop(stratum: u8, id: u32, local: &[u32], bloom: Bloom) -> bool
-    ensures { λ r. ⌜ r ≡ loops stratum id (now (local .entry)) bloom ⌝ }
+// Whether the source is one of us. A source of stratum 1 has a clock of its own, so its identifier is not looked at.
+fn is_ours(stratum: u8, id: u32, local: &[u32]) -> bool
+    ensures { λ r. ⌜ r ≡ isOurs stratum id (now (local .entry)) ⌝ }
 {
-    if stratum != 1 {
-        if is_among(id, local) {
-            return true;
-        }
-        return is_present(bloom);
+    if stratum != 1 { is_among(id, local) } else { false }
+}
+
+// Whether the source says that it gets its time from us; below stratum 2 what it reports is a name and no address.
+fn served_by_us(stratum: u8, refid: u32, local: &[u32]) -> bool
+    ensures { λ r. ⌜ r ≡ servedByUs stratum refid (now (local .entry)) ⌝ }
+{
+    if 2 <= stratum { is_among(refid, local) } else { false }
+}
+
+// Whether our own time would come back to us.
+fn is_loop(stratum: u8, id: u32, refid: u32, local: &[u32], bloom: Bloom) -> bool
+    ensures { λ r. ⌜ r ≡ loops stratum id refid (now (local .entry)) bloom ⌝ }
+{
+    if is_ours(stratum, id, local) {
+        return true;
+    }
+    if served_by_us(stratum, refid, local) {
+        return true;
     }
     is_present(bloom)
 }
@@ -85,7 +99,8 @@ pub fn accept(a: Association, stratum: u8, local: &[u32], bloom: Bloom) -> Accep
     }
     let settings = a.settings;
     let own = settings.source;
-    if is_loop(source.stratum, own.0, local, bloom) {
+    let reported = source.refid;
+    if is_loop(source.stratum, own.0, reported.0, local, bloom) {
         return AcceptAnswer::Loop;
     }
     let effort = state.effort;

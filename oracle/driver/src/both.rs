@@ -5,11 +5,12 @@ use crate::state::*;
 use ntp_proto::tls_utils::identifier_of;
 
 /// RULES over the crate, by the name that a log's reasons carry.
-pub const REASONS: [(&str, &str); 4] = [
+pub const REASONS: [(&str, &str); 5] = [
     ("field-under-16", "a V4 field of length 4, 8 or 12: broken by part 7 (RFC 7822), read by the crate"),
     ("placeholder-not-zero", "a 0304 field whose body is not all zero: part 7 looks at no body, the crate refuses it"),
     ("0404-decrypted", "a 0404 field among the decrypted ones: part 7 looks at no type, the crate refuses it"),
     ("rate-at-127", "RATE at the remote minimum 127: part 11's sum never wraps, the crate's wraps to -128"),
+    ("served-by-us", "a source of stratum 2 or more that reports one of our identifiers: 41 by No. 2, no loop to the crate"),
 ];
 
 pub struct Step {
@@ -70,7 +71,14 @@ impl Both {
             .is_none_or(|d| !d.decoded || d.v5.is_some() || rules::collect(&d.plain).is_some_and(|list| list == d.cookies));
         let mut step = Step { of_crate, of_rules, drawn, reason: None, failed: !collected, left_out };
         if step.of_crate != step.of_rules {
-            step.reason = listed(op, &step, before.as_ref());
+            step.reason = before.as_ref().and_then(|before| match op {
+                Op::Reply { packet, .. } => listed_reply(packet, &step, before),
+                Op::Accept { stratum, local, bloom } => {
+                    let local: Vec<u32> = local.iter().map(|ip| identifier_of(*ip)).collect();
+                    listed_accept(*stratum, &local, *bloom, rules.source, &step, before)
+                }
+                _ => None,
+            });
             step.failed |= step.reason.is_none();
         }
         match step.reason {
@@ -81,9 +89,9 @@ impl Both {
     }
 }
 
-/// The listed reason for a step where crate and rules differ, recognised by its cause and by its effect.
-fn listed(op: &Op, step: &Step, before: Option<&State>) -> Option<&'static str> {
-    let (Op::Reply { packet, .. }, Some(d), Some(before)) = (op, &step.drawn, before) else { return None };
+/// The listed reason for a reply on which crate and rules differ, recognised by its cause and by its effect.
+fn listed_reply(packet: &[u8], step: &Step, before: &State) -> Option<&'static str> {
+    let d = step.drawn.as_ref()?;
     let ((of_crate, after_crate), (of_rules, after_rules)) = (&step.of_crate, &step.of_rules);
     let refused = of_crate.number == 1 && after_crate == before;
     let fields = || rules::walk(packet, 48, 16, 24).into_iter().chain(rules::walk(&d.plain, 0, 4, 0)).flat_map(|w| w.0);
@@ -118,4 +126,85 @@ fn listed(op: &Op, step: &Step, before: Option<&State>) -> Option<&'static str> 
         return Some(REASONS[3].0);
     }
     None
+}
+
+/// The same for an acceptance: the source reports one of our identifiers and nothing else makes it a loop, so the crate's
+/// answer hangs on reach alone; ours is 41, and neither changes the record.
+fn listed_accept(stratum: u8, local: &[u32], bloom: Bloom, source: u32, step: &Step, before: &State) -> Option<&'static str> {
+    let ((of_crate, after_crate), (of_rules, after_rules)) = (&step.of_crate, &step.of_rules);
+    let cause = (2..stratum).contains(&before.stratum)
+        && local.contains(&before.refid)
+        && !local.contains(&source)
+        && bloom != Bloom::Present;
+    let effect = of_crate.number == if before.reach == 0 { 42 } else { 0 } && of_rules.number == 41;
+    (cause && effect && after_crate == before && after_rules == before).then_some(REASONS[4].0)
+}
+
+#[cfg(test)]
+mod tests {
+    use super::*;
+    use std::net::{IpAddr, Ipv4Addr};
+
+    const SOURCE: u32 = 0xc0000201;
+    const XNON: u32 = u32::from_be_bytes(*b"XNON");
+
+    fn address(identifier: u32) -> IpAddr {
+        IpAddr::V4(Ipv4Addr::from(identifier))
+    }
+
+    /// The numbers of the crate and of the rules for a source that reports XNON, and the reason.
+    fn told(stratum: u8, reach: u8, local: &[u32], bloom: Bloom) -> (u8, u8, Option<&'static str>) {
+        let mut both = Both::new();
+        let source = address(SOURCE);
+        both.step(&Op::New {
+            nts: false,
+            min: 4,
+            max: 10,
+            startup: 3,
+            window: 5000,
+            start: Version::V4,
+            source,
+            cookies: vec![],
+        });
+        both.step(&Op::Poke(vec![("stratum", stratum as i64), ("reach", reach as i64)]));
+        let local = local.iter().map(|i| address(*i)).collect();
+        let step = both.step(&Op::Accept { stratum: 17, local, bloom });
+        assert!(!step.failed);
+        (step.of_crate.0.number, step.of_rules.0.number, step.reason)
+    }
+
+    #[test]
+    fn the_crate_accepts_a_source_that_we_serve() {
+        let reason = Some("served-by-us");
+        assert_eq!(told(2, 1, &[XNON], Bloom::None), (0, 41, reason));
+        assert_eq!(told(16, 0, &[1, XNON], Bloom::Absent), (42, 41, reason));
+        assert_eq!(told(0, 1, &[XNON], Bloom::None), (0, 0, None));
+        assert_eq!(told(1, 1, &[XNON, SOURCE], Bloom::None), (0, 0, None));
+        assert_eq!(told(2, 1, &[XNON, SOURCE], Bloom::None), (41, 41, None));
+        assert_eq!(told(2, 1, &[XNON], Bloom::Present), (41, 41, None));
+        assert_eq!(told(17, 1, &[XNON], Bloom::None), (40, 40, None));
+    }
+
+    /// Another cause, another effect and a changed record have no reason.
+    #[test]
+    fn nothing_else_passes_for_a_source_that_we_serve() {
+        let before = Rules::new(false, 4, 10, 3, 5000, Version::V4, SOURCE, &[]).state;
+        let listed = |stratum, local: &[u32], bloom, numbers: (u8, u8), after: &State| {
+            let side = |number| (Answer { number, ..Answer::default() }, after.clone());
+            let (of_crate, of_rules) = (side(numbers.0), side(numbers.1));
+            let step = Step { of_crate, of_rules, drawn: None, reason: None, failed: false, left_out: false };
+            listed_accept(stratum, local, bloom, SOURCE, &step, &before)
+        };
+        // A new association: stratum 16, XNON, not reached.
+        assert!(listed(17, &[XNON], Bloom::None, (42, 41), &before).is_some());
+        assert!(listed(16, &[XNON], Bloom::None, (42, 41), &before).is_none());
+        assert!(listed(17, &[SOURCE, XNON], Bloom::None, (42, 41), &before).is_none());
+        assert!(listed(17, &[1], Bloom::None, (42, 41), &before).is_none());
+        assert!(listed(17, &[XNON], Bloom::Present, (42, 41), &before).is_none());
+        for numbers in [(0, 41), (40, 41), (42, 0), (42, 40)] {
+            assert!(listed(17, &[XNON], Bloom::None, numbers, &before).is_none());
+        }
+        let touched = State { reach: 1, ..before.clone() };
+        assert!(listed(17, &[XNON], Bloom::None, (42, 41), &touched).is_none());
+    }
 }

@@ -3,7 +3,7 @@ use crate::both::Both;
 use crate::drill::Log;
 use crate::random::{field, seal};
 use crate::state::*;
-use ntp_proto::tls_utils::FakeCipher;
+use ntp_proto::tls_utils::{FakeCipher, identifier_of};
 use std::net::{IpAddr, Ipv4Addr, Ipv6Addr};
 
 const ID: u64 = 0x0102030405060708;
@@ -251,6 +251,53 @@ impl Cases<'_> {
             self.poke(&[("remote", remote), ("last", 4)]);
             self.reply(V4.kiss(b"RATE").bytes());
         }
+        let (a, b) = (Ipv4Addr::new(10, 0, 0, 1), Ipv4Addr::new(10, 0, 0, 2));
+        for (own, source, stratum) in [(b, a, 2), (a, b, 3)] {
+            self.asked(
+                &format!("two boxes that serve each other: {own} asks {source}, of stratum {stratum}"),
+                Start { source: IpAddr::V4(source), ..plain() },
+                Header { stratum, refid: own.octets(), ..V4 }.bytes(),
+            );
+            self.accept(16, &[IpAddr::V4(own)], Bloom::None);
+        }
+    }
+
+    /// Which of the two identifiers is compared, by stratum: the source's own, and the one that it reports.
+    fn loops(&mut self) {
+        let own = plain().source;
+        let v6 = IpAddr::V6(Ipv6Addr::new(0x2001, 0xdb8, 0, 0, 0, 0, 0, 9));
+        let other = IpAddr::V4(Ipv4Addr::new(192, 0, 2, 2));
+        let v4 = IpAddr::V4(Ipv4Addr::new(192, 0, 2, 9));
+        for (stratum, reported) in [(0, v4), (1, v4), (2, v4), (2, v6), (3, v4), (16, v4)] {
+            let refid = identifier_of(reported).to_be_bytes();
+            // A reply of stratum 0 is a kiss and not measured, so stratum 0 is set by hand.
+            self.asked(
+                &format!("stratum {stratum}, {own} reports {reported}"),
+                plain(),
+                Header { stratum: stratum.max(1), refid, ..V4 }.bytes(),
+            );
+            self.poke(&[("stratum", stratum as i64)]);
+            for local in [&[other][..], &[own], &[reported], &[own, reported], &[other, reported, other]] {
+                for bloom in [Bloom::None, Bloom::Absent, Bloom::Present] {
+                    self.accept(17, local, bloom);
+                }
+            }
+            self.accept(stratum, &[reported], Bloom::None);
+            self.accept(stratum + 1, &[reported], Bloom::None);
+            self.poke(&[("reach", 0)]);
+            for local in [other, own, reported] {
+                self.accept(17, &[local], Bloom::None);
+            }
+        }
+        let xnon = IpAddr::V4(Ipv4Addr::from(*b"XNON"));
+        for stratum in [1, 2] {
+            self.begin(&format!("XNON among ours, V5, stratum {stratum}"), Start { start: Version::V5, ..plain() });
+            self.accept(17, &[xnon], Bloom::None);
+            self.timer();
+            self.reply(Header { stratum, ..V5 }.v5());
+            self.accept(17, &[xnon], Bloom::None);
+            self.accept(17, &[other], Bloom::None);
+        }
     }
 
     fn decrypted(&mut self) {
@@ -490,7 +537,7 @@ impl Cases<'_> {
                 self.asked(
                     &format!("stratum {stratum} from {source}, acceptance"),
                     Start { source, ..plain() },
-                    Header { stratum, ..V4 }.bytes(),
+                    Header { stratum, refid: [192, 0, 2, 9], ..V4 }.bytes(),
                 );
                 for own in [0, 1, 2, 3, 15, 16, 17, 255] {
                     self.accept(own, &[], Bloom::None);
@@ -635,6 +682,7 @@ pub fn write(log: &mut Log) {
     c.counters();
     c.polls();
     c.strata();
+    c.loops();
     // What a slot stores is seen in the cookies alone.
     let shown = std::mem::replace(&mut c.log.shown, (1, 1));
     c.cookies();

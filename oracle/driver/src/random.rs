@@ -66,12 +66,15 @@ pub struct Random {
     pending: Option<(u64, [u8; 32], u64)>,
     version: Version,
     stratum: u8,
+    refid: u32,
     denial: bool,
     previous: Option<Vec<u8>>,
     /// The remote minimum was just set to 127, where RATE has an edge.
     rate_next: bool,
 }
 
+/// The reference identifier that a new association and a V5 reply leave in the record.
+const XNON: u32 = u32::from_be_bytes(*b"XNON");
 const LENGTHS: [usize; 18] = [0, 1, 4, 15, 16, 64, 88, 90, 91, 92, 100, 104, 180, 362, 363, 724, 725, 1000];
 const SHORT_LENGTHS: [usize; 8] = [0, 1, 4, 16, 24, 90, 91, 100];
 
@@ -90,6 +93,7 @@ impl Random {
             pending: None,
             version: Version::V4,
             stratum: 16,
+            refid: XNON,
             denial: false,
             previous: None,
             rate_next: false,
@@ -161,6 +165,7 @@ impl Random {
         self.pending = s.pending;
         self.version = s.version;
         self.stratum = s.stratum;
+        self.refid = s.refid;
         self.denial = s.denial;
     }
 
@@ -193,9 +198,13 @@ impl Random {
 
     fn accept(&mut self) -> Op {
         let mut local: Vec<IpAddr> = (0..self.r.below(3)).map(|_| self.address()).collect();
-        if self.r.one_in(2) {
-            let at = self.r.below(local.len() as u64 + 1) as usize;
-            local.insert(at, self.source);
+        // Own identifier, reported one and XNON each by itself or beside others: every way in which a loop is told or not.
+        let reported = IpAddr::V4(Ipv4Addr::from(self.refid));
+        for (address, often) in [(self.source, 3), (reported, 3), (IpAddr::V4(Ipv4Addr::from(XNON)), 8)] {
+            if self.r.one_in(often) {
+                let at = self.r.below(local.len() as u64 + 1) as usize;
+                local.insert(at, address);
+            }
         }
         let (s, above) = (self.stratum, self.stratum.saturating_add(1));
         let stratum = self.r.pick(&[16, 16, 0, 1, 2, 5, 10, 17, 255, s, above]);
@@ -209,7 +218,7 @@ impl Random {
             ("tries", self.r.below(256) as i64),
             ("tries", self.r.pick(&[0, 254, 255])),
             ("stratum", self.r.next() as u8 as i64),
-            ("stratum", self.r.pick(&[1, 16])),
+            ("stratum", self.r.pick(&[0, 1, 2, 16])),
             ("last", self.r.next() as i8 as i64),
             ("remote", self.r.pick(&[127, 126, 12, -128, -1, 0, 5, 17, 18])),
         ];

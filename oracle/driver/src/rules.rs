@@ -272,12 +272,14 @@ impl Rules {
         Answer { number: 0, sent: None, measured: Some(measured) }
     }
 
-    /// RULES, part 12.
+    /// RULES, part 12, with No. 2: the reported identifier is compared too, from stratum 2 up.
     pub fn accept(&self, stratum: u8, local: &[u32], bloom: Bloom) -> Answer {
         let s = &self.state;
+        let is_ours = s.stratum != 1 && local.contains(&self.source);
+        let served_by_us = s.stratum >= 2 && local.contains(&s.refid);
         let number = if s.stratum >= stratum {
             40
-        } else if (s.stratum != 1 && local.contains(&self.source)) || bloom == Bloom::Present {
+        } else if is_ours || served_by_us || bloom == Bloom::Present {
             41
         } else if s.reach == 0 {
             42

@@ -30,7 +30,7 @@ is-loop-requires c κs = search needs
 returns-3 : tie.Need-returns-3
 unfolding acceptOf
 returns-3 c =
-    let s = c .before .before .before .before in
+    let s = c .before .before .before .before .before in
     rw (whole (s .before .before .before .before), lt-leb _ _ (s .if2 .left), sym (c .before .is-loop .ensures) ∙ c .if3 .taken)
 
 is-reachable-requires : tie.Need-is-reachable-requires
@@ -40,14 +40,14 @@ returns-4 : tie.Need-returns-4
 unfolding acceptOf
 returns-4 c =
     let l = c .before .before .before .before in
-    let s = l .before .before .before .before in
+    let s = l .before .before .before .before .before in
     rw (whole (s .before .before .before .before), lt-leb _ _ (s .if2 .left), sym (l .before .is-loop .ensures) ∙ l .if3 .left, sym (c .before .is-reachable .ensures) ∙ not-true _ (c .if4 .taken))
 
 returns-5 : tie.Need-returns-5
 unfolding acceptOf
 returns-5 c =
     let l = c .before .before .before .before in
-    let s = l .before .before .before .before in
+    let s = l .before .before .before .before .before in
     rw (whole (s .before .before .before .before), lt-leb _ _ (s .if2 .left), sym (l .before .is-loop .ensures) ∙ l .if3 .left, sym (c .before .is-reachable .ensures) ∙ not-false _ (c .if4 .left))
 
 pub accept-spec : {M : Type 1} → statement M
