@@ -468,6 +468,9 @@ class Callee:
 
 # ---- the function
 
+# the end of a function that ensures nothing
+SILENT = 'silent !'
+
 MOD = 'module _ {M : Type 1} (𝓤 : URA M) (H : Heap 𝓤) (A : Atoms 𝓤) (W : Given 𝓤 H A) (at-mem : Memory → SProp 𝓤) (run : Routine → Fun 𝓤)'
 
 HEAD = '''use mathlib.Core.Path.{_≡_, refl, sym, _∙_, ap, subst}
@@ -627,7 +630,7 @@ class Fn:
             items['last ' + n] = '‵ (finally u8 (%s .name) zs)' % n
         self.keep = keep
         given = ([] if unit else [('r', self.result.den)]) + ([('w', self.rec)] if self.kind == 'mut' else []) + [('zs', 'List ℕ') for _ in self.buffers]
-        hyps = ([] if unit else [('is', self.result.Is('r'))]) + [('n', 'length zs ≡ length (%s .now)' % n) for n in self.buffers] + [('e', self.says)]
+        hyps = ([] if unit else [('is', self.result.Is('r'))]) + [('n', 'length zs ≡ length (%s .now)' % n) for n in self.buffers] + ([('e', self.says)] if self.says else [])
         its = listed(items[x] for x in keep)
         v = self.result.v('r')
         lasts = ['w' if self.kind == 'mut' else 'tt'] + ['zs' if n in self.buffers else 'tt' for n, _ in self.params]
@@ -644,8 +647,8 @@ class Fn:
         t += w.joined(['ref'], 'acc', 'fjoin')
         t += 'feqI ! (List Val) (vunit ∷ []) (vunit ∷ []) refl $ ' if unit else self.result.owned('r', 'is')
         o = '  -- how it ends\n  exits : %s%sent 𝓤 (⋆ 𝓤 H A (%s)) (Post %s)\n' % (''.join('(%s : %s) ' % g for g in given) + ('→ ' if given else ''), ''.join('%s → ' % atom(t) for _, t in hyps), its, atom(v))
-        o += '  exits %s =\n      qed W (%s) ∵\n      suffices ! _ (ends-at 𝓤 H A self.ended stayed (self.clauses 𝓤 H A at-mem run) W %s %s %s %s %s) $ says ! e $\n      %smove ! (1 ∷ 0 ∷ []) $ done !\n\n' % (
-            ' '.join(n for n, _ in given + hyps), its, self.ghost, atom(v), 'tt' if unit else 'r', tup(lasts), tup(fits), t)
+        o += '  exits %s =\n      qed W (%s) ∵\n      suffices ! _ (ends-at 𝓤 H A self.ended stayed (self.clauses 𝓤 H A at-mem run) W %s %s %s %s %s) $ %s $\n      %smove ! (1 ∷ 0 ∷ []) $ done !\n\n' % (
+            ' '.join(n for n, _ in given + hyps), its, self.ghost, atom(v), 'tt' if unit else 'r', tup(lasts), tup(fits), 'says ! e' if self.says else SILENT, t)
         return o
 
     def laid_out(self):
