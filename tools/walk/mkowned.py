@@ -88,7 +88,7 @@ class Config:
         self.types = ''.join(f' {p.type}' for p in self.params if not p.buffer)
         self.E, self.few = ('EL', ' tt') if c['answer']['is'] == 'enum' else ('LL', '')
         self.answer, self.next = c['answer']['field'], c['next']['field']
-        self.decl = sorted({p.kind.split()[1] for p in self.params if p.kind.split()[0] in ('struct', 'enum')} - {self.rec, self.out, self.ans})
+        self.decl = sorted({p.kind.split()[1] for p in self.params if p.kind.split()[0] in ('struct', 'enum')} - {self.rec, self.out})
 
     def binders(self):
         """the other arguments' values in the walk, and what they are put at"""
@@ -119,7 +119,7 @@ use prog.Memory.{Memory}
 use prog.Routine.{Routine}
 use prog.Wp.{Heap, Calls, Loops, WpFn, Tables}
 use ghost.Atoms.{Atoms, sem}
-use contract.Monad.{Fun, fact}
+use contract.Monad.{Fun, fact, factI}
 use contract.Running.{givenOf, tables, tablesOf}
 use types.SemTy.{Body}
 use sound.WpLaws.{FmC, fmOf, WpFn-mono}
@@ -141,7 +141,9 @@ use denote.Triple.Call.{calls-from}
 use denote.Triple.Clauses.{ensured, lasts}
 use denote.Triple.Table.{entered, cited}
 use denote.Exit.{yes}'''.split('\n') + more), key=lambda u: u.split('{')[0])
-        for module, names in c['definitions'].items():
+        if 'fn_says' not in c:
+            o.append(f'use Rattle.{self.crate}.proofs.Lent.{{silent}}')
+        for module, names in c.get('definitions', {}).items():
             own, _, module = module.rpartition('.')
             o.append(f'use {f"Rattle.{own}.specs" if own else f"Rattle.{self.crate}.specs"}.{module}.{{{", ".join(names)}}}')
         for t in dict.fromkeys([self.rec, self.out, self.ans] + self.decl):
@@ -311,7 +313,8 @@ module _ (Rec Ans : RattleType) (rec : Rec .Denot → Val) (ans : Ans .Denot →
     tokens = f'({tokens})'
     z, zv = tup([p.name for p in ps]), tup([f'{p.val(p.name)} ∷ []' for p in ps])
     rows = listed(p.row for p in ps)
-    fact = lambda record, last: c['fn_says'].replace('$RECORD', 'h').replace('$NEXT', record).replace('$LAST', last)
+    silent = 'fn_says' not in c
+    fact = lambda record, last: c.get('fn_says', 'Unit {0}').replace('$RECORD', 'h').replace('$NEXT', record).replace('$LAST', last)
     long = f'length last ≡ length ({buf.name} .now)' if K else ''
     says = f'({fact("w", "last")}) × ({long})' if K else fact('w', '')
     fin = f' ∷ ‵ (finally u8 ({buf.name} .name) last)' if K else ''
@@ -320,7 +323,7 @@ module _ (Rec Ans : RattleType) (rec : Rec .Denot → Val) (ans : Ans .Denot →
     last_type = prod([g.rec] + ['List ℕ' if p.buffer else 'Unit {0}' for p in ps])
     last = path('w', 1 + g.buffer) if K else ''
     known = fact('(w .0)', last)
-    here = f'use1 W (some (λ (w : {last_type}). ‵ (lasts core.ended {κc} (lent l δ, z) w) ⊛ raw (fact 𝓤 ({known})))) (id⊢ 𝓤 _) $ pick ! (λ w. split ! $ move ! (1 ∷ []) $ heard ! ({known}) (λ e. fsplit ! $ move ! (1 ∷ []) $'
+    here = f'use1 W (some (λ (w : {last_type}). ‵ (lasts core.ended {κc} (lent l δ, z) w) ⊛ raw ({"emp 𝓤" if silent else f"fact 𝓤 ({known})"}))) (id⊢ 𝓤 _) $ pick ! (λ w. split ! $ move ! (1 ∷ []) ${" use1 W (raw (fact 𝓤 (Unit {0}))) (factI 𝓤 (Unit {0}) (emp 𝓤) tt) $" if silent else ""} heard ! ({known}) (λ e. fsplit ! $ move ! (1 ∷ []) $'
     res = '‵ (fres δ (Rec.the-row .coded .code w))'
     said = f"""  abbrev Last : List ℕ → SProp 𝓤
   Last last = sem 𝓤 H A (finally u8 ({buf.name} .name) last)
@@ -369,7 +372,7 @@ module _ {{M : Type 1}} (𝓤 : URA M) (H : Heap 𝓤) (A : Atoms 𝓤) (W : Giv
   exits : (r : {g.ans}) (w : {g.rec}) →{" (last : List ℕ) →" if K else ""} Is Ans.the-row r (ans r ∷ []) → Is Rec.the-row w (rec w ∷ []) → {says} → ent 𝓤 (⋆ 𝓤 H A ({tokens}{fin} ∷ [])) (Post (out ({made})))
   exits r w{" last" if K else ""} is g {"(e, long)" if K else "e"} =
       qed W ({tokens}{fin} ∷ []) ∵ suffices ! _ (ends-at 𝓤 H A self.ended stayed (self.clauses 𝓤 H A at-mem run) W (({κs}, {qs}, tt, (h, z), (rec h ∷ [], zv)), tt) (out ({made})) ({made}) {tup(["tt"] + ["last" if p.buffer else "tt" for p in ps])} {tup(["tt"] + ["long" if p.buffer else "tt" for p in ps])}) $
-      says ! ({c["owned_says"]}) $ frame ! $ nothing ! $ {"".join("move ! (1 ∷ 0 ∷ []) $ fjoin ! $ " if p.buffer else "nothing ! $ fjoin ! $ " for p in reversed(ps))}nothing ! $ fjoin ! $
+      {"silent !" if silent else f"says ! ({c['owned_says']})"} $ frame ! $ nothing ! $ {"".join("move ! (1 ∷ 0 ∷ []) $ fjoin ! $ " if p.buffer else "nothing ! $ fjoin ! $ " for p in reversed(ps))}nothing ! $ fjoin ! $
       owned ! Out.the-row (Is Out.the-row) (LL.makes Out.the-type Out′.the-plain 𝓤 H A) ({made}) _ (made r w is g) $ move ! (1 ∷ 0 ∷ []) $ done !
 
   -- the record, lent at l for the lifetime α under the name δ, and what the thin call is given of it and of the other arguments
