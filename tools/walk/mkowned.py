@@ -28,7 +28,7 @@ def slice_of(lifetime, μ):
 class Param:
     """One parameter behind the record: its row, MIR type, denotation, machine value and laws."""
 
-    def __init__(self, name, kind, lft):
+    def __init__(self, name, kind, lft, ans):
         self.name, self.kind, self.lft = name, kind, None
         v, w = name, W.get(kind[1:]) if kind[0] in 'ui' else None
         if w and kind[0] == 'u':
@@ -42,9 +42,10 @@ class Param:
             self.vals, self.tells, self.lawful = 'bool-vals', 'bool-tells', 'bool-lawful 𝓤 H A W'
         elif kind.split()[0] in ('struct', 'enum'):
             s = kind.split()[1]
+            m = 'Ans' if s == ans else s + '·'   # its module
             L, few = ('LL', '') if kind.startswith('struct') else ('EL', ' tt')
-            self.row, self.den, self.mir, self.val = f'{s}·.the-row', s, f'{s}·′.mir', lambda x: f'{L}.val {s}·.the-type {s}·′.the-laws {x}'
-            self.vals, self.tells, self.lawful = f'{L}.vals {s}·.the-type {s}·′.the-laws', f'{L}.tells {s}·.the-type {s}·′.the-laws', f'{L}.lawful {s}·.the-type {s}·′.the-laws 𝓤 H A W{few}'
+            self.row, self.den, self.mir, self.val = f'{m}.the-row', s, f'{m}′.mir', lambda x: f'{L}.val {m}.the-type {m}′.the-laws {x}'
+            self.vals, self.tells, self.lawful = f'{L}.vals {m}.the-type {m}′.the-laws', f'{L}.tells {m}.the-type {m}′.the-laws', f'{L}.lawful {m}.the-type {m}′.the-laws 𝓤 H A W{few}'
         elif kind.startswith('bytes '):
             n = kind.split()[1]
             self.row, self.den, self.mir, self.val = f'Array u8 {n}', 'List ℕ', f'tyArray (tyInt w8) {n}', lambda x: f'only (array-vals (uint-vals w8) {x})'
@@ -81,14 +82,14 @@ class Config:
         self.params, lft = [], 0
         for nm, kind in c['params']:
             lft += kind in ('shr', 'mut')
-            self.params.append(Param(nm, kind, lft))
+            self.params.append(Param(nm, kind, lft, self.ans))
         self.lfts = lft
         self.buffer = next((j for j, p in enumerate(self.params) if p.buffer), None)
         self.K = int(self.buffer is not None)   # at most one buffer
         self.types = ''.join(f' {p.type}' for p in self.params if not p.buffer)
         self.E, self.few = ('EL', ' tt') if c['answer']['is'] == 'enum' else ('LL', '')
         self.answer, self.next = c['answer']['field'], c['next']['field']
-        self.decl = sorted({p.kind.split()[1] for p in self.params if p.kind.split()[0] in ('struct', 'enum')} - {self.rec, self.out})
+        self.decl = sorted({p.kind.split()[1] for p in self.params if p.kind.split()[0] in ('struct', 'enum')} - {self.rec, self.out, self.ans})
 
     def binders(self):
         """the other arguments' values in the walk, and what they are put at"""

@@ -61,8 +61,6 @@ use Rattle.time_types.proofs.NtpTimestamp as NtpTimestamp·
 use Rattle.time_types.proofs.NtpTimestamp.Laws as NtpTimestamp·′
 use Rattle.calls.proofs.Put as Put·
 use Rattle.calls.proofs.Put.Laws as Put·′
-use Rattle.reply_rules.proofs.ReplyAnswer as ReplyAnswer·
-use Rattle.reply_rules.proofs.ReplyAnswer.Laws as ReplyAnswer·′
 use Rattle.calls.proofs.replies as core
 use Rattle.calls.proofs.replies.Symbol as core-def
 use Rattle.calls.proofs.replies.Symbol.{name as #calls·replies}
@@ -163,7 +161,7 @@ module _ (Rec Ans : RattleType) (rec : Rec .Denot → Val) (ans : Ans .Denot →
 
 -- what is had at exit: nothing
 abbrev stayed : Stays (self.ended .signature .params) (self.ended .kept)
-stayed = (stay-dropped (plain (λ _. Rec.the-row)) yes, (stay-dropped (plain (λ _. u64)) yes, (stay-dropped (plain (λ _. bool)) yes, (stay-dropped (plain (λ _. ReplyAnswer·.the-row)) yes, (stay-dropped (plain (λ _. Put·.the-row)) yes, (stay-dropped (plain (λ _. bool)) yes, (stay-dropped (shrSliceOf (0 ∷ []) tt (plain (λ _. u8))) yes, (stay-dropped (plain (λ _. usize)) yes, (stay-dropped (shrSliceOf (1 ∷ []) tt (plain (λ _. u8))) yes, (stay-dropped (shrSliceOf (2 ∷ []) tt (plain (λ _. u8))) yes, (stay-dropped (plain (λ _. NtpTimestamp·.the-row)) yes, (stay-dropped (plain (λ _. NtpTimestamp·.the-row)) yes, (stay-dropped (plain (λ _. u64)) yes, tt)))))))))))))
+stayed = (stay-dropped (plain (λ _. Rec.the-row)) yes, (stay-dropped (plain (λ _. u64)) yes, (stay-dropped (plain (λ _. bool)) yes, (stay-dropped (plain (λ _. Ans.the-row)) yes, (stay-dropped (plain (λ _. Put·.the-row)) yes, (stay-dropped (plain (λ _. bool)) yes, (stay-dropped (shrSliceOf (0 ∷ []) tt (plain (λ _. u8))) yes, (stay-dropped (plain (λ _. usize)) yes, (stay-dropped (shrSliceOf (1 ∷ []) tt (plain (λ _. u8))) yes, (stay-dropped (shrSliceOf (2 ∷ []) tt (plain (λ _. u8))) yes, (stay-dropped (plain (λ _. NtpTimestamp·.the-row)) yes, (stay-dropped (plain (λ _. NtpTimestamp·.the-row)) yes, (stay-dropped (plain (λ _. u64)) yes, tt)))))))))))))
 
 -- the machine values of a record, of an answer and of the two
 abbrev rec : Association → Val
@@ -183,12 +181,12 @@ abbrev Core : {M : Type 1} (𝓤 : URA M) (H : Heap 𝓤) (A : Atoms 𝓤) (at-m
 Core 𝓤 H A at-mem run = tripleOf 𝓤 H A core.signature (core.spec 𝓤 H A at-mem run)
 
 module _ {M : Type 1} (𝓤 : URA M) (H : Heap 𝓤) (A : Atoms 𝓤) (W : Given 𝓤 H A) (at-mem : Memory → SProp 𝓤) (run : Routine → Fun 𝓤) (κ1 κ2 κ3 : Lft) (q1 q2 q3 : Share) (h : Association) (calls : ℕ) (calling : Bool) (before : ReplyAnswer) (put : Put) (stores : Bool) (packet : RefT (List ℕ)) (end : ℕ) (decrypted : RefT (List ℕ)) (list : RefT (List ℕ)) (t1 : NtpTimestamp) (t4 : NtpTimestamp) (time : ℕ)
-    (h-is : Is Rec.the-row h (rec h ∷ [])) (calls-is : Is (u64) calls (vint w64 calls ∷ [])) (calling-is : Is (bool) calling (vbool calling ∷ [])) (before-is : Is (ReplyAnswer·.the-row) before (EL.val ReplyAnswer·.the-type ReplyAnswer·′.the-laws before ∷ [])) (put-is : Is (Put·.the-row) put (LL.val Put·.the-type Put·′.the-laws put ∷ [])) (stores-is : Is (bool) stores (vbool stores ∷ [])) (packet-is : Is (ShrSlice (named 0) κ1 u8) packet (sliceVal (packet .ptr) (length (packet .now)) ∷ [])) (end-is : Is (usize) end (vint w64 end ∷ [])) (decrypted-is : Is (ShrSlice (named 1) κ2 u8) decrypted (sliceVal (decrypted .ptr) (length (decrypted .now)) ∷ [])) (list-is : Is (ShrSlice (named 2) κ3 u8) list (sliceVal (list .ptr) (length (list .now)) ∷ [])) (t1-is : Is (NtpTimestamp·.the-row) t1 (LL.val NtpTimestamp·.the-type NtpTimestamp·′.the-laws t1 ∷ [])) (t4-is : Is (NtpTimestamp·.the-row) t4 (LL.val NtpTimestamp·.the-type NtpTimestamp·′.the-laws t4 ∷ [])) (time-is : Is (u64) time (vint w64 time ∷ [])) where
+    (h-is : Is Rec.the-row h (rec h ∷ [])) (calls-is : Is (u64) calls (vint w64 calls ∷ [])) (calling-is : Is (bool) calling (vbool calling ∷ [])) (before-is : Is (Ans.the-row) before (EL.val Ans.the-type Ans′.the-laws before ∷ [])) (put-is : Is (Put·.the-row) put (LL.val Put·.the-type Put·′.the-laws put ∷ [])) (stores-is : Is (bool) stores (vbool stores ∷ [])) (packet-is : Is (ShrSlice (named 0) κ1 u8) packet (sliceVal (packet .ptr) (length (packet .now)) ∷ [])) (end-is : Is (usize) end (vint w64 end ∷ [])) (decrypted-is : Is (ShrSlice (named 1) κ2 u8) decrypted (sliceVal (decrypted .ptr) (length (decrypted .now)) ∷ [])) (list-is : Is (ShrSlice (named 2) κ3 u8) list (sliceVal (list .ptr) (length (list .now)) ∷ [])) (t1-is : Is (NtpTimestamp·.the-row) t1 (LL.val NtpTimestamp·.the-type NtpTimestamp·′.the-laws t1 ∷ [])) (t4-is : Is (NtpTimestamp·.the-row) t4 (LL.val NtpTimestamp·.the-type NtpTimestamp·′.the-laws t4 ∷ [])) (time-is : Is (u64) time (vint w64 time ∷ [])) where
   abbrev z : ℕ × (Bool × (ReplyAnswer × (Put × (Bool × (RefT (List ℕ) × (ℕ × (RefT (List ℕ) × (RefT (List ℕ) × (NtpTimestamp × (NtpTimestamp × (ℕ × Unit {0})))))))))))
   z = (calls, (calling, (before, (put, (stores, (packet, (end, (decrypted, (list, (t1, (t4, (time, tt))))))))))))
 
   abbrev zv : List Val × (List Val × (List Val × (List Val × (List Val × (List Val × (List Val × (List Val × (List Val × (List Val × (List Val × (List Val × Unit {0})))))))))))
-  zv = (vint w64 calls ∷ [], (vbool calling ∷ [], (EL.val ReplyAnswer·.the-type ReplyAnswer·′.the-laws before ∷ [], (LL.val Put·.the-type Put·′.the-laws put ∷ [], (vbool stores ∷ [], (sliceVal (packet .ptr) (length (packet .now)) ∷ [], (vint w64 end ∷ [], (sliceVal (decrypted .ptr) (length (decrypted .now)) ∷ [], (sliceVal (list .ptr) (length (list .now)) ∷ [], (LL.val NtpTimestamp·.the-type NtpTimestamp·′.the-laws t1 ∷ [], (LL.val NtpTimestamp·.the-type NtpTimestamp·′.the-laws t4 ∷ [], (vint w64 time ∷ [], tt))))))))))))
+  zv = (vint w64 calls ∷ [], (vbool calling ∷ [], (EL.val Ans.the-type Ans′.the-laws before ∷ [], (LL.val Put·.the-type Put·′.the-laws put ∷ [], (vbool stores ∷ [], (sliceVal (packet .ptr) (length (packet .now)) ∷ [], (vint w64 end ∷ [], (sliceVal (decrypted .ptr) (length (decrypted .now)) ∷ [], (sliceVal (list .ptr) (length (list .now)) ∷ [], (LL.val NtpTimestamp·.the-type NtpTimestamp·′.the-laws t1 ∷ [], (LL.val NtpTimestamp·.the-type NtpTimestamp·′.the-laws t4 ∷ [], (vint w64 time ∷ [], tt))))))))))))
 
   abbrev Post : Val → SProp 𝓤
   Post = walkOf 𝓤 H A self.ended stayed (self.clauses 𝓤 H A at-mem run) .post (((κ1, (κ2, (κ3, tt))), (q1, (q2, (q3, tt))), tt, (h, z), (rec h ∷ [], zv)), tt)
@@ -204,14 +202,14 @@ module _ {M : Type 1} (𝓤 : URA M) (H : Heap 𝓤) (A : Atoms 𝓤) (W : Given
   lent l δ = record { ptr = (l, 0); name = δ; now = h }
 
   abbrev Own : SProp 𝓤
-  Own = mean 𝓤 H A (‵ (owns (u64 ∷ bool ∷ ReplyAnswer·.the-row ∷ Put·.the-row ∷ bool ∷ ShrSlice (named 0) κ1 u8 ∷ usize ∷ ShrSlice (named 1) κ2 u8 ∷ ShrSlice (named 2) κ3 u8 ∷ NtpTimestamp·.the-row ∷ NtpTimestamp·.the-row ∷ u64 ∷ []) z zv) ⊛ (‵ (flft κ1 q1) ⊛ ‵ (flft κ2 q2) ⊛ ‵ (flft κ3 q3) ⊛ ‵ ftrue))
+  Own = mean 𝓤 H A (‵ (owns (u64 ∷ bool ∷ Ans.the-row ∷ Put·.the-row ∷ bool ∷ ShrSlice (named 0) κ1 u8 ∷ usize ∷ ShrSlice (named 1) κ2 u8 ∷ ShrSlice (named 2) κ3 u8 ∷ NtpTimestamp·.the-row ∷ NtpTimestamp·.the-row ∷ u64 ∷ []) z zv) ⊛ (‵ (flft κ1 q1) ⊛ ‵ (flft κ2 q2) ⊛ ‵ (flft κ3 q3) ⊛ ‵ ftrue))
 
   abbrev to-core : ℕ → ℕ → GName → Core 𝓤 H A at-mem run .Ghost
   to-core α l δ = (((α ∷ [], (κ1, (κ2, (κ3, tt)))), (fullShare, (q1, (q2, (q3, tt)))), tt, (lent l δ, z), (vptr l 0 ∷ [], zv)), tt)
 
   goes-core : (α l : ℕ) (δ : GName) → ent 𝓤 (⋆ 𝓤 H A (‵ (flft (α ∷ []) fullShare) ∷ ‵ (MutRef (named 0) (α ∷ []) Rec.the-row .own (lent l δ) (vptr l 0 ∷ [])) ∷ raw Own ∷ [])) (Core 𝓤 H A at-mem run .pre (to-core α l δ))
   goes-core α l δ =
-      qed W (‵ (flft (α ∷ []) fullShare) ∷ ‵ (MutRef (named 0) (α ∷ []) Rec.the-row .own (lent l δ) (vptr l 0 ∷ [])) ∷ (‵ (owns (u64 ∷ bool ∷ ReplyAnswer·.the-row ∷ Put·.the-row ∷ bool ∷ ShrSlice (named 0) κ1 u8 ∷ usize ∷ ShrSlice (named 1) κ2 u8 ∷ ShrSlice (named 2) κ3 u8 ∷ NtpTimestamp·.the-row ∷ NtpTimestamp·.the-row ∷ u64 ∷ []) z zv) ⊛ (‵ (flft κ1 q1) ⊛ ‵ (flft κ2 q2) ⊛ ‵ (flft κ3 q3) ⊛ ‵ ftrue)) ∷ []) ∵
+      qed W (‵ (flft (α ∷ []) fullShare) ∷ ‵ (MutRef (named 0) (α ∷ []) Rec.the-row .own (lent l δ) (vptr l 0 ∷ [])) ∷ (‵ (owns (u64 ∷ bool ∷ Ans.the-row ∷ Put·.the-row ∷ bool ∷ ShrSlice (named 0) κ1 u8 ∷ usize ∷ ShrSlice (named 1) κ2 u8 ∷ ShrSlice (named 2) κ3 u8 ∷ NtpTimestamp·.the-row ∷ NtpTimestamp·.the-row ∷ u64 ∷ []) z zv) ⊛ (‵ (flft κ1 q1) ⊛ ‵ (flft κ2 q2) ⊛ ‵ (flft κ3 q3) ⊛ ‵ ftrue)) ∷ []) ∵
       move ! (2 ∷ []) $ split ! $ move ! (3 ∷ 0 ∷ []) $ fjoin ! $ move ! (2 ∷ 1 ∷ []) $ join ! $ join ! $ frame ! $ done !
 
   abbrev Ensured : ℕ → ℕ → GName → ReplyAnswer → SProp 𝓤
@@ -227,23 +225,23 @@ module _ {M : Type 1} (𝓤 : URA M) (H : Heap 𝓤) (A : Atoms 𝓤) (W : Given
       show ! (λ (w : Association). guard 𝓤 (Unit {0}) (mean 𝓤 H A (‵ (fres δ (Rec.the-row .coded .code w))))) (w .0) $ check ! e $ done !))
 
   module _ (C : Calls 𝓤 H) (Λ : Loops 𝓤 H) (fm : FmC 𝓤 H (W .laws) C) (known : Triple 𝓤 (C #calls·replies) (Core 𝓤 H A at-mem run)) where
-    walk-here : ent 𝓤 (onEntry 𝓤 H A self.signature (κ1, (κ2, (κ3, tt))) (q1, (q2, (q3, tt))) (h, z) (rec h ∷ [], zv)) (WpFn 𝓤 H C Λ code.function (rec h ∷ vint w64 calls ∷ vbool calling ∷ EL.val ReplyAnswer·.the-type ReplyAnswer·′.the-laws before ∷ LL.val Put·.the-type Put·′.the-laws put ∷ vbool stores ∷ sliceVal (packet .ptr) (length (packet .now)) ∷ vint w64 end ∷ sliceVal (decrypted .ptr) (length (decrypted .now)) ∷ sliceVal (list .ptr) (length (list .now)) ∷ LL.val NtpTimestamp·.the-type NtpTimestamp·′.the-laws t1 ∷ LL.val NtpTimestamp·.the-type NtpTimestamp·′.the-laws t4 ∷ vint w64 time ∷ []) Post)
+    walk-here : ent 𝓤 (onEntry 𝓤 H A self.signature (κ1, (κ2, (κ3, tt))) (q1, (q2, (q3, tt))) (h, z) (rec h ∷ [], zv)) (WpFn 𝓤 H C Λ code.function (rec h ∷ vint w64 calls ∷ vbool calling ∷ EL.val Ans.the-type Ans′.the-laws before ∷ LL.val Put·.the-type Put·′.the-laws put ∷ vbool stores ∷ sliceVal (packet .ptr) (length (packet .now)) ∷ vint w64 end ∷ sliceVal (decrypted .ptr) (length (decrypted .now)) ∷ sliceVal (list .ptr) (length (list .now)) ∷ LL.val NtpTimestamp·.the-type NtpTimestamp·′.the-laws t1 ∷ LL.val NtpTimestamp·.the-type NtpTimestamp·′.the-laws t4 ∷ vint w64 time ∷ []) Post)
     walk-here =
-        qed W ((‵ (flft κ1 q1) ⊛ ‵ (flft κ2 q2) ⊛ ‵ (flft κ3 q3) ⊛ ‵ ftrue) ∷ ‵ (owns (Rec.the-row ∷ u64 ∷ bool ∷ ReplyAnswer·.the-row ∷ Put·.the-row ∷ bool ∷ ShrSlice (named 0) κ1 u8 ∷ usize ∷ ShrSlice (named 1) κ2 u8 ∷ ShrSlice (named 2) κ3 u8 ∷ NtpTimestamp·.the-row ∷ NtpTimestamp·.the-row ∷ u64 ∷ []) (h, z) (rec h ∷ [], zv)) ∷ []) ∵ move ! (1 ∷ []) $ fsplit ! $ drop ! $ join ! $
-        by ! (walk Rec.the-row Ans.the-row rec ans (99 ∷ 97 ∷ 108 ∷ 108 ∷ 115 ∷ 58 ∷ 58 ∷ 82 ∷ 101 ∷ 112 ∷ 108 ∷ 105 ∷ 101 ∷ 115 ∷ 79 ∷ 117 ∷ 116 ∷ []) (tyNamed (97 ∷ 115 ∷ 115 ∷ 111 ∷ 99 ∷ 105 ∷ 97 ∷ 116 ∷ 105 ∷ 111 ∷ 110 ∷ 58 ∷ 58 ∷ 65 ∷ 115 ∷ 115 ∷ 111 ∷ 99 ∷ 105 ∷ 97 ∷ 116 ∷ 105 ∷ 111 ∷ 110 ∷ [], [])) Rec′.mir Ans′.mir (tyInt w64) tyBool ReplyAnswer·′.mir Put·′.mir tyBool (tyStruct (38 ∷ 91 ∷ 93 ∷ []) (tcons (tyRef (named 0) imm (tyInt w8)) (tcons (tyInt w64) tnil))) (tyInt w64) (tyStruct (38 ∷ 91 ∷ 93 ∷ []) (tcons (tyRef (named 1) imm (tyInt w8)) (tcons (tyInt w64) tnil))) (tyStruct (38 ∷ 91 ∷ 93 ∷ []) (tcons (tyRef (named 2) imm (tyInt w8)) (tcons (tyInt w64) tnil))) NtpTimestamp·′.mir NtpTimestamp·′.mir (tyInt w64) refl
+        qed W ((‵ (flft κ1 q1) ⊛ ‵ (flft κ2 q2) ⊛ ‵ (flft κ3 q3) ⊛ ‵ ftrue) ∷ ‵ (owns (Rec.the-row ∷ u64 ∷ bool ∷ Ans.the-row ∷ Put·.the-row ∷ bool ∷ ShrSlice (named 0) κ1 u8 ∷ usize ∷ ShrSlice (named 1) κ2 u8 ∷ ShrSlice (named 2) κ3 u8 ∷ NtpTimestamp·.the-row ∷ NtpTimestamp·.the-row ∷ u64 ∷ []) (h, z) (rec h ∷ [], zv)) ∷ []) ∵ move ! (1 ∷ []) $ fsplit ! $ drop ! $ join ! $
+        by ! (walk Rec.the-row Ans.the-row rec ans (99 ∷ 97 ∷ 108 ∷ 108 ∷ 115 ∷ 58 ∷ 58 ∷ 82 ∷ 101 ∷ 112 ∷ 108 ∷ 105 ∷ 101 ∷ 115 ∷ 79 ∷ 117 ∷ 116 ∷ []) (tyNamed (97 ∷ 115 ∷ 115 ∷ 111 ∷ 99 ∷ 105 ∷ 97 ∷ 116 ∷ 105 ∷ 111 ∷ 110 ∷ 58 ∷ 58 ∷ 65 ∷ 115 ∷ 115 ∷ 111 ∷ 99 ∷ 105 ∷ 97 ∷ 116 ∷ 105 ∷ 111 ∷ 110 ∷ [], [])) Rec′.mir Ans′.mir (tyInt w64) tyBool Ans′.mir Put·′.mir tyBool (tyStruct (38 ∷ 91 ∷ 93 ∷ []) (tcons (tyRef (named 0) imm (tyInt w8)) (tcons (tyInt w64) tnil))) (tyInt w64) (tyStruct (38 ∷ 91 ∷ 93 ∷ []) (tcons (tyRef (named 1) imm (tyInt w8)) (tcons (tyInt w64) tnil))) (tyStruct (38 ∷ 91 ∷ 93 ∷ []) (tcons (tyRef (named 2) imm (tyInt w8)) (tcons (tyInt w64) tnil))) NtpTimestamp·′.mir NtpTimestamp·′.mir (tyInt w64) refl
           (LL.tells Rec.the-type Rec′.the-laws) (EL.tells Ans.the-type Ans′.the-laws)
           (λ y g. LL.lawful Rec.the-type Rec′.the-laws 𝓤 H A W .typed y _ g .0) (λ y v g. EL.lawful Ans.the-type Ans′.the-laws 𝓤 H A W tt .typed y _ g .0) (λ r w is g. LL.lawful Out.the-type Out′.the-laws 𝓤 H A W .typed (record { answer = r; association = w }) _ (made r w is g) .0)
-          𝓤 H A W (LL.makes Rec.the-type Rec′.the-plain 𝓤 H A) h (vint w64 calls) (vbool calling) (EL.val ReplyAnswer·.the-type ReplyAnswer·′.the-laws before) (LL.val Put·.the-type Put·′.the-laws put) (vbool stores) (sliceVal (packet .ptr) (length (packet .now))) (vint w64 end) (sliceVal (decrypted .ptr) (length (decrypted .now))) (sliceVal (list .ptr) (length (list .now))) (LL.val NtpTimestamp·.the-type NtpTimestamp·′.the-laws t1) (LL.val NtpTimestamp·.the-type NtpTimestamp·′.the-laws t4) (vint w64 time) h-is
-          (uint-lawful 𝓤 H A W w64 .typed calls _ calls-is .0) (bool-lawful 𝓤 H A W .typed calling _ calling-is .0) (EL.lawful ReplyAnswer·.the-type ReplyAnswer·′.the-laws 𝓤 H A W tt .typed before _ before-is .0) (LL.lawful Put·.the-type Put·′.the-laws 𝓤 H A W .typed put _ put-is .0) (bool-lawful 𝓤 H A W .typed stores _ stores-is .0) (shr-slice-lawful 𝓤 H A W (named 0) κ1 u8 .typed packet _ packet-is .0) (uint-lawful 𝓤 H A W w64 .typed end _ end-is .0) (shr-slice-lawful 𝓤 H A W (named 1) κ2 u8 .typed decrypted _ decrypted-is .0) (shr-slice-lawful 𝓤 H A W (named 2) κ3 u8 .typed list _ list-is .0) (LL.lawful NtpTimestamp·.the-type NtpTimestamp·′.the-laws 𝓤 H A W .typed t1 _ t1-is .0) (LL.lawful NtpTimestamp·.the-type NtpTimestamp·′.the-laws 𝓤 H A W .typed t4 _ t4-is .0) (uint-lawful 𝓤 H A W w64 .typed time _ time-is .0)
+          𝓤 H A W (LL.makes Rec.the-type Rec′.the-plain 𝓤 H A) h (vint w64 calls) (vbool calling) (EL.val Ans.the-type Ans′.the-laws before) (LL.val Put·.the-type Put·′.the-laws put) (vbool stores) (sliceVal (packet .ptr) (length (packet .now))) (vint w64 end) (sliceVal (decrypted .ptr) (length (decrypted .now))) (sliceVal (list .ptr) (length (list .now))) (LL.val NtpTimestamp·.the-type NtpTimestamp·′.the-laws t1) (LL.val NtpTimestamp·.the-type NtpTimestamp·′.the-laws t4) (vint w64 time) h-is
+          (uint-lawful 𝓤 H A W w64 .typed calls _ calls-is .0) (bool-lawful 𝓤 H A W .typed calling _ calling-is .0) (EL.lawful Ans.the-type Ans′.the-laws 𝓤 H A W tt .typed before _ before-is .0) (LL.lawful Put·.the-type Put·′.the-laws 𝓤 H A W .typed put _ put-is .0) (bool-lawful 𝓤 H A W .typed stores _ stores-is .0) (shr-slice-lawful 𝓤 H A W (named 0) κ1 u8 .typed packet _ packet-is .0) (uint-lawful 𝓤 H A W w64 .typed end _ end-is .0) (shr-slice-lawful 𝓤 H A W (named 1) κ2 u8 .typed decrypted _ decrypted-is .0) (shr-slice-lawful 𝓤 H A W (named 2) κ3 u8 .typed list _ list-is .0) (LL.lawful NtpTimestamp·.the-type NtpTimestamp·′.the-laws 𝓤 H A W .typed t1 _ t1-is .0) (LL.lawful NtpTimestamp·.the-type NtpTimestamp·′.the-laws 𝓤 H A W .typed t4 _ t4-is .0) (uint-lawful 𝓤 H A W w64 .typed time _ time-is .0)
           Own (mean 𝓤 H A (‵ (flft κ1 q1) ⊛ ‵ (flft κ2 q2) ⊛ ‵ (flft κ3 q3) ⊛ ‵ ftrue)) (λ α l δ. Core 𝓤 H A at-mem run .pre (to-core α l δ)) (λ α l δ. Core 𝓤 H A at-mem run .post (to-core α l δ)) Post Ensured (λ r w. Unit {0}) goes-core comes-back said-of exits C Λ fm (λ α l δ. known (to-core α l δ)))
 
 module _ {M : Type 1} (𝓤 : URA M) (H : Heap 𝓤) (A : Atoms 𝓤) (W : Given 𝓤 H A) (at-mem : Memory → SProp 𝓤) (run : Routine → Fun 𝓤) where
   walks : (C : Calls 𝓤 H) (Λ : Loops 𝓤 H) → FmC 𝓤 H (W .laws) C → Triple 𝓤 (C #calls·replies) (Core 𝓤 H A at-mem run) → Walks 𝓤 H A self.ended stayed (WpFn 𝓤 H C Λ code.function) (self.clauses 𝓤 H A at-mem run)
-  walks C Λ fm known = walked 𝓤 H A self.ended stayed (self.clauses 𝓤 H A at-mem run) (WpFn 𝓤 H C Λ code.function) (λ κs. (LL.vals Rec.the-type Rec′.the-laws, (uint-vals w64, (bool-vals, (EL.vals ReplyAnswer·.the-type ReplyAnswer·′.the-laws, (LL.vals Put·.the-type Put·′.the-laws, (bool-vals, (slice-vals, (uint-vals w64, (slice-vals, (slice-vals, (LL.vals NtpTimestamp·.the-type NtpTimestamp·′.the-laws, (LL.vals NtpTimestamp·.the-type NtpTimestamp·′.the-laws, (uint-vals w64, tt)))))))))))))) (λ κs. (LL.tells Rec.the-type Rec′.the-laws, (uint-tells w64, (bool-tells, (EL.tells ReplyAnswer·.the-type ReplyAnswer·′.the-laws, (LL.tells Put·.the-type Put·′.the-laws, (bool-tells, (shr-slice-tells (named 0) (κs .0) u8, (uint-tells w64, (shr-slice-tells (named 1) (κs .1 .0) u8, (shr-slice-tells (named 2) (κs .1 .1 .0) u8, (LL.tells NtpTimestamp·.the-type NtpTimestamp·′.the-laws, (LL.tells NtpTimestamp·.the-type NtpTimestamp·′.the-laws, (uint-tells w64, tt))))))))))))))
+  walks C Λ fm known = walked 𝓤 H A self.ended stayed (self.clauses 𝓤 H A at-mem run) (WpFn 𝓤 H C Λ code.function) (λ κs. (LL.vals Rec.the-type Rec′.the-laws, (uint-vals w64, (bool-vals, (EL.vals Ans.the-type Ans′.the-laws, (LL.vals Put·.the-type Put·′.the-laws, (bool-vals, (slice-vals, (uint-vals w64, (slice-vals, (slice-vals, (LL.vals NtpTimestamp·.the-type NtpTimestamp·′.the-laws, (LL.vals NtpTimestamp·.the-type NtpTimestamp·′.the-laws, (uint-vals w64, tt)))))))))))))) (λ κs. (LL.tells Rec.the-type Rec′.the-laws, (uint-tells w64, (bool-tells, (EL.tells Ans.the-type Ans′.the-laws, (LL.tells Put·.the-type Put·′.the-laws, (bool-tells, (shr-slice-tells (named 0) (κs .0) u8, (uint-tells w64, (shr-slice-tells (named 1) (κs .1 .0) u8, (shr-slice-tells (named 2) (κs .1 .1 .0) u8, (LL.tells NtpTimestamp·.the-type NtpTimestamp·′.the-laws, (LL.tells NtpTimestamp·.the-type NtpTimestamp·′.the-laws, (uint-tells w64, tt))))))))))))))
       (λ κs qs bounds a g are. via 𝓤 _ (fst∗ 𝓤 _ (emp 𝓤)) (walk-here 𝓤 H A W at-mem run (κs .0) (κs .1 .0) (κs .1 .1 .0) (qs .0) (qs .1 .0) (qs .1 .1 .0) (a .0) (a .1 .0) (a .1 .1 .0) (a .1 .1 .1 .0) (a .1 .1 .1 .1 .0) (a .1 .1 .1 .1 .1 .0) (a .1 .1 .1 .1 .1 .1 .0) (a .1 .1 .1 .1 .1 .1 .1 .0) (a .1 .1 .1 .1 .1 .1 .1 .1 .0) (a .1 .1 .1 .1 .1 .1 .1 .1 .1 .0) (a .1 .1 .1 .1 .1 .1 .1 .1 .1 .1 .0) (a .1 .1 .1 .1 .1 .1 .1 .1 .1 .1 .1 .0) (a .1 .1 .1 .1 .1 .1 .1 .1 .1 .1 .1 .1 .0) (are .0) (are .1 .0) (are .1 .1 .0) (are .1 .1 .1 .0) (are .1 .1 .1 .1 .0) (are .1 .1 .1 .1 .1 .0) (are .1 .1 .1 .1 .1 .1 .0) (are .1 .1 .1 .1 .1 .1 .1 .0) (are .1 .1 .1 .1 .1 .1 .1 .1 .0) (are .1 .1 .1 .1 .1 .1 .1 .1 .1 .0) (are .1 .1 .1 .1 .1 .1 .1 .1 .1 .1 .0) (are .1 .1 .1 .1 .1 .1 .1 .1 .1 .1 .1 .0) (are .1 .1 .1 .1 .1 .1 .1 .1 .1 .1 .1 .1 .0) C Λ fm known))
 
   goes : AllGo 𝓤 H A W 3 (self.signature .params) (self.ended .kept) stayed
-  goes = (goes-dropped 𝓤 H A W 3 (plain (λ _. Rec.the-row)) yes (λ κs x f. refl), (goes-dropped 𝓤 H A W 3 (plain (λ _. u64)) yes (λ κs x f. refl), (goes-dropped 𝓤 H A W 3 (plain (λ _. bool)) yes (λ κs x f. refl), (goes-dropped 𝓤 H A W 3 (plain (λ _. ReplyAnswer·.the-row)) yes (λ κs x f. refl), (goes-dropped 𝓤 H A W 3 (plain (λ _. Put·.the-row)) yes (λ κs x f. refl), (goes-dropped 𝓤 H A W 3 (plain (λ _. bool)) yes (λ κs x f. refl), (goes-dropped 𝓤 H A W 3 (shrSliceOf (0 ∷ []) tt (plain (λ _. u8))) yes (λ κs x f. refl), (goes-dropped 𝓤 H A W 3 (plain (λ _. usize)) yes (λ κs x f. refl), (goes-dropped 𝓤 H A W 3 (shrSliceOf (1 ∷ []) tt (plain (λ _. u8))) yes (λ κs x f. refl), (goes-dropped 𝓤 H A W 3 (shrSliceOf (2 ∷ []) tt (plain (λ _. u8))) yes (λ κs x f. refl), (goes-dropped 𝓤 H A W 3 (plain (λ _. NtpTimestamp·.the-row)) yes (λ κs x f. refl), (goes-dropped 𝓤 H A W 3 (plain (λ _. NtpTimestamp·.the-row)) yes (λ κs x f. refl), (goes-dropped 𝓤 H A W 3 (plain (λ _. u64)) yes (λ κs x f. refl), tt)))))))))))))
+  goes = (goes-dropped 𝓤 H A W 3 (plain (λ _. Rec.the-row)) yes (λ κs x f. refl), (goes-dropped 𝓤 H A W 3 (plain (λ _. u64)) yes (λ κs x f. refl), (goes-dropped 𝓤 H A W 3 (plain (λ _. bool)) yes (λ κs x f. refl), (goes-dropped 𝓤 H A W 3 (plain (λ _. Ans.the-row)) yes (λ κs x f. refl), (goes-dropped 𝓤 H A W 3 (plain (λ _. Put·.the-row)) yes (λ κs x f. refl), (goes-dropped 𝓤 H A W 3 (plain (λ _. bool)) yes (λ κs x f. refl), (goes-dropped 𝓤 H A W 3 (shrSliceOf (0 ∷ []) tt (plain (λ _. u8))) yes (λ κs x f. refl), (goes-dropped 𝓤 H A W 3 (plain (λ _. usize)) yes (λ κs x f. refl), (goes-dropped 𝓤 H A W 3 (shrSliceOf (1 ∷ []) tt (plain (λ _. u8))) yes (λ κs x f. refl), (goes-dropped 𝓤 H A W 3 (shrSliceOf (2 ∷ []) tt (plain (λ _. u8))) yes (λ κs x f. refl), (goes-dropped 𝓤 H A W 3 (plain (λ _. NtpTimestamp·.the-row)) yes (λ κs x f. refl), (goes-dropped 𝓤 H A W 3 (plain (λ _. NtpTimestamp·.the-row)) yes (λ κs x f. refl), (goes-dropped 𝓤 H A W 3 (plain (λ _. u64)) yes (λ κs x f. refl), tt)))))))))))))
 
 meets : {M : Type 1} (𝓤 : URA M) (H : Heap 𝓤) (A : Atoms 𝓤) → Given 𝓤 H A → (at-mem : Memory → SProp 𝓤) (run : Routine → Fun 𝓤) (𝓣 : Tables 𝓤 H) → Triple 𝓤 (𝓣 .C #calls·replies) (Core 𝓤 H A at-mem run)
     → Meets 𝓤 H A self.signature (WpFn 𝓤 H (𝓣 .C) (𝓣 .Λ) code.function) (self.spec 𝓤 H A at-mem run)

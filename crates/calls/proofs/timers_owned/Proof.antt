@@ -62,8 +62,6 @@ use Rattle.time_types.proofs.PollInterval as PollInterval·
 use Rattle.time_types.proofs.PollInterval.Laws as PollInterval·′
 use Rattle.calls.proofs.Put as Put·
 use Rattle.calls.proofs.Put.Laws as Put·′
-use Rattle.timer_rules.proofs.TimerAnswer as TimerAnswer·
-use Rattle.timer_rules.proofs.TimerAnswer.Laws as TimerAnswer·′
 use Rattle.calls.proofs.timers as core
 use Rattle.calls.proofs.timers.Symbol as core-def
 use Rattle.calls.proofs.timers.Symbol.{name as #calls·timers}
@@ -167,7 +165,7 @@ module _ (Rec Ans : RattleType) (rec : Rec .Denot → Val) (ans : Ans .Denot →
 
 -- what is had at exit: nothing, but for the buffer's last list
 abbrev stayed : Stays (self.ended .signature .params) (self.ended .kept)
-stayed = (stay-dropped (plain (λ _. Rec.the-row)) yes, (stay-dropped (plain (λ _. u64)) yes, (stay-dropped (plain (λ _. bool)) yes, (stay-dropped (plain (λ _. TimerAnswer·.the-row)) yes, (stay-dropped (plain (λ _. Put·.the-row)) yes, (stay-dropped (plain (λ _. bool)) yes, (stay-dropped (plain (λ _. u64)) yes, (stay-dropped (plain (λ _. PollInterval·.the-row)) yes, (stay-dropped (plain (λ _. u64)) yes, (stay-dropped (ArrayOf (plain (λ _. u8)) (λ _. tt) 32) yes, (stay-dropped (shrSliceOf (0 ∷ []) tt (plain (λ _. u8))) yes, (gave-slice (1 ∷ []) tt (plain (λ _. u8)), tt))))))))))))
+stayed = (stay-dropped (plain (λ _. Rec.the-row)) yes, (stay-dropped (plain (λ _. u64)) yes, (stay-dropped (plain (λ _. bool)) yes, (stay-dropped (plain (λ _. Ans.the-row)) yes, (stay-dropped (plain (λ _. Put·.the-row)) yes, (stay-dropped (plain (λ _. bool)) yes, (stay-dropped (plain (λ _. u64)) yes, (stay-dropped (plain (λ _. PollInterval·.the-row)) yes, (stay-dropped (plain (λ _. u64)) yes, (stay-dropped (ArrayOf (plain (λ _. u8)) (λ _. tt) 32) yes, (stay-dropped (shrSliceOf (0 ∷ []) tt (plain (λ _. u8))) yes, (gave-slice (1 ∷ []) tt (plain (λ _. u8)), tt))))))))))))
 
 -- the machine values of a record, of an answer and of the two
 abbrev rec : Association → Val
@@ -187,12 +185,12 @@ abbrev Core : {M : Type 1} (𝓤 : URA M) (H : Heap 𝓤) (A : Atoms 𝓤) (at-m
 Core 𝓤 H A at-mem run = tripleOf 𝓤 H A core.signature (core.spec 𝓤 H A at-mem run)
 
 module _ {M : Type 1} (𝓤 : URA M) (H : Heap 𝓤) (A : Atoms 𝓤) (W : Given 𝓤 H A) (at-mem : Memory → SProp 𝓤) (run : Routine → Fun 𝓤) (κ1 κ2 : Lft) (q1 q2 : Share) (h : Association) (calls : ℕ) (calling : Bool) (before : TimerAnswer) (put : Put) (stores : Bool) (time : ℕ) (desired : PollInterval) (id : ℕ) (uid : List ℕ) (list : RefT (List ℕ)) (buffer : RefT (List ℕ))
-    (h-is : Is Rec.the-row h (rec h ∷ [])) (calls-is : Is (u64) calls (vint w64 calls ∷ [])) (calling-is : Is (bool) calling (vbool calling ∷ [])) (before-is : Is (TimerAnswer·.the-row) before (EL.val TimerAnswer·.the-type TimerAnswer·′.the-laws before ∷ [])) (put-is : Is (Put·.the-row) put (LL.val Put·.the-type Put·′.the-laws put ∷ [])) (stores-is : Is (bool) stores (vbool stores ∷ [])) (time-is : Is (u64) time (vint w64 time ∷ [])) (desired-is : Is (PollInterval·.the-row) desired (LL.val PollInterval·.the-type PollInterval·′.the-laws desired ∷ [])) (id-is : Is (u64) id (vint w64 id ∷ [])) (uid-is : Is (Array u8 32) uid (only (array-vals (uint-vals w8) uid) ∷ [])) (list-is : Is (ShrSlice (named 0) κ1 u8) list (sliceVal (list .ptr) (length (list .now)) ∷ [])) (buffer-is : Is (MutSlice (named 1) κ2 u8) buffer (sliceVal (buffer .ptr) (length (buffer .now)) ∷ [])) where
+    (h-is : Is Rec.the-row h (rec h ∷ [])) (calls-is : Is (u64) calls (vint w64 calls ∷ [])) (calling-is : Is (bool) calling (vbool calling ∷ [])) (before-is : Is (Ans.the-row) before (EL.val Ans.the-type Ans′.the-laws before ∷ [])) (put-is : Is (Put·.the-row) put (LL.val Put·.the-type Put·′.the-laws put ∷ [])) (stores-is : Is (bool) stores (vbool stores ∷ [])) (time-is : Is (u64) time (vint w64 time ∷ [])) (desired-is : Is (PollInterval·.the-row) desired (LL.val PollInterval·.the-type PollInterval·′.the-laws desired ∷ [])) (id-is : Is (u64) id (vint w64 id ∷ [])) (uid-is : Is (Array u8 32) uid (only (array-vals (uint-vals w8) uid) ∷ [])) (list-is : Is (ShrSlice (named 0) κ1 u8) list (sliceVal (list .ptr) (length (list .now)) ∷ [])) (buffer-is : Is (MutSlice (named 1) κ2 u8) buffer (sliceVal (buffer .ptr) (length (buffer .now)) ∷ [])) where
   abbrev z : ℕ × (Bool × (TimerAnswer × (Put × (Bool × (ℕ × (PollInterval × (ℕ × (List ℕ × (RefT (List ℕ) × (RefT (List ℕ) × Unit {0}))))))))))
   z = (calls, (calling, (before, (put, (stores, (time, (desired, (id, (uid, (list, (buffer, tt)))))))))))
 
   abbrev zv : List Val × (List Val × (List Val × (List Val × (List Val × (List Val × (List Val × (List Val × (List Val × (List Val × (List Val × Unit {0}))))))))))
-  zv = (vint w64 calls ∷ [], (vbool calling ∷ [], (EL.val TimerAnswer·.the-type TimerAnswer·′.the-laws before ∷ [], (LL.val Put·.the-type Put·′.the-laws put ∷ [], (vbool stores ∷ [], (vint w64 time ∷ [], (LL.val PollInterval·.the-type PollInterval·′.the-laws desired ∷ [], (vint w64 id ∷ [], (only (array-vals (uint-vals w8) uid) ∷ [], (sliceVal (list .ptr) (length (list .now)) ∷ [], (sliceVal (buffer .ptr) (length (buffer .now)) ∷ [], tt)))))))))))
+  zv = (vint w64 calls ∷ [], (vbool calling ∷ [], (EL.val Ans.the-type Ans′.the-laws before ∷ [], (LL.val Put·.the-type Put·′.the-laws put ∷ [], (vbool stores ∷ [], (vint w64 time ∷ [], (LL.val PollInterval·.the-type PollInterval·′.the-laws desired ∷ [], (vint w64 id ∷ [], (only (array-vals (uint-vals w8) uid) ∷ [], (sliceVal (list .ptr) (length (list .now)) ∷ [], (sliceVal (buffer .ptr) (length (buffer .now)) ∷ [], tt)))))))))))
 
   abbrev Post : Val → SProp 𝓤
   Post = walkOf 𝓤 H A self.ended stayed (self.clauses 𝓤 H A at-mem run) .post (((κ1, (κ2, tt)), (q1, (q2, tt)), tt, (h, z), (rec h ∷ [], zv)), tt)
@@ -208,14 +206,14 @@ module _ {M : Type 1} (𝓤 : URA M) (H : Heap 𝓤) (A : Atoms 𝓤) (W : Given
   lent l δ = record { ptr = (l, 0); name = δ; now = h }
 
   abbrev Own : SProp 𝓤
-  Own = mean 𝓤 H A (‵ (owns (u64 ∷ bool ∷ TimerAnswer·.the-row ∷ Put·.the-row ∷ bool ∷ u64 ∷ PollInterval·.the-row ∷ u64 ∷ Array u8 32 ∷ ShrSlice (named 0) κ1 u8 ∷ MutSlice (named 1) κ2 u8 ∷ []) z zv) ⊛ (‵ (flft κ1 q1) ⊛ ‵ (flft κ2 q2) ⊛ ‵ ftrue))
+  Own = mean 𝓤 H A (‵ (owns (u64 ∷ bool ∷ Ans.the-row ∷ Put·.the-row ∷ bool ∷ u64 ∷ PollInterval·.the-row ∷ u64 ∷ Array u8 32 ∷ ShrSlice (named 0) κ1 u8 ∷ MutSlice (named 1) κ2 u8 ∷ []) z zv) ⊛ (‵ (flft κ1 q1) ⊛ ‵ (flft κ2 q2) ⊛ ‵ ftrue))
 
   abbrev to-core : ℕ → ℕ → GName → Core 𝓤 H A at-mem run .Ghost
   to-core α l δ = (((α ∷ [], (κ1, (κ2, tt))), (fullShare, (q1, (q2, tt))), tt, (lent l δ, z), (vptr l 0 ∷ [], zv)), tt)
 
   goes-core : (α l : ℕ) (δ : GName) → ent 𝓤 (⋆ 𝓤 H A (‵ (flft (α ∷ []) fullShare) ∷ ‵ (MutRef (named 0) (α ∷ []) Rec.the-row .own (lent l δ) (vptr l 0 ∷ [])) ∷ raw Own ∷ [])) (Core 𝓤 H A at-mem run .pre (to-core α l δ))
   goes-core α l δ =
-      qed W (‵ (flft (α ∷ []) fullShare) ∷ ‵ (MutRef (named 0) (α ∷ []) Rec.the-row .own (lent l δ) (vptr l 0 ∷ [])) ∷ (‵ (owns (u64 ∷ bool ∷ TimerAnswer·.the-row ∷ Put·.the-row ∷ bool ∷ u64 ∷ PollInterval·.the-row ∷ u64 ∷ Array u8 32 ∷ ShrSlice (named 0) κ1 u8 ∷ MutSlice (named 1) κ2 u8 ∷ []) z zv) ⊛ (‵ (flft κ1 q1) ⊛ ‵ (flft κ2 q2) ⊛ ‵ ftrue)) ∷ []) ∵
+      qed W (‵ (flft (α ∷ []) fullShare) ∷ ‵ (MutRef (named 0) (α ∷ []) Rec.the-row .own (lent l δ) (vptr l 0 ∷ [])) ∷ (‵ (owns (u64 ∷ bool ∷ Ans.the-row ∷ Put·.the-row ∷ bool ∷ u64 ∷ PollInterval·.the-row ∷ u64 ∷ Array u8 32 ∷ ShrSlice (named 0) κ1 u8 ∷ MutSlice (named 1) κ2 u8 ∷ []) z zv) ⊛ (‵ (flft κ1 q1) ⊛ ‵ (flft κ2 q2) ⊛ ‵ ftrue)) ∷ []) ∵
       move ! (2 ∷ []) $ split ! $ move ! (3 ∷ 0 ∷ []) $ fjoin ! $ move ! (2 ∷ 1 ∷ []) $ join ! $ join ! $ frame ! $ done !
 
   abbrev Ensured : ℕ → ℕ → GName → TimerAnswer → SProp 𝓤
@@ -236,23 +234,23 @@ module _ {M : Type 1} (𝓤 : URA M) (H : Heap 𝓤) (A : Atoms 𝓤) (W : Given
       show ! (λ (last : List ℕ). guard 𝓤 ((Unit {0}) × (length last ≡ length (buffer .now))) (mean 𝓤 H A (‵ (fres δ (Rec.the-row .coded .code (w .0))) ⊛ raw (Last last)))) (w .1 .1 .1 .1 .1 .1 .1 .1 .1 .1 .1 .0) $ check ! (e, long) $ move ! (1 ∷ 0 ∷ []) $ frame ! $ done !)))
 
   module _ (C : Calls 𝓤 H) (Λ : Loops 𝓤 H) (fm : FmC 𝓤 H (W .laws) C) (known : Triple 𝓤 (C #calls·timers) (Core 𝓤 H A at-mem run)) where
-    walk-here : ent 𝓤 (onEntry 𝓤 H A self.signature (κ1, (κ2, tt)) (q1, (q2, tt)) (h, z) (rec h ∷ [], zv)) (WpFn 𝓤 H C Λ code.function (rec h ∷ vint w64 calls ∷ vbool calling ∷ EL.val TimerAnswer·.the-type TimerAnswer·′.the-laws before ∷ LL.val Put·.the-type Put·′.the-laws put ∷ vbool stores ∷ vint w64 time ∷ LL.val PollInterval·.the-type PollInterval·′.the-laws desired ∷ vint w64 id ∷ only (array-vals (uint-vals w8) uid) ∷ sliceVal (list .ptr) (length (list .now)) ∷ sliceVal (buffer .ptr) (length (buffer .now)) ∷ []) Post)
+    walk-here : ent 𝓤 (onEntry 𝓤 H A self.signature (κ1, (κ2, tt)) (q1, (q2, tt)) (h, z) (rec h ∷ [], zv)) (WpFn 𝓤 H C Λ code.function (rec h ∷ vint w64 calls ∷ vbool calling ∷ EL.val Ans.the-type Ans′.the-laws before ∷ LL.val Put·.the-type Put·′.the-laws put ∷ vbool stores ∷ vint w64 time ∷ LL.val PollInterval·.the-type PollInterval·′.the-laws desired ∷ vint w64 id ∷ only (array-vals (uint-vals w8) uid) ∷ sliceVal (list .ptr) (length (list .now)) ∷ sliceVal (buffer .ptr) (length (buffer .now)) ∷ []) Post)
     walk-here =
-        qed W ((‵ (flft κ1 q1) ⊛ ‵ (flft κ2 q2) ⊛ ‵ ftrue) ∷ ‵ (owns (Rec.the-row ∷ u64 ∷ bool ∷ TimerAnswer·.the-row ∷ Put·.the-row ∷ bool ∷ u64 ∷ PollInterval·.the-row ∷ u64 ∷ Array u8 32 ∷ ShrSlice (named 0) κ1 u8 ∷ MutSlice (named 1) κ2 u8 ∷ []) (h, z) (rec h ∷ [], zv)) ∷ []) ∵ move ! (1 ∷ []) $ fsplit ! $ drop ! $ join ! $
-        by ! (walk Rec.the-row Ans.the-row rec ans (99 ∷ 97 ∷ 108 ∷ 108 ∷ 115 ∷ 58 ∷ 58 ∷ 84 ∷ 105 ∷ 109 ∷ 101 ∷ 114 ∷ 115 ∷ 79 ∷ 117 ∷ 116 ∷ []) (tyNamed (97 ∷ 115 ∷ 115 ∷ 111 ∷ 99 ∷ 105 ∷ 97 ∷ 116 ∷ 105 ∷ 111 ∷ 110 ∷ 58 ∷ 58 ∷ 65 ∷ 115 ∷ 115 ∷ 111 ∷ 99 ∷ 105 ∷ 97 ∷ 116 ∷ 105 ∷ 111 ∷ 110 ∷ [], [])) Rec′.mir Ans′.mir (tyInt w64) tyBool TimerAnswer·′.mir Put·′.mir tyBool (tyInt w64) PollInterval·′.mir (tyInt w64) (tyArray (tyInt w8) 32) (tyStruct (38 ∷ 91 ∷ 93 ∷ []) (tcons (tyRef (named 0) imm (tyInt w8)) (tcons (tyInt w64) tnil))) refl
+        qed W ((‵ (flft κ1 q1) ⊛ ‵ (flft κ2 q2) ⊛ ‵ ftrue) ∷ ‵ (owns (Rec.the-row ∷ u64 ∷ bool ∷ Ans.the-row ∷ Put·.the-row ∷ bool ∷ u64 ∷ PollInterval·.the-row ∷ u64 ∷ Array u8 32 ∷ ShrSlice (named 0) κ1 u8 ∷ MutSlice (named 1) κ2 u8 ∷ []) (h, z) (rec h ∷ [], zv)) ∷ []) ∵ move ! (1 ∷ []) $ fsplit ! $ drop ! $ join ! $
+        by ! (walk Rec.the-row Ans.the-row rec ans (99 ∷ 97 ∷ 108 ∷ 108 ∷ 115 ∷ 58 ∷ 58 ∷ 84 ∷ 105 ∷ 109 ∷ 101 ∷ 114 ∷ 115 ∷ 79 ∷ 117 ∷ 116 ∷ []) (tyNamed (97 ∷ 115 ∷ 115 ∷ 111 ∷ 99 ∷ 105 ∷ 97 ∷ 116 ∷ 105 ∷ 111 ∷ 110 ∷ 58 ∷ 58 ∷ 65 ∷ 115 ∷ 115 ∷ 111 ∷ 99 ∷ 105 ∷ 97 ∷ 116 ∷ 105 ∷ 111 ∷ 110 ∷ [], [])) Rec′.mir Ans′.mir (tyInt w64) tyBool Ans′.mir Put·′.mir tyBool (tyInt w64) PollInterval·′.mir (tyInt w64) (tyArray (tyInt w8) 32) (tyStruct (38 ∷ 91 ∷ 93 ∷ []) (tcons (tyRef (named 0) imm (tyInt w8)) (tcons (tyInt w64) tnil))) refl
           (LL.tells Rec.the-type Rec′.the-laws) (EL.tells Ans.the-type Ans′.the-laws)
           (λ y g. LL.lawful Rec.the-type Rec′.the-laws 𝓤 H A W .typed y _ g .0) (λ y v g. EL.lawful Ans.the-type Ans′.the-laws 𝓤 H A W tt .typed y _ g .0) (λ r w is g. LL.lawful Out.the-type Out′.the-laws 𝓤 H A W .typed (record { answer = r; association = w }) _ (made r w is g) .0)
-          𝓤 H A W (LL.makes Rec.the-type Rec′.the-plain 𝓤 H A) h (vint w64 calls) (vbool calling) (EL.val TimerAnswer·.the-type TimerAnswer·′.the-laws before) (LL.val Put·.the-type Put·′.the-laws put) (vbool stores) (vint w64 time) (LL.val PollInterval·.the-type PollInterval·′.the-laws desired) (vint w64 id) (only (array-vals (uint-vals w8) uid)) (sliceVal (list .ptr) (length (list .now))) buffer h-is
-          (uint-lawful 𝓤 H A W w64 .typed calls _ calls-is .0) (bool-lawful 𝓤 H A W .typed calling _ calling-is .0) (EL.lawful TimerAnswer·.the-type TimerAnswer·′.the-laws 𝓤 H A W tt .typed before _ before-is .0) (LL.lawful Put·.the-type Put·′.the-laws 𝓤 H A W .typed put _ put-is .0) (bool-lawful 𝓤 H A W .typed stores _ stores-is .0) (uint-lawful 𝓤 H A W w64 .typed time _ time-is .0) (LL.lawful PollInterval·.the-type PollInterval·′.the-laws 𝓤 H A W .typed desired _ desired-is .0) (uint-lawful 𝓤 H A W w64 .typed id _ id-is .0) (array-lawful 𝓤 H A W u8 (uint-lawful 𝓤 H A W w8) 32 .typed uid _ uid-is .0) (shr-slice-lawful 𝓤 H A W (named 0) κ1 u8 .typed list _ list-is .0) (mut-slice-lawful 𝓤 H A W (named 1) κ2 u8 .typed buffer _ buffer-is .0)
+          𝓤 H A W (LL.makes Rec.the-type Rec′.the-plain 𝓤 H A) h (vint w64 calls) (vbool calling) (EL.val Ans.the-type Ans′.the-laws before) (LL.val Put·.the-type Put·′.the-laws put) (vbool stores) (vint w64 time) (LL.val PollInterval·.the-type PollInterval·′.the-laws desired) (vint w64 id) (only (array-vals (uint-vals w8) uid)) (sliceVal (list .ptr) (length (list .now))) buffer h-is
+          (uint-lawful 𝓤 H A W w64 .typed calls _ calls-is .0) (bool-lawful 𝓤 H A W .typed calling _ calling-is .0) (EL.lawful Ans.the-type Ans′.the-laws 𝓤 H A W tt .typed before _ before-is .0) (LL.lawful Put·.the-type Put·′.the-laws 𝓤 H A W .typed put _ put-is .0) (bool-lawful 𝓤 H A W .typed stores _ stores-is .0) (uint-lawful 𝓤 H A W w64 .typed time _ time-is .0) (LL.lawful PollInterval·.the-type PollInterval·′.the-laws 𝓤 H A W .typed desired _ desired-is .0) (uint-lawful 𝓤 H A W w64 .typed id _ id-is .0) (array-lawful 𝓤 H A W u8 (uint-lawful 𝓤 H A W w8) 32 .typed uid _ uid-is .0) (shr-slice-lawful 𝓤 H A W (named 0) κ1 u8 .typed list _ list-is .0) (mut-slice-lawful 𝓤 H A W (named 1) κ2 u8 .typed buffer _ buffer-is .0)
           Own (mean 𝓤 H A (‵ (flft κ1 q1) ⊛ ‵ (flft κ2 q2) ⊛ ‵ ftrue)) Last (λ α l δ. Core 𝓤 H A at-mem run .pre (to-core α l δ)) (λ α l δ. Core 𝓤 H A at-mem run .post (to-core α l δ)) Post Ensured (λ r w last. (Unit {0}) × (length last ≡ length (buffer .now))) goes-core comes-back said-of exits C Λ fm (λ α l δ. known (to-core α l δ)))
 
 module _ {M : Type 1} (𝓤 : URA M) (H : Heap 𝓤) (A : Atoms 𝓤) (W : Given 𝓤 H A) (at-mem : Memory → SProp 𝓤) (run : Routine → Fun 𝓤) where
   walks : (C : Calls 𝓤 H) (Λ : Loops 𝓤 H) → FmC 𝓤 H (W .laws) C → Triple 𝓤 (C #calls·timers) (Core 𝓤 H A at-mem run) → Walks 𝓤 H A self.ended stayed (WpFn 𝓤 H C Λ code.function) (self.clauses 𝓤 H A at-mem run)
-  walks C Λ fm known = walked 𝓤 H A self.ended stayed (self.clauses 𝓤 H A at-mem run) (WpFn 𝓤 H C Λ code.function) (λ κs. (LL.vals Rec.the-type Rec′.the-laws, (uint-vals w64, (bool-vals, (EL.vals TimerAnswer·.the-type TimerAnswer·′.the-laws, (LL.vals Put·.the-type Put·′.the-laws, (bool-vals, (uint-vals w64, (LL.vals PollInterval·.the-type PollInterval·′.the-laws, (uint-vals w64, (array-vals (uint-vals w8), (slice-vals, (slice-vals, tt))))))))))))) (λ κs. (LL.tells Rec.the-type Rec′.the-laws, (uint-tells w64, (bool-tells, (EL.tells TimerAnswer·.the-type TimerAnswer·′.the-laws, (LL.tells Put·.the-type Put·′.the-laws, (bool-tells, (uint-tells w64, (LL.tells PollInterval·.the-type PollInterval·′.the-laws, (uint-tells w64, (array-tells u8 (uint-vals w8) (uint-tells w8) 32, (shr-slice-tells (named 0) (κs .0) u8, (mut-slice-tells (named 1) (κs .1 .0) u8, tt)))))))))))))
+  walks C Λ fm known = walked 𝓤 H A self.ended stayed (self.clauses 𝓤 H A at-mem run) (WpFn 𝓤 H C Λ code.function) (λ κs. (LL.vals Rec.the-type Rec′.the-laws, (uint-vals w64, (bool-vals, (EL.vals Ans.the-type Ans′.the-laws, (LL.vals Put·.the-type Put·′.the-laws, (bool-vals, (uint-vals w64, (LL.vals PollInterval·.the-type PollInterval·′.the-laws, (uint-vals w64, (array-vals (uint-vals w8), (slice-vals, (slice-vals, tt))))))))))))) (λ κs. (LL.tells Rec.the-type Rec′.the-laws, (uint-tells w64, (bool-tells, (EL.tells Ans.the-type Ans′.the-laws, (LL.tells Put·.the-type Put·′.the-laws, (bool-tells, (uint-tells w64, (LL.tells PollInterval·.the-type PollInterval·′.the-laws, (uint-tells w64, (array-tells u8 (uint-vals w8) (uint-tells w8) 32, (shr-slice-tells (named 0) (κs .0) u8, (mut-slice-tells (named 1) (κs .1 .0) u8, tt)))))))))))))
       (λ κs qs bounds a g are. via 𝓤 _ (fst∗ 𝓤 _ (emp 𝓤)) (walk-here 𝓤 H A W at-mem run (κs .0) (κs .1 .0) (qs .0) (qs .1 .0) (a .0) (a .1 .0) (a .1 .1 .0) (a .1 .1 .1 .0) (a .1 .1 .1 .1 .0) (a .1 .1 .1 .1 .1 .0) (a .1 .1 .1 .1 .1 .1 .0) (a .1 .1 .1 .1 .1 .1 .1 .0) (a .1 .1 .1 .1 .1 .1 .1 .1 .0) (a .1 .1 .1 .1 .1 .1 .1 .1 .1 .0) (a .1 .1 .1 .1 .1 .1 .1 .1 .1 .1 .0) (a .1 .1 .1 .1 .1 .1 .1 .1 .1 .1 .1 .0) (are .0) (are .1 .0) (are .1 .1 .0) (are .1 .1 .1 .0) (are .1 .1 .1 .1 .0) (are .1 .1 .1 .1 .1 .0) (are .1 .1 .1 .1 .1 .1 .0) (are .1 .1 .1 .1 .1 .1 .1 .0) (are .1 .1 .1 .1 .1 .1 .1 .1 .0) (are .1 .1 .1 .1 .1 .1 .1 .1 .1 .0) (are .1 .1 .1 .1 .1 .1 .1 .1 .1 .1 .0) (are .1 .1 .1 .1 .1 .1 .1 .1 .1 .1 .1 .0) C Λ fm known))
 
   goes : AllGo 𝓤 H A W 2 (self.signature .params) (self.ended .kept) stayed
-  goes = (goes-dropped 𝓤 H A W 2 (plain (λ _. Rec.the-row)) yes (λ κs x f. refl), (goes-dropped 𝓤 H A W 2 (plain (λ _. u64)) yes (λ κs x f. refl), (goes-dropped 𝓤 H A W 2 (plain (λ _. bool)) yes (λ κs x f. refl), (goes-dropped 𝓤 H A W 2 (plain (λ _. TimerAnswer·.the-row)) yes (λ κs x f. refl), (goes-dropped 𝓤 H A W 2 (plain (λ _. Put·.the-row)) yes (λ κs x f. refl), (goes-dropped 𝓤 H A W 2 (plain (λ _. bool)) yes (λ κs x f. refl), (goes-dropped 𝓤 H A W 2 (plain (λ _. u64)) yes (λ κs x f. refl), (goes-dropped 𝓤 H A W 2 (plain (λ _. PollInterval·.the-row)) yes (λ κs x f. refl), (goes-dropped 𝓤 H A W 2 (plain (λ _. u64)) yes (λ κs x f. refl), (goes-dropped 𝓤 H A W 2 (ArrayOf (plain (λ _. u8)) (λ _. tt) 32) yes (λ κs x f. refl), (goes-dropped 𝓤 H A W 2 (shrSliceOf (0 ∷ []) tt (plain (λ _. u8))) yes (λ κs x f. refl), (goes-gave-slice 𝓤 H A W 2 1 tt (plain (λ _. u8)), tt))))))))))))
+  goes = (goes-dropped 𝓤 H A W 2 (plain (λ _. Rec.the-row)) yes (λ κs x f. refl), (goes-dropped 𝓤 H A W 2 (plain (λ _. u64)) yes (λ κs x f. refl), (goes-dropped 𝓤 H A W 2 (plain (λ _. bool)) yes (λ κs x f. refl), (goes-dropped 𝓤 H A W 2 (plain (λ _. Ans.the-row)) yes (λ κs x f. refl), (goes-dropped 𝓤 H A W 2 (plain (λ _. Put·.the-row)) yes (λ κs x f. refl), (goes-dropped 𝓤 H A W 2 (plain (λ _. bool)) yes (λ κs x f. refl), (goes-dropped 𝓤 H A W 2 (plain (λ _. u64)) yes (λ κs x f. refl), (goes-dropped 𝓤 H A W 2 (plain (λ _. PollInterval·.the-row)) yes (λ κs x f. refl), (goes-dropped 𝓤 H A W 2 (plain (λ _. u64)) yes (λ κs x f. refl), (goes-dropped 𝓤 H A W 2 (ArrayOf (plain (λ _. u8)) (λ _. tt) 32) yes (λ κs x f. refl), (goes-dropped 𝓤 H A W 2 (shrSliceOf (0 ∷ []) tt (plain (λ _. u8))) yes (λ κs x f. refl), (goes-gave-slice 𝓤 H A W 2 1 tt (plain (λ _. u8)), tt))))))))))))
 
 meets : {M : Type 1} (𝓤 : URA M) (H : Heap 𝓤) (A : Atoms 𝓤) → Given 𝓤 H A → (at-mem : Memory → SProp 𝓤) (run : Routine → Fun 𝓤) (𝓣 : Tables 𝓤 H) → Triple 𝓤 (𝓣 .C #calls·timers) (Core 𝓤 H A at-mem run)
     → Meets 𝓤 H A self.signature (WpFn 𝓤 H (𝓣 .C) (𝓣 .Λ) code.function) (self.spec 𝓤 H A at-mem run)
