@@ -4,6 +4,9 @@
     let state = a.state;
     let next = put_back(state, put);
     a.state = next;
+    let stash = a.stash;
+    let roomy = with_held(stash, held);
+    a.stash = roomy;
     lent_stash::refill(&mut a.stash, CAPACITY, stores, list);
 
 and the loops that lend it on, `timers` and `replies`:
@@ -11,7 +14,7 @@ and the loops that lend it on, `timers` and `replies`:
     let mut answer = before;
     let mut left = calls;
     while 0 < left {
-        ready(a, put, stores, list);
+        ready(a, put, held, stores, list);
         if calling {
             answer = CALL(a, params..);
         }
@@ -43,17 +46,18 @@ LENT = 'use Rattle.calls.proofs.Lent.{silent, slice-again, slice-home}\
 
 def ready():
     l = Slice('shr', 1)
-    params = [('put', PUT), ('stores', BOOL), ('list', l)]
+    params = [('put', PUT), ('held', USIZE), ('stores', BOOL), ('list', l)]
 
-    def stash(al, de):
-        return Arg('stash-ref ' + de, 'vptr b (o + dist)', item='the reference', own='‵ (MutRef (named 0) (%s ∷ []) Sta.the-row .own (stash-ref %s) (vptr b (o + dist) ∷ []))' % (al, de), fin='ref', last='res' + de)
+    def stash(al, de, s):
+        return Arg('stash-ref %s %s' % (de, s), 'vptr b (o + dist)', item='the reference', own='‵ (MutRef (named 0) (%s ∷ []) Sta.the-row .own (stash-ref %s %s) (vptr b (o + dist) ∷ []))' % (al, de, s), fin='ref', last='res' + de)
 
     rule = Callee('rule', CRATE, 'put_back', [], lambda: dict(lfts=[], args=[value(STATE, 'h .state', 'm-is'), value(PUT, 'put', 'p-is')], says=None), STATE, ['Unit {0}', 'Unit {0}'])
-    after = Callee('after', 'lent_stash', 'refill', [('β', 'ℕ'), ('δ', 'GName')],
-                   lambda β, δ: dict(lfts=[(β + ' ∷ []', 'fullShare', 'tok' + β), ('κ1', 'q1', 'tok1')], args=[stash(β, δ), value(U8, '8', 'c-is'), value(BOOL, 'stores', 's-is'), shared('list', l)],
-                                     says=lambda r, ws: '%s .0 ≡ cond stores (storeListOf 8 (h .stash) (list .now)) (h .stash)' % ws), UNIT, ['CookieStash', 'Unit {0}', 'Unit {0}', 'Unit {0}'])
-    f = Fn(CRATE, 'ready', 'mut', 'Association', 'Rec', params, UNIT, None, [rule, after],
-           'The borrow is opened; the state is copied and passed to `put_back`; its state is stored where the old one lay; the stash, where it lies, is lent to `refill`; the borrow is closed.',
+    room = Callee('room', CRATE, 'with_held', [], lambda: dict(lfts=[], args=[value(STA, 'h .stash', 's-is'), value(USIZE, 'held', 'h-is')], says=None), STA, ['Unit {0}', 'Unit {0}'])
+    after = Callee('after', 'lent_stash', 'refill', [('β', 'ℕ'), ('δ', 'GName'), ('s', 'CookieStash')],
+                   lambda β, δ, s: dict(lfts=[(β + ' ∷ []', 'fullShare', 'tok' + β), ('κ1', 'q1', 'tok1')], args=[stash(β, δ, s), value(U8, '8', 'c-is'), value(BOOL, 'stores', 's-is'), shared('list', l)],
+                                     says=lambda r, ws: '%s .0 ≡ cond stores (storeListOf 8 %s (list .now)) %s' % (ws, s, s)), UNIT, ['CookieStash', 'Unit {0}', 'Unit {0}', 'Unit {0}'])
+    f = Fn(CRATE, 'ready', 'mut', 'Association', 'Rec', params, UNIT, None, [rule, room, after],
+           'The borrow is opened; the state is copied and passed to `put_back`, and what comes back is stored where the old one lay; so is the stash, with `with_held`; the stash, where it lies, is lent to `refill`; the borrow is closed.',
            LENT + 'use Rattle.cookiestash.specs.StoreList.{storeListOf}\nuse Rattle.lent_stash.proofs.Lends.{lies-in, lies-out, lies-told, field-out, FieldBack, field-back}\n',
            [('Association', 'Rec', 'association'), ('Settings', 'Set', 'association'), ('State', 'Sm', 'association'), ('CookieStash', 'Sta', 'cookiestash'), ('Put', 'What', CRATE)])
     owed = 'LL.owed Rec.the-type Rec′.the-laws y vs g'
@@ -76,12 +80,12 @@ abbrev dist : ℕ
 dist = up (align Sta′.mir) (up (align Set′.mir) zero + size Set′.mir)
 
 ''' % (owed, owed, owed)
-    laws = '''  abbrev stash-ref : GName → RefT CookieStash
-  stash-ref δ = record { ptr = (b, o + dist); name = δ; now = h .stash }
+    laws = '''  abbrev stash-ref : GName → CookieStash → RefT CookieStash
+  stash-ref δ s = record { ptr = (b, o + dist); name = δ; now = s }
 
 '''
     field = lambda k: 'place 1 (deref (%s) ∷ field %d ∷ [])' % (REC, k)
-    tys = ['tyUnit', 'tyRef (named 0) mut τ-to', 'τ-put', 'tyBool', l.mir, 'τ-sm', 'τ-sm', 'tyUnit', 'tyRef erased mut τ-sto']
+    tys = ['tyUnit', 'tyRef (named 0) mut τ-to', 'τ-put', 'tyInt w64', 'tyBool', l.mir, 'τ-sm', 'τ-sm', 'τ-sta', 'τ-sta', 'tyUnit', 'tyRef erased mut τ-sto']
     names = 'τ-to τ-sto τ-set τ-sta τ-sm τ-put'
     fn = '(shape ν %s)' % names
     mir = '''-- the function, over any types of the record's groups (τ-to and τ-sto are the names of the record and of the stash, behind a reference) and of what is put back
@@ -90,36 +94,40 @@ shape ν %s =
     record {
       lifetimes = 2;
       outlives = [];
-      params = 4;
+      params = 5;
       locals = %s;
       body =
-          seq (assign (place 5 []) (rvOpd (copy (%s))))
-          (seq (call #calls·put-back (copy (place 5 []) ∷ copy (place 2 []) ∷ []) (place 6 []))
-          (seq (assign (%s) (rvOpd (copy (place 6 []))))
-          (seq (assign (place 8 []) (addrOf (%s)))
-          (seq (call #lent-stash·refill (copy (place 8 []) ∷ int w8 8 ∷ copy (place 3 []) ∷ copy (place 4 []) ∷ []) (place 7 []))
+          seq (assign (place 6 []) (rvOpd (copy (%s))))
+          (seq (call #calls·put-back (copy (place 6 []) ∷ copy (place 2 []) ∷ []) (place 7 []))
+          (seq (assign (%s) (rvOpd (copy (place 7 []))))
+          (seq (assign (place 8 []) (rvOpd (copy (%s))))
+          (seq (call #calls·with-held (copy (place 8 []) ∷ copy (place 3 []) ∷ []) (place 9 []))
+          (seq (assign (%s) (rvOpd (copy (place 9 []))))
+          (seq (assign (place 11 []) (addrOf (%s)))
+          (seq (call #lent-stash·refill (copy (place 11 []) ∷ int w8 8 ∷ copy (place 4 []) ∷ copy (place 5 []) ∷ []) (place 10 []))
           (seq (assign (place 0 []) (rvOpd opdUnit))
-          return)))));
+          return))))))));
     }
 
-''' % (names, names, listed('local %s valueLocal' % atom(t) for t in tys), field(2), field(2), field(1))
+''' % (names, names, listed('local %s valueLocal' % atom(t) for t in tys), field(2), field(2), field(1), field(1), field(1))
     ctx = ['obs', 'bor', 'tok', 'tok1', 'list']
     item = {'obs': '‵ (fobs γ (Rec .coded .code h))', 'bor': '‵ (fbor κ (Body (mem Rec) b o γ))', 'tok': '‵ (flft κ q)', 'tok1': '‵ (flft κ1 q1)', 'list': l.own('list')}
     ends = ['‵ (fobs γ (Rec .coded .code (with h w s)))', item['bor'], item['tok'], item['tok1']]
     β = [('β ∷ []', 'fullShare', 'tokβ'), ('κ1', 'q1', 'tok1')]
-    vals = ['vptr b o', 'put', 'vbool stores', 'slice-val list']
+    vals = ['vptr b o', 'put', 'vint w64 held', 'vbool stores', 'slice-val list']
     o = mir + '''-- The walk, over any rows of the groups and any machine values: it asks only that these are of their types.
 module _ (Rec Set Sta Sm : RattleType) (set : Set .Denot → Val) (sta : Sta .Denot → Val) (sm : Sm .Denot → Val)
     (settings : Rec .Denot → Set .Denot) (stash : Rec .Denot → Sta .Denot) (state : Rec .Denot → Sm .Denot) (with : Rec .Denot → Sta .Denot → Sm .Denot → Rec .Denot)
     (ν : Sym) (%s : Ty) (rec-mir : Rec .mir ≡ %s ∷ []) (sta-mir : Sta .mir ≡ τ-sta ∷ [])
     (rec-tells : Tells Rec (Is Rec) (λ y. %s ∷ [])) (sta-tells : Tells Sta (Is Sta) (λ y. sta y ∷ [])) (sm-tells : Tells Sm (Is Sm) (λ y. sm y ∷ []))
     (sm-typed : (y : Sm .Denot) (v : Val) → Is Sm y (v ∷ []) → T (hasTy τ-sm v) × WT v)
+    (sta-typed : (y : Sta .Denot) (v : Val) → Is Sta y (v ∷ []) → T (hasTy τ-sta v) × WT v)
     (sta-is : (y : Rec .Denot) (vs : List Val) → Is Rec y vs → Is Sta (stash y) (sta (stash y) ∷ []))
     (sm-is : (y : Rec .Denot) (vs : List Val) → Is Rec y vs → Is Sm (state y) (sm (state y) ∷ []))
     (with-is : (y : Rec .Denot) (w : Sta .Denot) (s : Sm .Denot) (vs : List Val) → Is Rec y vs → Is Sta w (sta w ∷ []) → Is Sm s (sm s ∷ []) → Is Rec (with y w s) (%s ∷ []))
     %s (rec-makes : Makes 𝓤 H A Rec (Is Rec)) (sta-makes : Makes 𝓤 H A Sta (Is Sta))
-    (κ κ1 : Lft) (q q1 : Share) (b o : ℕ) (γ : GName) (h : Rec .Denot) (put : Val) (stores : Bool) (list : RefT (List ℕ))
-    (put-typed : T (hasTy τ-put put) × WT put) (list-is : %s) where
+    (κ κ1 : Lft) (q q1 : Share) (b o : ℕ) (γ : GName) (h : Rec .Denot) (put : Val) (held : ℕ) (stores : Bool) (list : RefT (List ℕ))
+    (put-typed : T (hasTy τ-put put) × WT put) (held-fits : Fits w64 held) (list-is : %s) where
   -- where the stash lies
   abbrev away : ℕ
   away = up (align τ-sta) (up (align τ-set) zero + size τ-set)
@@ -131,69 +139,79 @@ module _ (Rec Set Sta Sm : RattleType) (set : Set .Denot → Val) (sta : Sta .De
   new w s = %s
 
   -- the stash, lent under the name δ
-  abbrev lent : GName → RefT (Sta .Denot)
-  lent δ = record { ptr = (b, o + away); name = δ; now = stash h }
+  abbrev lent : GName → Sta .Denot → RefT (Sta .Denot)
+  lent δ s = record { ptr = (b, o + away); name = δ; now = s }
 
   -- what is known of the calls, and how it ends
-  module _ (PreR : SProp 𝓤) (BackR : Val → SProp 𝓤) (EnsuredR : Sm .Denot → SProp 𝓤)
-      (PreA : ℕ → GName → SProp 𝓤) (BackA : ℕ → GName → Val → SProp 𝓤) (EnsuredA : ℕ → GName → Unit {0} → SProp 𝓤) (Post : Val → SProp 𝓤)
+  module _ (PreR : SProp 𝓤) (BackR : Val → SProp 𝓤) (EnsuredR : Sm .Denot → SProp 𝓤) (PreH : SProp 𝓤) (BackH : Val → SProp 𝓤) (EnsuredH : Sta .Denot → SProp 𝓤)
+      (PreA : ℕ → GName → Sta .Denot → SProp 𝓤) (BackA : ℕ → GName → Sta .Denot → Val → SProp 𝓤) (EnsuredA : ℕ → GName → Sta .Denot → Unit {0} → SProp 𝓤) (Post : Val → SProp 𝓤)
       (goes-rule : Is Sm (state h) (sm (state h) ∷ []) → ent 𝓤 (⋆ 𝓤 H A (‵ ftrue ∷ [])) PreR)
       (comes-rule : (v : Val) → ent 𝓤 (BackR v) (mean 𝓤 H A (later (some (λ (r : Sm .Denot). (‵ ftrue ⊛ ‵ (Sm .own r (v ∷ []))) ⊛ raw (EnsuredR r))))))
-      (goes-after : (β : ℕ) (δ : GName) → ent 𝓤 (⋆ 𝓤 H A (%s)) (PreA β δ))
-      (comes-after : (β : ℕ) (δ : GName) (v : Val) → ent 𝓤 (BackA β δ v) (mean 𝓤 H A (later (some (λ (r : Unit {0}). (%s ⊛ ‵ (unit .own r (v ∷ []))) ⊛ raw (EnsuredA β δ r))))))
-      (said-after : (β : ℕ) (δ : GName) (r : Unit {0}) → ent 𝓤 (EnsuredA β δ r) (mean 𝓤 H A (some (λ (w : Sta .Denot). ‵ (fres δ (Sta .coded .code w))))))
+      (goes-room : Is Sta (stash h) (sta (stash h) ∷ []) → ent 𝓤 (⋆ 𝓤 H A (‵ ftrue ∷ [])) PreH)
+      (comes-room : (v : Val) → ent 𝓤 (BackH v) (mean 𝓤 H A (later (some (λ (r : Sta .Denot). (‵ ftrue ⊛ ‵ (Sta .own r (v ∷ []))) ⊛ raw (EnsuredH r))))))
+      (goes-after : (β : ℕ) (δ : GName) (s : Sta .Denot) → ent 𝓤 (⋆ 𝓤 H A (%s)) (PreA β δ s))
+      (comes-after : (β : ℕ) (δ : GName) (s : Sta .Denot) (v : Val) → ent 𝓤 (BackA β δ s v) (mean 𝓤 H A (later (some (λ (r : Unit {0}). (%s ⊛ ‵ (unit .own r (v ∷ []))) ⊛ raw (EnsuredA β δ s r))))))
+      (said-after : (β : ℕ) (δ : GName) (s : Sta .Denot) (r : Unit {0}) → ent 𝓤 (EnsuredA β δ s r) (mean 𝓤 H A (some (λ (w : Sta .Denot). ‵ (fres δ (Sta .coded .code w))))))
       (exits : (s : Sm .Denot) (w : Sta .Denot) → ent 𝓤 (⋆ 𝓤 H A (%s)) (Post vunit))
       (C : Calls 𝓤 H) (Λ : Loops 𝓤 H) (fm : FmC 𝓤 H (W .laws) C)
       (known-rule : ent 𝓤 PreR (C #calls·put-back (sm (state h) ∷ put ∷ []) BackR))
-      (known-after : (β : ℕ) (δ : GName) → ent 𝓤 (PreA β δ) (C #lent-stash·refill (vptr b %s ∷ vint w8 8 ∷ vbool stores ∷ slice-val list ∷ []) (BackA β δ))) where
+      (known-room : ent 𝓤 PreH (C #calls·with-held (sta (stash h) ∷ vint w64 held ∷ []) BackH))
+      (known-after : (β : ℕ) (δ : GName) (s : Sta .Denot) → ent 𝓤 (PreA β δ s) (C #lent-stash·refill (vptr b %s ∷ vint w8 8 ∷ vbool stores ∷ slice-val list ∷ []) (BackA β δ s))) where
 ''' % (names, REC, VALUE % ('y', '(stash y)', '(state y)'), VALUE % ('y', 'w', 's'), GIVEN, l.Is('list'), VALUE % ('h', '(stash h)', '(state h)'), VALUE % ('h', 'w', 's'),
-       listed([Callee.toks(β), '‵ (MutRef (named 0) (β ∷ []) Sta .own (lent δ) (vptr b %s ∷ []))' % AT, item['list']]), Callee.toks(β), listed(ends), AT)
+       listed([Callee.toks(β), '‵ (MutRef (named 0) (β ∷ []) Sta .own (lent δ s) (vptr b %s ∷ []))' % AT, item['list']]), Callee.toks(β), listed(ends), AT)
     o += '    walk : ent 𝓤 (⋆ 𝓤 H A (%s)) (WpFn 𝓤 H C Λ %s (%s) Post)\n    walk =\n' % (listed(item[x] for x in ctx), fn, listed(vals))
     w = Walk(ctx)
     w.emit('qed W (%s) ∵ enter ! C Λ %s (%s) _ $' % (listed(item[x] for x in ctx), fn, listed(vals)))
-    w.enter(9, ['(tt, tt)', 'put-typed', '(tt, tt)', l.typed('list', 'list-is')])
+    w.enter(12, ['(tt, tt)', 'put-typed', '(tt, held-fits)', '(tt, tt)', l.typed('list', 'list-is')])
     t = w.front('obs', 'bor', 'tok')
     w.top(3, 'record', 'obor', 'obs', 'auth')
     w.emit(t + 'opens ! tt Rec {h = h} b o (λ vs. spelt ! Rec (Is Rec) (shows 𝓤 H A Rec) (λ y. %s ∷ []) rec-tells fullShare h vs b o $' % (VALUE % ('y', '(stash y)', '(state y)')))
     w.emit('rewrite ! 0 (λ (τs : List Ty). ‵ (cellAt fullShare τs (rec ∷ []) b o)) rec-mir refl $ move ! (1 ∷ []) $ peeks ! Rec (Is Rec) (shows 𝓤 H A Rec) h (rec ∷ []) (λ g. drop ! $')
     w.emit('use1 W (‵ (fat fullShare (%s) b o rec)) (W .laws .raw-at fullShare (%s) b o rec) $' % (REC, REC))
     w.note()
-    # the state
-    w.opd(5, w.behind(1, 'record', 2), '(sm-typed (state h) _ (sm-is h _ g))')
-    t = w.tokens([])
-    w.emit(t + w.front('toks') + 'use1 W (raw PreR) (goes-rule (sm-is h _ g)) $')
-    w.top(1, "the callee's")
-    w.emit('calls-from ! fm (raw PreR) (sm (state h) ∷ put ∷ []) BackR known-rule (and-then ! %s (and-then ! %s (no-more !))) (λ vr.' % (w.loc(5), w.loc(2)))
-    w.emit('use1 W (later (some (λ (r : Sm .Denot). (‵ ftrue ⊛ ‵ (Sm .own r (vr ∷ []))) ⊛ raw (EnsuredR r)))) (comes-rule vr) $ await ! tt $ pick ! (λ rr. split ! $ move ! (1 ∷ []) $ drop ! $')
-    w.top(1, 'result')
-    t = w.front('result') + 'split ! $ move ! (1 ∷ []) $ peeks ! Sm (Is Sm) (shows 𝓤 H A Sm) rr (vr ∷ []) (λ isr. drop ! $ '
-    w.top(1, 'toks')
-    w.emit(t + w.untokens([]))
-    k = w.i('L6')
-    w.emit('land ! (from ! (stop !)) (init ! %d refl (sm-typed rr vr isr)) $ rewrite ! %d (λ (u : Val). ‵ (fat fullShare τ-sm l6 0 u)) (ap only (sm-tells rr _ isr)) refl $' % (k, k))
-    is_ = '(subst (Is Sm rr) (sm-tells rr _ isr) isr)'
-    w.store_in(1, 'record', 2, w.loc(6), '(sm-typed rr _ %s)' % is_)
-    w.note()
+
+    def renewed(tag, X, row, val, group, field, given, had, local, got):
+        '''a group is copied, what a call makes of it is stored where it lay, and that is known of it'''
+        s = tag[0]
+        w.opd(local, w.behind(1, 'record', field), '(%s-typed (%s h) _ (%s-is h _ g))' % (val, group, val))
+        t = w.tokens([])
+        w.emit(t + w.front('toks') + 'use1 W (raw Pre%s) (goes-%s (%s-is h _ g)) $' % (X, tag, val))
+        w.top(1, "the callee's")
+        w.emit('calls-from ! fm (raw Pre%s) (%s (%s h) ∷ %s ∷ []) Back%s known-%s (and-then ! %s (and-then ! %s (no-more !))) (λ v%s.' % (X, val, group, given, X, tag, w.loc(local), w.loc(had), got))
+        w.emit('use1 W (later (some (λ (r : %s .Denot). (‵ ftrue ⊛ ‵ (%s .own r (v%s ∷ []))) ⊛ raw (Ensured%s r)))) (comes-%s v%s) $ await ! tt $ pick ! (λ %s. split ! $ move ! (1 ∷ []) $ drop ! $' % (row, row, got, X, tag, got, got))
+        w.top(1, 'result')
+        t = w.front('result') + 'split ! $ move ! (1 ∷ []) $ peeks ! %s (Is %s) (shows 𝓤 H A %s) %s (v%s ∷ []) (λ is%s. drop ! $ ' % (row, row, row, got, got, got)
+        w.top(1, 'toks')
+        w.emit(t + w.untokens([]))
+        k = w.i('L%d' % (local + 1))
+        w.emit('land ! (from ! (stop !)) (init ! %d refl (%s-typed %s v%s is%s)) $ rewrite ! %d (λ (u : Val). ‵ (fat fullShare τ-%s l%d 0 u)) (ap only (%s-tells %s _ is%s)) refl $' % (k, val, got, got, got, k, val, local + 1, val, got, got))
+        known = '(subst (Is %s %s) (%s-tells %s _ is%s) is%s)' % (row, got, val, got, got, got)
+        w.store_in(1, 'record', field, w.loc(local + 1), '(%s-typed %s _ %s)' % (val, got, known))
+        w.note()
+        return known
+
+    is_ = renewed('rule', 'R', 'Sm', 'sm', 'state', 2, 'put', 2, 6, 'rr')
+    sta_is = renewed('room', 'H', 'Sta', 'sta', 'stash', 1, 'vint w64 held', 3, 8, 'rh')
     # the stash
-    fld = ('fullShare', 1, 'τ-sta', 'away', 'o', 'ofList (set (settings h) ∷ sta (stash h) ∷ sm rr ∷ [])')
-    w.addr(8, 1, field=True)
+    fld = ('fullShare', 1, 'τ-sta', 'away', 'o', 'ofList (set (settings h) ∷ sta rh ∷ sm rr ∷ [])')
+    w.addr(11, 1, field=True)
     w.twice('list', l)
-    w.takes_out(*fld, 'record', 'stash', 'the way back', 'sta (stash h)')
+    w.takes_out(*fld, 'record', 'stash', 'the way back', 'sta rh')
     any_sta = Ty('Sta .Denot', 'Sta', 'τ-sta', 'sta', None, 'sta-tells', None, None)
-    w.lends(any_sta, LIES, 'stash', 'mut', '(stash h)', 'sta-is h _ g', 'β', 'δ₂', AT, lambda δ: 'lent ' + δ)
+    w.lends(any_sta, LIES, 'stash', 'mut', 'rh', sta_is, 'β', 'δ₂', AT, lambda δ: 'lent %s rh' % δ)
     t = w.tokens(['tokβ', 'tok1'])
     u, k = w.gathered(['toks', 'the reference', 'list again'])
-    w.emit(t + u + 'use%d W (raw (PreA β δ₂)) (goes-after β δ₂) $' % k)
+    w.emit(t + u + 'use%d W (raw (PreA β δ₂ rh)) (goes-after β δ₂ rh) $' % k)
     w.top(k, "the callee's")
-    ops = ''.join('(and-then ! %s ' % x(w) for x in [L(8), LIT, L(3), L(4)]) + '(no-more !)' + ')' * 4
-    w.emit('calls-from ! fm (raw (PreA β δ₂)) (vptr b %s ∷ vint w8 8 ∷ vbool stores ∷ slice-val list ∷ []) (BackA β δ₂) (known-after β δ₂) %s (λ va.' % (AT, ops))
-    w.emit('use1 W (later (some (λ (r : Unit {0}). (%s ⊛ ‵ (unit .own r (va ∷ []))) ⊛ raw (EnsuredA β δ₂ r)))) (comes-after β δ₂ va) $ await ! tt $ pick ! (λ ra. split ! $ move ! (1 ∷ []) $' % Callee.toks(β))
-    w.emit('use1 W (some (λ (w : Sta .Denot). ‵ (fres δ₂ (Sta .coded .code w)))) (said-after β δ₂ ra) $ pick ! (λ w.')
+    ops = ''.join('(and-then ! %s ' % x(w) for x in [L(11), LIT, L(4), L(5)]) + '(no-more !)' + ')' * 4
+    w.emit('calls-from ! fm (raw (PreA β δ₂ rh)) (vptr b %s ∷ vint w8 8 ∷ vbool stores ∷ slice-val list ∷ []) (BackA β δ₂ rh) (known-after β δ₂ rh) %s (λ va.' % (AT, ops))
+    w.emit('use1 W (later (some (λ (r : Unit {0}). (%s ⊛ ‵ (unit .own r (va ∷ []))) ⊛ raw (EnsuredA β δ₂ rh r)))) (comes-after β δ₂ rh va) $ await ! tt $ pick ! (λ ra. split ! $ move ! (1 ∷ []) $' % Callee.toks(β))
+    w.emit('use1 W (some (λ (w : Sta .Denot). ‵ (fres δ₂ (Sta .coded .code w)))) (said-after β δ₂ rh ra) $ pick ! (λ w.')
     w.top(1, 'resδ₂', 'result')
     t = w.front('result') + 'split ! $ move ! (1 ∷ []) $ peeks ! unit (Is unit) (shows 𝓤 H A unit) ra (va ∷ []) (λ isa. drop ! $ '
     w.top(1, 'toks')
     w.emit(t + w.untokens(['tokβ', 'tok1']))
-    w.emit('land ! (from ! (stop !)) (init ! %d refl (nothing-lawful 𝓤 H A W .typed ra _ isa .0)) $' % w.i('L7'))
+    w.emit('land ! (from ! (stop !)) (init ! %d refl (nothing-lawful 𝓤 H A W .typed ra _ isa .0)) $' % w.i('L10'))
     w.changed(any_sta, LIES, 'stash', 'w', 'β', 'δ₂', AT, 'gw')
     w.puts_back(*fld, 'stash', 'the way back', 'record', REC, 'sta w', 'new w rr')
     w.note()
@@ -202,19 +220,19 @@ module _ (Rec Set Sta Sm : RattleType) (set : Set .Denot → Val) (sta : Sta .De
     w.top(4, 'obs', 'bor', 'tok')
     w.emit(t + 'use1 W (‵ (cellAt fullShare (%s ∷ []) (new w rr ∷ []) b o)) (W .laws .at-raw fullShare (%s) b o (new w rr)) $ rewrite ! 0 (λ (τs : List Ty). ‵ (cellAt fullShare τs (new w rr ∷ []) b o)) (sym rec-mir) refl $' % (REC, REC))
     w.emit('owned ! Rec (Is Rec) rec-makes (with h w rr) _ (with-is h w rr _ g gw %s) $ move ! (1 ∷ 0 ∷ []) $ closes ! tt Rec (with h w rr) (new w rr ∷ []) b o $' % is_)
-    w.returns(range(8, -1, -1), ['obs', 'bor', 'tok', 'tok1'], 'exits rr w')
+    w.returns(range(11, -1, -1), ['obs', 'bor', 'tok', 'tok1'], 'exits rr w')
     o += w.text() + '\n\n'
     # at its own types
     head = f.head()
     cut, val = head.index('abbrev stayed'), head.index('abbrev slice-val')
     end = head.index('\n\n', val) + 2
     p = head[:cut] + head[val:end] + o + head[cut:val] + head[end:] + f.frame(laws)
-    b = after.build('β', 'δ')
+    b = after.build('β', 'δ', 's')
     κs, xs = after.ensured(b)
     says = b['says']('r', 'ws')
-    p += '''  said-after : (β : ℕ) (δ : GName) (r : Unit {0}) → ent 𝓤 (E-after β δ r) (mean 𝓤 H A (some (λ (w : CookieStash). ‵ (fres δ (Sta.the-row .coded .code w)))))
-  said-after β δ r =
-      qed W (raw (E-after β δ r) ∷ []) ∵ use1 W (some (λ (ws : %s). ‵ (lasts after.ended %s %s ws) ⊛ raw (fact 𝓤 (%s)))) (id⊢ 𝓤 _) $ pick ! (λ ws. split ! $ move ! (1 ∷ []) $ drop ! $ fsplit ! $ move ! (1 ∷ []) $ drop ! $
+    p += '''  said-after : (β : ℕ) (δ : GName) (s : CookieStash) (r : Unit {0}) → ent 𝓤 (E-after β δ s r) (mean 𝓤 H A (some (λ (w : CookieStash). ‵ (fres δ (Sta.the-row .coded .code w)))))
+  said-after β δ s r =
+      qed W (raw (E-after β δ s r) ∷ []) ∵ use1 W (some (λ (ws : %s). ‵ (lasts after.ended %s %s ws) ⊛ raw (fact 𝓤 (%s)))) (id⊢ 𝓤 _) $ pick ! (λ ws. split ! $ move ! (1 ∷ []) $ drop ! $ fsplit ! $ move ! (1 ∷ []) $ drop ! $
       show ! (λ (w : CookieStash). mean 𝓤 H A (‵ (fres δ (Sta.the-row .coded .code w)))) (ws .0) $ done !)
 
 ''' % (prod(after.lasts), κs, xs, says)
@@ -223,11 +241,11 @@ module _ (Rec Set Sta Sm : RattleType) (set : Set .Denot → Val) (sta : Sta .De
     w.emit(w.front(*ctx) + 'by ! (walkᵃ')
     for a in ['Rec.the-row Set.the-row Sta.the-row Sm.the-row Set-val Sta-val Sm-val (λ y. y .settings) (λ y. y .stash) (λ y. y .state) with',
               '(%s) (tyNamed (%s, [])) (tyNamed (%s, [])) Set′.mir Sta′.mir Sm′.mir What′.mir refl refl' % (code('association::Association'), code('association::Association'), code('cookiestash::CookieStash')),
-              '(LL.tells Rec.the-type Rec′.the-laws) (LL.tells Sta.the-type Sta′.the-laws) (LL.tells Sm.the-type Sm′.the-laws) (λ y v g. %s)' % STATE.typed('y', 'g'),
+              '(LL.tells Rec.the-type Rec′.the-laws) (LL.tells Sta.the-type Sta′.the-laws) (LL.tells Sm.the-type Sm′.the-laws) (λ y v g. %s) (λ y v g. %s)' % (STATE.typed('y', 'g'), STA.typed('y', 'g')),
               'sta-is sm-is with-is 𝓤 H A W (LL.makes Rec.the-type Rec′.the-plain 𝓤 H A) (LL.makes Sta.the-type Sta′.the-plain 𝓤 H A)',
-              'κ κ1 q q1 b o γ h (What-val put) stores list %s list-is' % PUT.typed('put', 'put-is'),
-              '(C-rule 𝓤 H A at-mem run .pre to-rule) (C-rule 𝓤 H A at-mem run .post to-rule) E-rule (λ β δ. C-after 𝓤 H A at-mem run .pre (to-after β δ)) (λ β δ. C-after 𝓤 H A at-mem run .post (to-after β δ)) E-after Post',
-              '(λ g. goes-rule g put-is) (λ v. id⊢ 𝓤 _) (λ β δ. goes-after β δ (refl, lit< tt) stores-is) (λ β δ v. id⊢ 𝓤 _) said-after (λ s w. exits (with h w s)) C Λ fm (known-rule to-rule) (λ β δ. known-after (to-after β δ)))']:
+              'κ κ1 q q1 b o γ h (What-val put) held stores list %s (%s .1) list-is' % (PUT.typed('put', 'put-is'), USIZE.typed('held', 'held-is')),
+              '(C-rule 𝓤 H A at-mem run .pre to-rule) (C-rule 𝓤 H A at-mem run .post to-rule) E-rule (C-room 𝓤 H A at-mem run .pre to-room) (C-room 𝓤 H A at-mem run .post to-room) E-room (λ β δ s. C-after 𝓤 H A at-mem run .pre (to-after β δ s)) (λ β δ s. C-after 𝓤 H A at-mem run .post (to-after β δ s)) E-after Post',
+              '(λ g. goes-rule g put-is) (λ v. id⊢ 𝓤 _) (λ g. goes-room g held-is) (λ v. id⊢ 𝓤 _) (λ β δ s. goes-after β δ s (refl, lit< tt) stores-is) (λ β δ s v. id⊢ 𝓤 _) said-after (λ s w. exits (with h w s)) C Λ fm (known-rule to-rule) (known-room to-room) (λ β δ s. known-after (to-after β δ s)))']:
         w.emit('  ' + a)
     p += '    %s\n    walk-here =\n' % f.walk_type().replace('walk :', 'walk-here :', 1) + w.text() + '\n\n' + f.tie().replace('(walk 𝓤', '(walk-here 𝓤')
     return pruned(p.replace('walkᵃ', 'walk'))
@@ -239,7 +257,7 @@ class Loop:
 
     def __init__(self, fn, call, answer, params, passed, ensures, uses, structs):
         self.fn, self.call, self.answer, self.passed, self.ensures, self.uses, self.structs = fn, call, answer, passed, ensures, uses, structs
-        self.params = [('calls', U64), ('calling', BOOL), ('before', enum(answer[0], 'Ans')), ('put', PUT), ('stores', BOOL)] + params
+        self.params = [('calls', U64), ('calling', BOOL), ('before', enum(answer[0], 'Ans')), ('put', PUT), ('held', USIZE), ('stores', BOOL)] + params
         self.types = dict(self.params)
         self.at = {p: 2 + k for k, (p, _) in enumerate(self.params)}
         self.slices = [(p, t) for p, t in self.params if isinstance(t, Slice)]
@@ -262,7 +280,7 @@ class Loop:
             B = self.at[self.buffer]
             arm += ['assign (place %d []) (addrOf (place %d (field 0 ∷ deref (tyInt w8) ∷ [])))' % (self.PTR, B), 'assign (place %d []) (aggregate (%s))' % (self.SL, listed([cp(self.PTR), cp(B, 1)]))]
         arm.append('call %s (%s) (place %d [])' % (self.key, listed([cp(self.R2)] + [cp(self.SL if p == self.buffer else self.at[p]) for p in self.passed]), self.ANS))
-        body = [addr(self.R1), 'call #calls·ready (%s) (place %d [])' % (listed([cp(self.R1)] + [cp(self.at[p]) for p in ('put', 'stores', 'list')]), self.UNIT),
+        body = [addr(self.R1), 'call #calls·ready (%s) (place %d [])' % (listed([cp(self.R1)] + [cp(self.at[p]) for p in ('put', 'held', 'stores', 'list')]), self.UNIT),
                 'assign (place %d []) (rvOpd (%s))' % (self.TEST, cp(self.at['calling'])), 'condᴹ (%s) (arm τ-rec) skipᴹ' % cp(self.TEST), 'rest']
         turn = ['assign (place %d []) (op2 (lt unsigned) (int w64 0) (%s))' % (self.TEST, cp(self.LEFT)), 'condᴹ (%s) skipᴹ (exit 1)' % cp(self.TEST), 'turn-body τ-rec']
         byte = 'tyRef erased mut (tyInt w8)'
@@ -306,7 +324,7 @@ shape %s =
     def bytes_own(self, κ, δ, zs):
         """the buffer, lent for κ under the name δ, with the bytes zs"""
         B = self.buffer
-        return '‵ (MutSlice (named %d) %s u8 .own (held %s %s) (sliceVal (%s .ptr) (length %s) ∷ []))' % (self.types[B].j, κ, δ, zs, B, zs)
+        return '‵ (MutSlice (named %d) %s u8 .own (over %s %s) (sliceVal (%s .ptr) (length %s) ∷ []))' % (self.types[B].j, κ, δ, zs, B, zs)
 
     def walk(self):
         B = self.buffer
@@ -321,7 +339,7 @@ shape %s =
         ct = '(α β : ℕ) (δ ε : GName) (x : Rec .Denot) (zs : List ℕ)' if B else '(α : ℕ) (δ : GName) (x : Rec .Denot)'
         ctt = 'ℕ → ℕ → GName → GName → Rec .Denot → List ℕ → ' if B else 'ℕ → GName → Rec .Denot → '
         cargs = lambda zs: listed(['vptr b o'] + [self.val(p, zs) for p in self.passed])
-        rargs = listed(['vptr b o'] + [self.val(p) for p in ('put', 'stores', 'list')])
+        rargs = listed(['vptr b o'] + [self.val(p) for p in ('put', 'held', 'stores', 'list')])
         item = {'obs': '‵ (fobs γ (Rec .coded .code %s))', 'bor': '‵ (fbor κ (Body (mem Rec) b o γ))', 'tok': '‵ (flft κ q)'}
         item.update({self.lft[p][2]: '‵ (flft %s %s)' % self.lft[p][:2] for p, _ in self.slices})
         item.update(own)
@@ -342,8 +360,8 @@ module _ (Rec Ans : RattleType) (ans : Ans .Denot → Val) (%s : Ty)
             ' '.join('(%s-is : %s)' % (p, t.Is(p)) if isinstance(t, Slice) else '(%s-typed : T (hasTy τ-%s %s) × WT %s)' % (p, p, p, p) for p, t in self.params[3:]))
         if B:
             o += '''  -- the buffer, likewise
-  abbrev held : GName → List ℕ → RefT (List ℕ)
-  held ε zs = record { ptr = %s .ptr; name = ε; now = zs }
+  abbrev over : GName → List ℕ → RefT (List ℕ)
+  over ε zs = record { ptr = %s .ptr; name = ε; now = zs }
 
 ''' % B
         o += '''  -- what is known of the calls, and how it ends
@@ -475,7 +493,7 @@ module _ (Rec Ans : RattleType) (ans : Ans .Denot → Val) (%s : Ty)
         lends('(i .rec)')
         w.note()
         ts = ['tokα', self.lft['list'][2]]
-        calling('R', 'ready', 'α δ (i .rec)', ts, ['the reference', 'list again'], rargs, [self.R1] + [self.at[p] for p in ('put', 'stores', 'list')], 'Unit {0}', 'unit', rl, 'r')
+        calling('R', 'ready', 'α δ (i .rec)', ts, ['the reference', 'list again'], rargs, [self.R1] + [self.at[p] for p in ('put', 'held', 'stores', 'list')], 'Unit {0}', 'unit', rl, 'r')
         w.emit(w.drop('ensured'))
         result(ts, 'unit', 'r')
         w.emit('land ! (from ! (stop !)) (init ! %d refl (nothing-lawful 𝓤 H A W .typed rr _ isr .0)) $' % w.i('L%d' % self.UNIT))
@@ -533,7 +551,7 @@ module _ (Rec Ans : RattleType) (ans : Ans .Denot → Val) (%s : Ty)
         end([self.R1, self.UNIT, self.TEST], 'x (i .answer) (i .answer-is)' + (' (i .bytes) (i .bytes-fit) (i .long)' if B else ''))
         w.close(mark)
         w.ctx = saved
-        w.emit('(λ over. jumps ! $ exec ! C Λ En last (atRet En Post) $')
+        w.emit('(λ none. jumps ! $ exec ! C Λ En last (atRet En Post) $')
         w.opd(0, w.loc(self.ANS), '(ans-typed (i .answer) _ (i .answer-is))')
         t = w.front('ref') + 'fsplit3 ! $ drop ! $ '
         w.top(1, 'obs', 'bor')
@@ -566,12 +584,12 @@ module _ (Rec Ans : RattleType) (ans : Ans .Denot → Val) (%s : Ty)
         structs = [('Association', 'Rec', 'association'), (self.answer[0], 'Ans', self.answer[1]), ('Put', 'What', CRATE)] + self.structs
         rec = lambda al, de, x: Arg('ref %s %s' % (de, x), 'vptr b o', item='the reference', own='‵ (MutRef (named 0) (%s ∷ []) Rec.the-row .own (ref %s %s) (vptr b o ∷ []))' % (al, de, x), fin='ref', last='res' + de)
         rd = Callee('ready', CRATE, 'ready', [('α', 'ℕ'), ('δ', 'GName'), ('y', 'Association')],
-                    lambda α, δ, y: dict(lfts=[(α + ' ∷ []', 'fullShare', 'tok' + α), self.lft['list']], args=[rec(α, δ, y), value(PUT, 'put', 'p-is'), value(BOOL, 'stores', 's-is'), shared('list', self.types['list'])], says=None), UNIT, ['Association'] + ['Unit {0}'] * 3)
+                    lambda α, δ, y: dict(lfts=[(α + ' ∷ []', 'fullShare', 'tok' + α), self.lft['list']], args=[rec(α, δ, y), value(PUT, 'put', 'p-is'), value(USIZE, 'held', 'h-is'), value(BOOL, 'stores', 's-is'), shared('list', self.types['list'])], says=None), UNIT, ['Association'] + ['Unit {0}'] * 4)
 
         def arg(p, β, ε, zs):
             t = self.types[p]
             if p == B:
-                return Arg('held %s %s' % (ε, zs), 'sliceVal (%s .ptr) (length %s)' % (B, zs), item='the buffer', own=self.bytes_own('(%s ∷ [])' % β, ε, zs), fin='slice', last='last')
+                return Arg('over %s %s' % (ε, zs), 'sliceVal (%s .ptr) (length %s)' % (B, zs), item='the buffer', own=self.bytes_own('(%s ∷ [])' % β, ε, zs), fin='slice', last='last')
             return shared(p, t) if isinstance(t, Slice) else value(t, p, p + '-is′')
 
         formals = [('α', 'ℕ'), ('β', 'ℕ'), ('δ', 'GName'), ('ε', 'GName'), ('y', 'Association'), ('zs', 'List ℕ')] if B else [('α', 'ℕ'), ('δ', 'GName'), ('y', 'Association')]
@@ -585,12 +603,12 @@ module _ (Rec Ans : RattleType) (ans : Ans .Denot → Val) (%s : Ty)
         f = Fn(CRATE, self.fn, 'mut', 'Association', 'Rec', self.params, ans, None, [rd, cl],
                'In each turn the lent record is lent once more, to `ready` and to `%s`, for a lifetime of its own, and comes back once that has ended.' % self.call[1], LENT + self.uses, structs, tables=True)
         f.enums = [(self.answer[0], 'Ans', self.answer[1])]
-        walk = re.sub(r'(?<![\w·°′.-])(ref|held)(?![\w·°′.-])', r'\1°', self.walk())   # at its own types these names are had once more
+        walk = re.sub(r'(?<![\w·°′.-])(ref|over)(?![\w·°′.-])', r'\1°', self.walk())   # at its own types these names are had once more
         head = f.head()
         cut, val = head.index('abbrev stayed'), head.index('abbrev slice-val')
         end = head.index('\n\n', val) + 2
-        laws = '''  abbrev held : GName → List ℕ → RefT (List ℕ)
-  held ε zs = record { ptr = %s .ptr; name = ε; now = zs }
+        laws = '''  abbrev over : GName → List ℕ → RefT (List ℕ)
+  over ε zs = record { ptr = %s .ptr; name = ε; now = zs }
 
 ''' % B if B else ''
         p = head[:cut] + head[val:end] + walk + head[cut:val] + head[end:] + f.frame(laws)
@@ -616,7 +634,7 @@ module _ (Rec Ans : RattleType) (ans : Ans .Denot → Val) (%s : Ty)
                   '(%s .1) before-is %s' % (U64.typed('calls', 'calls-is'), ' '.join(x + '-is' if isinstance(t, Slice) else t.typed(x, x + '-is') for x, t in self.params[3:])),
                   '(λ α δ y. C-ready 𝓤 H A at-mem run .pre (to-ready α δ y)) (λ α δ y. C-ready 𝓤 H A at-mem run .post (to-ready α δ y)) E-ready',
                   '(λ %s. C-call 𝓤 H A at-mem run .pre (to-call %s)) (λ %s. C-call 𝓤 H A at-mem run .post (to-call %s)) E-call Post' % (cn, cn, cn, cn),
-                  '(λ α δ y. goes-ready α δ y put-is stores-is) (λ α δ y v. id⊢ 𝓤 _) (λ %s. goes-call %s%s) (λ %s v. id⊢ 𝓤 _)%s' % (cn, cn, rest, cn, ' said-call' if B else ''),
+                  '(λ α δ y. goes-ready α δ y put-is held-is stores-is) (λ α δ y v. id⊢ 𝓤 _) (λ %s. goes-call %s%s) (λ %s v. id⊢ 𝓤 _)%s' % (cn, cn, rest, cn, ' said-call' if B else ''),
                   '(λ r w%s is%s. exits r w%s is%s) 𝓣 (λ α δ y. known-ready (to-ready α δ y)) (λ %s. known-call (to-call %s)))' % (more[0], more[1], more[0], more[1], cn, cn)]:
             w.emit('  ' + a)
         p += '    %s\n    walk-here =\n' % f.walk_type().replace('walk :', 'walk-here :', 1).replace('WpFn 𝓤 H C Λ', 'WpFn 𝓤 H (𝓣 .C) (𝓣 .Λ)') + w.text() + '\n\n' + f.tie().replace('(walk 𝓤', '(walk-here 𝓤')

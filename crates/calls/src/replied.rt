@@ -16,12 +16,14 @@ fn number(
     list: &[u8],
 ) -> u8 {
     let put = Put { timer: false, nts };
+    let held: usize = if nts { 8 } else { 0 };
     let out = crate::replies_owned(
         a,
         calls,
         calling,
         ReplyAnswer::NotWhole,
         put,
+        held,
         false,
         packet,
         end,

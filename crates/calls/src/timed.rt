@@ -12,12 +12,14 @@ pub fn answer(a: Association, nts: bool, calls: u64, calling: bool) -> u8 {
     let mut buffer = [0u8; 724];
     let uid = [inputs::UID_BYTE; 32];
     let put = Put { timer: true, nts };
+    let held: usize = if nts { 7 } else { 0 };
     let out = crate::timers_owned(
         a,
         calls,
         calling,
         TimerAnswer::NotWhole,
         put,
+        held,
         nts,
         1000,
         PollInterval(6),
