@@ -28,7 +28,7 @@ def slice_of(lifetime, μ):
 class Param:
     """One parameter behind the record: its row, MIR type, denotation, machine value and laws."""
 
-    def __init__(self, name, kind, lft):
+    def __init__(self, name, kind, lft, ans):
         self.name, self.kind, self.lft = name, kind, None
         v, w = name, W.get(kind[1:]) if kind[0] in 'ui' else None
         if w and kind[0] == 'u':
@@ -42,9 +42,10 @@ class Param:
             self.vals, self.tells, self.lawful = 'bool-vals', 'bool-tells', 'bool-lawful 𝓤 H A W'
         elif kind.split()[0] in ('struct', 'enum'):
             s = kind.split()[1]
+            m = 'Ans' if s == ans else s + '·'   # its module
             L, few = ('LL', '') if kind.startswith('struct') else ('EL', ' tt')
-            self.row, self.den, self.mir, self.val = f'{s}·.the-row', s, f'{s}·′.mir', lambda x: f'{L}.val {s}·.the-type {s}·′.the-laws {x}'
-            self.vals, self.tells, self.lawful = f'{L}.vals {s}·.the-type {s}·′.the-laws', f'{L}.tells {s}·.the-type {s}·′.the-laws', f'{L}.lawful {s}·.the-type {s}·′.the-laws 𝓤 H A W{few}'
+            self.row, self.den, self.mir, self.val = f'{m}.the-row', s, f'{m}′.mir', lambda x: f'{L}.val {m}.the-type {m}′.the-laws {x}'
+            self.vals, self.tells, self.lawful = f'{L}.vals {m}.the-type {m}′.the-laws', f'{L}.tells {m}.the-type {m}′.the-laws', f'{L}.lawful {m}.the-type {m}′.the-laws 𝓤 H A W{few}'
         elif kind.startswith('bytes '):
             n = kind.split()[1]
             self.row, self.den, self.mir, self.val = f'Array u8 {n}', 'List ℕ', f'tyArray (tyInt w8) {n}', lambda x: f'only (array-vals (uint-vals w8) {x})'
@@ -81,7 +82,7 @@ class Config:
         self.params, lft = [], 0
         for nm, kind in c['params']:
             lft += kind in ('shr', 'mut')
-            self.params.append(Param(nm, kind, lft))
+            self.params.append(Param(nm, kind, lft, self.ans))
         self.lfts = lft
         self.buffer = next((j for j, p in enumerate(self.params) if p.buffer), None)
         self.K = int(self.buffer is not None)   # at most one buffer
@@ -119,7 +120,7 @@ use prog.Memory.{Memory}
 use prog.Routine.{Routine}
 use prog.Wp.{Heap, Calls, Loops, WpFn, Tables}
 use ghost.Atoms.{Atoms, sem}
-use contract.Monad.{Fun, fact}
+use contract.Monad.{Fun, fact, factI}
 use contract.Running.{givenOf, tables, tablesOf}
 use types.SemTy.{Body}
 use sound.WpLaws.{FmC, fmOf, WpFn-mono}
@@ -141,7 +142,9 @@ use denote.Triple.Call.{calls-from}
 use denote.Triple.Clauses.{ensured, lasts}
 use denote.Triple.Table.{entered, cited}
 use denote.Exit.{yes}'''.split('\n') + more), key=lambda u: u.split('{')[0])
-        for module, names in c['definitions'].items():
+        if 'fn_says' not in c:
+            o.append(f'use Rattle.{self.crate}.proofs.Lent.{{silent}}')
+        for module, names in c.get('definitions', {}).items():
             own, _, module = module.rpartition('.')
             o.append(f'use {f"Rattle.{own}.specs" if own else f"Rattle.{self.crate}.specs"}.{module}.{{{", ".join(names)}}}')
         for t in dict.fromkeys([self.rec, self.out, self.ans] + self.decl):
@@ -311,7 +314,8 @@ module _ (Rec Ans : RattleType) (rec : Rec .Denot → Val) (ans : Ans .Denot →
     tokens = f'({tokens})'
     z, zv = tup([p.name for p in ps]), tup([f'{p.val(p.name)} ∷ []' for p in ps])
     rows = listed(p.row for p in ps)
-    fact = lambda record, last: c['fn_says'].replace('$RECORD', 'h').replace('$NEXT', record).replace('$LAST', last)
+    silent = 'fn_says' not in c
+    fact = lambda record, last: c.get('fn_says', 'Unit {0}').replace('$RECORD', 'h').replace('$NEXT', record).replace('$LAST', last)
     long = f'length last ≡ length ({buf.name} .now)' if K else ''
     says = f'({fact("w", "last")}) × ({long})' if K else fact('w', '')
     fin = f' ∷ ‵ (finally u8 ({buf.name} .name) last)' if K else ''
@@ -320,7 +324,7 @@ module _ (Rec Ans : RattleType) (rec : Rec .Denot → Val) (ans : Ans .Denot →
     last_type = prod([g.rec] + ['List ℕ' if p.buffer else 'Unit {0}' for p in ps])
     last = path('w', 1 + g.buffer) if K else ''
     known = fact('(w .0)', last)
-    here = f'use1 W (some (λ (w : {last_type}). ‵ (lasts core.ended {κc} (lent l δ, z) w) ⊛ raw (fact 𝓤 ({known})))) (id⊢ 𝓤 _) $ pick ! (λ w. split ! $ move ! (1 ∷ []) $ heard ! ({known}) (λ e. fsplit ! $ move ! (1 ∷ []) $'
+    here = f'use1 W (some (λ (w : {last_type}). ‵ (lasts core.ended {κc} (lent l δ, z) w) ⊛ raw ({"emp 𝓤" if silent else f"fact 𝓤 ({known})"}))) (id⊢ 𝓤 _) $ pick ! (λ w. split ! $ move ! (1 ∷ []) ${" use1 W (raw (fact 𝓤 (Unit {0}))) (factI 𝓤 (Unit {0}) (emp 𝓤) tt) $" if silent else ""} heard ! ({known}) (λ e. fsplit ! $ move ! (1 ∷ []) $'
     res = '‵ (fres δ (Rec.the-row .coded .code w))'
     said = f"""  abbrev Last : List ℕ → SProp 𝓤
   Last last = sem 𝓤 H A (finally u8 ({buf.name} .name) last)
@@ -369,7 +373,7 @@ module _ {{M : Type 1}} (𝓤 : URA M) (H : Heap 𝓤) (A : Atoms 𝓤) (W : Giv
   exits : (r : {g.ans}) (w : {g.rec}) →{" (last : List ℕ) →" if K else ""} Is Ans.the-row r (ans r ∷ []) → Is Rec.the-row w (rec w ∷ []) → {says} → ent 𝓤 (⋆ 𝓤 H A ({tokens}{fin} ∷ [])) (Post (out ({made})))
   exits r w{" last" if K else ""} is g {"(e, long)" if K else "e"} =
       qed W ({tokens}{fin} ∷ []) ∵ suffices ! _ (ends-at 𝓤 H A self.ended stayed (self.clauses 𝓤 H A at-mem run) W (({κs}, {qs}, tt, (h, z), (rec h ∷ [], zv)), tt) (out ({made})) ({made}) {tup(["tt"] + ["last" if p.buffer else "tt" for p in ps])} {tup(["tt"] + ["long" if p.buffer else "tt" for p in ps])}) $
-      says ! ({c["owned_says"]}) $ frame ! $ nothing ! $ {"".join("move ! (1 ∷ 0 ∷ []) $ fjoin ! $ " if p.buffer else "nothing ! $ fjoin ! $ " for p in reversed(ps))}nothing ! $ fjoin ! $
+      {"silent !" if silent else f"says ! ({c['owned_says']})"} $ frame ! $ nothing ! $ {"".join("move ! (1 ∷ 0 ∷ []) $ fjoin ! $ " if p.buffer else "nothing ! $ fjoin ! $ " for p in reversed(ps))}nothing ! $ fjoin ! $
       owned ! Out.the-row (Is Out.the-row) (LL.makes Out.the-type Out′.the-plain 𝓤 H A) ({made}) _ (made r w is g) $ move ! (1 ∷ 0 ∷ []) $ done !
 
   -- the record, lent at l for the lifetime α under the name δ, and what the thin call is given of it and of the other arguments

@@ -1,0 +1,2 @@
+-- The laws that the walks of `calls` cite.
+pub mod Lent

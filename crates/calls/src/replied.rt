@@ -1,0 +1,61 @@
+// The inputs of the reply.
+use crate::Put;
+use crate::inputs;
+use association::Association;
+use reply_rules::ReplyAnswer;
+use time_types::NtpTimestamp;
+
+fn number(
+    a: Association,
+    nts: bool,
+    calls: u64,
+    calling: bool,
+    packet: &[u8],
+    end: usize,
+    decrypted: &[u8],
+    list: &[u8],
+) -> u8 {
+    let put = Put { timer: false, nts };
+    let held: usize = if nts { 8 } else { 0 };
+    let out = crate::replies_owned(
+        a,
+        calls,
+        calling,
+        ReplyAnswer::NotWhole,
+        put,
+        held,
+        false,
+        packet,
+        end,
+        decrypted,
+        list,
+        NtpTimestamp(0x100000000),
+        NtpTimestamp(0x400000000),
+        2000,
+    );
+    let answer = out.answer;
+    answer.number()
+}
+
+// With NTS the reply is sealed over the unique identifier and has one new cookie; without, it is the header.
+pub fn answer(a: Association, nts: bool, calls: u64, calling: bool) -> u8 {
+    let mut packet = [0u8; 228];
+    inputs::put_packet(&mut packet);
+    let mut decrypted = [9u8; 104];
+    inputs::put_decrypted(&mut decrypted);
+    let mut list = [9u8; 104];
+    inputs::put_list(&mut list);
+    if nts {
+        return number(a, nts, calls, calling, &packet, 84, &decrypted, &list);
+    }
+    number(
+        a,
+        nts,
+        calls,
+        calling,
+        inputs::first(&packet, 48),
+        48,
+        b"",
+        b"",
+    )
+}
