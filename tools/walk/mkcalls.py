@@ -2,7 +2,7 @@
 """mkcalls.py FN > crates/calls/proofs/FN/Proof.antt: the walks of the program `calls` (README.md): `ready`, which changes a lent association where it lies,
 
     let state = a.state;
-    let next = put_back(state, put);
+    let next = put_back(state, kind);
     a.state = next;
     let stash = a.stash;
     let roomy = with_held(stash, held);
@@ -14,7 +14,7 @@ and the loops that lend it on, `timers` and `replies`:
     let mut answer = before;
     let mut left = calls;
     while 0 < left {
-        ready(a, put, held, stores, list);
+        ready(a, kind, held, stores, list);
         if calling {
             answer = CALL(a, params..);
         }
@@ -29,7 +29,7 @@ from inplace import *
 
 Fn.by = 'mkcalls.py'
 CRATE = 'calls'
-STA, STATE, PUT = struct('CookieStash', 'Sta'), struct('State', 'Sm'), struct('Put', 'What')
+STA, STATE, KIND = struct('CookieStash', 'Sta'), struct('State', 'Sm'), struct('Kind', 'What')
 L = lambda *a: lambda w: w.loc(*a)
 LIT = lambda w: '(lit ! tt)'
 code = lambda s: listed(str(ord(x)) for x in s)
@@ -46,12 +46,12 @@ LENT = 'use Rattle.calls.proofs.Lent.{silent, slice-again, slice-home}\
 
 def ready():
     l = Slice('shr', 1)
-    params = [('put', PUT), ('held', USIZE), ('stores', BOOL), ('list', l)]
+    params = [('kind', KIND), ('held', USIZE), ('stores', BOOL), ('list', l)]
 
     def stash(al, de, s):
         return Arg('stash-ref %s %s' % (de, s), 'vptr b (o + dist)', item='the reference', own='‵ (MutRef (named 0) (%s ∷ []) Sta.the-row .own (stash-ref %s %s) (vptr b (o + dist) ∷ []))' % (al, de, s), fin='ref', last='res' + de)
 
-    rule = Callee('rule', CRATE, 'put_back', [], lambda: dict(lfts=[], args=[value(STATE, 'h .state', 'm-is'), value(PUT, 'put', 'p-is')], says=None), STATE, ['Unit {0}', 'Unit {0}'])
+    rule = Callee('rule', CRATE, 'put_back', [], lambda: dict(lfts=[], args=[value(STATE, 'h .state', 'm-is'), value(KIND, 'kind', 'p-is')], says=None), STATE, ['Unit {0}', 'Unit {0}'])
     room = Callee('room', CRATE, 'with_held', [], lambda: dict(lfts=[], args=[value(STA, 'h .stash', 's-is'), value(USIZE, 'held', 'h-is')], says=None), STA, ['Unit {0}', 'Unit {0}'])
     after = Callee('after', 'lent_stash', 'refill', [('β', 'ℕ'), ('δ', 'GName'), ('s', 'CookieStash')],
                    lambda β, δ, s: dict(lfts=[(β + ' ∷ []', 'fullShare', 'tok' + β), ('κ1', 'q1', 'tok1')], args=[stash(β, δ, s), value(U8, '8', 'c-is'), value(BOOL, 'stores', 's-is'), shared('list', l)],
@@ -59,7 +59,7 @@ def ready():
     f = Fn(CRATE, 'ready', 'mut', 'Association', 'Rec', params, UNIT, None, [rule, room, after],
            'The borrow is opened; the state is copied and passed to `put_back`, and what comes back is stored where the old one lay; so is the stash, with `with_held`; the stash, where it lies, is lent to `refill`; the borrow is closed.',
            LENT + 'use Rattle.cookiestash.specs.StoreList.{storeListOf}\nuse Rattle.lent_stash.proofs.Lends.{lies-in, lies-out, lies-told, field-out, FieldBack, field-back}\n',
-           [('Association', 'Rec', 'association'), ('Settings', 'Set', 'association'), ('State', 'Sm', 'association'), ('CookieStash', 'Sta', 'cookiestash'), ('Put', 'What', CRATE)])
+           [('Association', 'Rec', 'association'), ('Settings', 'Set', 'association'), ('State', 'Sm', 'association'), ('CookieStash', 'Sta', 'cookiestash'), ('Kind', 'What', CRATE)])
     owed = 'LL.owed Rec.the-type Rec′.the-laws y vs g'
     f.moredefs = '''-- what whoever holds a record knows of its parts
 sta-is : (y : Association) (vs : List Val) → Is Rec.the-row y vs → Is Sta.the-row (y .stash) (Sta-val (y .stash) ∷ [])
@@ -85,10 +85,10 @@ dist = up (align Sta′.mir) (up (align Set′.mir) zero + size Set′.mir)
 
 '''
     field = lambda k: 'place 1 (deref (%s) ∷ field %d ∷ [])' % (REC, k)
-    tys = ['tyUnit', 'tyRef (named 0) mut τ-to', 'τ-put', 'tyInt w64', 'tyBool', l.mir, 'τ-sm', 'τ-sm', 'τ-sta', 'τ-sta', 'tyUnit', 'tyRef erased mut τ-sto']
-    names = 'τ-to τ-sto τ-set τ-sta τ-sm τ-put'
+    tys = ['tyUnit', 'tyRef (named 0) mut τ-to', 'τ-kind', 'tyInt w64', 'tyBool', l.mir, 'τ-sm', 'τ-sm', 'τ-sta', 'τ-sta', 'tyUnit', 'tyRef erased mut τ-sto']
+    names = 'τ-to τ-sto τ-set τ-sta τ-sm τ-kind'
     fn = '(shape ν %s)' % names
-    mir = '''-- the function, over any types of the record's groups (τ-to and τ-sto are the names of the record and of the stash, behind a reference) and of what is put back
+    mir = '''-- the function, over any types of the record's groups (τ-to and τ-sto are the names of the record and of the stash, behind a reference) and of the kind of call
 abbrev shape : Sym → (%s : Ty) → Fn
 shape ν %s =
     record {
@@ -114,7 +114,7 @@ shape ν %s =
     item = {'obs': '‵ (fobs γ (Rec .coded .code h))', 'bor': '‵ (fbor κ (Body (mem Rec) b o γ))', 'tok': '‵ (flft κ q)', 'tok1': '‵ (flft κ1 q1)', 'list': l.own('list')}
     ends = ['‵ (fobs γ (Rec .coded .code (with h w s)))', item['bor'], item['tok'], item['tok1']]
     β = [('β ∷ []', 'fullShare', 'tokβ'), ('κ1', 'q1', 'tok1')]
-    vals = ['vptr b o', 'put', 'vint w64 held', 'vbool stores', 'slice-val list']
+    vals = ['vptr b o', 'kind', 'vint w64 held', 'vbool stores', 'slice-val list']
     o = mir + '''-- The walk, over any rows of the groups and any machine values: it asks only that these are of their types.
 module _ (Rec Set Sta Sm : RattleType) (set : Set .Denot → Val) (sta : Sta .Denot → Val) (sm : Sm .Denot → Val)
     (settings : Rec .Denot → Set .Denot) (stash : Rec .Denot → Sta .Denot) (state : Rec .Denot → Sm .Denot) (with : Rec .Denot → Sta .Denot → Sm .Denot → Rec .Denot)
@@ -126,8 +126,8 @@ module _ (Rec Set Sta Sm : RattleType) (set : Set .Denot → Val) (sta : Sta .De
     (sm-is : (y : Rec .Denot) (vs : List Val) → Is Rec y vs → Is Sm (state y) (sm (state y) ∷ []))
     (with-is : (y : Rec .Denot) (w : Sta .Denot) (s : Sm .Denot) (vs : List Val) → Is Rec y vs → Is Sta w (sta w ∷ []) → Is Sm s (sm s ∷ []) → Is Rec (with y w s) (%s ∷ []))
     %s (rec-makes : Makes 𝓤 H A Rec (Is Rec)) (sta-makes : Makes 𝓤 H A Sta (Is Sta))
-    (κ κ1 : Lft) (q q1 : Share) (b o : ℕ) (γ : GName) (h : Rec .Denot) (put : Val) (held : ℕ) (stores : Bool) (list : RefT (List ℕ))
-    (put-typed : T (hasTy τ-put put) × WT put) (held-fits : Fits w64 held) (list-is : %s) where
+    (κ κ1 : Lft) (q q1 : Share) (b o : ℕ) (γ : GName) (h : Rec .Denot) (kind : Val) (held : ℕ) (stores : Bool) (list : RefT (List ℕ))
+    (kind-typed : T (hasTy τ-kind kind) × WT kind) (held-fits : Fits w64 held) (list-is : %s) where
   -- where the stash lies
   abbrev away : ℕ
   away = up (align τ-sta) (up (align τ-set) zero + size τ-set)
@@ -154,7 +154,7 @@ module _ (Rec Set Sta Sm : RattleType) (set : Set .Denot → Val) (sta : Sta .De
       (said-after : (β : ℕ) (δ : GName) (s : Sta .Denot) (r : Unit {0}) → ent 𝓤 (EnsuredA β δ s r) (mean 𝓤 H A (some (λ (w : Sta .Denot). ‵ (fres δ (Sta .coded .code w))))))
       (exits : (s : Sm .Denot) (w : Sta .Denot) → ent 𝓤 (⋆ 𝓤 H A (%s)) (Post vunit))
       (C : Calls 𝓤 H) (Λ : Loops 𝓤 H) (fm : FmC 𝓤 H (W .laws) C)
-      (known-rule : ent 𝓤 PreR (C #calls·put-back (sm (state h) ∷ put ∷ []) BackR))
+      (known-rule : ent 𝓤 PreR (C #calls·put-back (sm (state h) ∷ kind ∷ []) BackR))
       (known-room : ent 𝓤 PreH (C #calls·with-held (sta (stash h) ∷ vint w64 held ∷ []) BackH))
       (known-after : (β : ℕ) (δ : GName) (s : Sta .Denot) → ent 𝓤 (PreA β δ s) (C #lent-stash·refill (vptr b %s ∷ vint w8 8 ∷ vbool stores ∷ slice-val list ∷ []) (BackA β δ s))) where
 ''' % (names, REC, VALUE % ('y', '(stash y)', '(state y)'), VALUE % ('y', 'w', 's'), GIVEN, l.Is('list'), VALUE % ('h', '(stash h)', '(state h)'), VALUE % ('h', 'w', 's'),
@@ -162,7 +162,7 @@ module _ (Rec Set Sta Sm : RattleType) (set : Set .Denot → Val) (sta : Sta .De
     o += '    walk : ent 𝓤 (⋆ 𝓤 H A (%s)) (WpFn 𝓤 H C Λ %s (%s) Post)\n    walk =\n' % (listed(item[x] for x in ctx), fn, listed(vals))
     w = Walk(ctx)
     w.emit('qed W (%s) ∵ enter ! C Λ %s (%s) _ $' % (listed(item[x] for x in ctx), fn, listed(vals)))
-    w.enter(12, ['(tt, tt)', 'put-typed', '(tt, held-fits)', '(tt, tt)', l.typed('list', 'list-is')])
+    w.enter(12, ['(tt, tt)', 'kind-typed', '(tt, held-fits)', '(tt, tt)', l.typed('list', 'list-is')])
     t = w.front('obs', 'bor', 'tok')
     w.top(3, 'record', 'obor', 'obs', 'auth')
     w.emit(t + 'opens ! tt Rec {h = h} b o (λ vs. spelt ! Rec (Is Rec) (shows 𝓤 H A Rec) (λ y. %s ∷ []) rec-tells fullShare h vs b o $' % (VALUE % ('y', '(stash y)', '(state y)')))
@@ -190,7 +190,7 @@ module _ (Rec Set Sta Sm : RattleType) (set : Set .Denot → Val) (sta : Sta .De
         w.note()
         return known
 
-    is_ = renewed('rule', 'R', 'Sm', 'sm', 'state', 2, 'put', 2, 6, 'rr')
+    is_ = renewed('rule', 'R', 'Sm', 'sm', 'state', 2, 'kind', 2, 6, 'rr')
     sta_is = renewed('room', 'H', 'Sta', 'sta', 'stash', 1, 'vint w64 held', 3, 8, 'rh')
     # the stash
     fld = ('fullShare', 1, 'τ-sta', 'away', 'o', 'ofList (set (settings h) ∷ sta rh ∷ sm rr ∷ [])')
@@ -243,9 +243,9 @@ module _ (Rec Set Sta Sm : RattleType) (set : Set .Denot → Val) (sta : Sta .De
               '(%s) (tyNamed (%s, [])) (tyNamed (%s, [])) Set′.mir Sta′.mir Sm′.mir What′.mir refl refl' % (code('association::Association'), code('association::Association'), code('cookiestash::CookieStash')),
               '(LL.tells Rec.the-type Rec′.the-laws) (LL.tells Sta.the-type Sta′.the-laws) (LL.tells Sm.the-type Sm′.the-laws) (λ y v g. %s) (λ y v g. %s)' % (STATE.typed('y', 'g'), STA.typed('y', 'g')),
               'sta-is sm-is with-is 𝓤 H A W (LL.makes Rec.the-type Rec′.the-plain 𝓤 H A) (LL.makes Sta.the-type Sta′.the-plain 𝓤 H A)',
-              'κ κ1 q q1 b o γ h (What-val put) held stores list %s (%s .1) list-is' % (PUT.typed('put', 'put-is'), USIZE.typed('held', 'held-is')),
+              'κ κ1 q q1 b o γ h (What-val kind) held stores list %s (%s .1) list-is' % (KIND.typed('kind', 'kind-is'), USIZE.typed('held', 'held-is')),
               '(C-rule 𝓤 H A at-mem run .pre to-rule) (C-rule 𝓤 H A at-mem run .post to-rule) E-rule (C-room 𝓤 H A at-mem run .pre to-room) (C-room 𝓤 H A at-mem run .post to-room) E-room (λ β δ s. C-after 𝓤 H A at-mem run .pre (to-after β δ s)) (λ β δ s. C-after 𝓤 H A at-mem run .post (to-after β δ s)) E-after Post',
-              '(λ g. goes-rule g put-is) (λ v. id⊢ 𝓤 _) (λ g. goes-room g held-is) (λ v. id⊢ 𝓤 _) (λ β δ s. goes-after β δ s (refl, lit< tt) stores-is) (λ β δ s v. id⊢ 𝓤 _) said-after (λ s w. exits (with h w s)) C Λ fm (known-rule to-rule) (known-room to-room) (λ β δ s. known-after (to-after β δ s)))']:
+              '(λ g. goes-rule g kind-is) (λ v. id⊢ 𝓤 _) (λ g. goes-room g held-is) (λ v. id⊢ 𝓤 _) (λ β δ s. goes-after β δ s (refl, lit< tt) stores-is) (λ β δ s v. id⊢ 𝓤 _) said-after (λ s w. exits (with h w s)) C Λ fm (known-rule to-rule) (known-room to-room) (λ β δ s. known-after (to-after β δ s)))']:
         w.emit('  ' + a)
     p += '    %s\n    walk-here =\n' % f.walk_type().replace('walk :', 'walk-here :', 1) + w.text() + '\n\n' + f.tie().replace('(walk 𝓤', '(walk-here 𝓤')
     return pruned(p.replace('walkᵃ', 'walk'))
@@ -257,7 +257,7 @@ class Loop:
 
     def __init__(self, fn, call, answer, params, passed, ensures, uses, structs):
         self.fn, self.call, self.answer, self.passed, self.ensures, self.uses, self.structs = fn, call, answer, passed, ensures, uses, structs
-        self.params = [('calls', U64), ('calling', BOOL), ('before', enum(answer[0], 'Ans')), ('put', PUT), ('held', USIZE), ('stores', BOOL)] + params
+        self.params = [('calls', U64), ('calling', BOOL), ('before', enum(answer[0], 'Ans')), ('kind', KIND), ('held', USIZE), ('stores', BOOL)] + params
         self.types = dict(self.params)
         self.at = {p: 2 + k for k, (p, _) in enumerate(self.params)}
         self.slices = [(p, t) for p, t in self.params if isinstance(t, Slice)]
@@ -280,7 +280,7 @@ class Loop:
             B = self.at[self.buffer]
             arm += ['assign (place %d []) (addrOf (place %d (field 0 ∷ deref (tyInt w8) ∷ [])))' % (self.PTR, B), 'assign (place %d []) (aggregate (%s))' % (self.SL, listed([cp(self.PTR), cp(B, 1)]))]
         arm.append('call %s (%s) (place %d [])' % (self.key, listed([cp(self.R2)] + [cp(self.SL if p == self.buffer else self.at[p]) for p in self.passed]), self.ANS))
-        body = [addr(self.R1), 'call #calls·ready (%s) (place %d [])' % (listed([cp(self.R1)] + [cp(self.at[p]) for p in ('put', 'held', 'stores', 'list')]), self.UNIT),
+        body = [addr(self.R1), 'call #calls·ready (%s) (place %d [])' % (listed([cp(self.R1)] + [cp(self.at[p]) for p in ('kind', 'held', 'stores', 'list')]), self.UNIT),
                 'assign (place %d []) (rvOpd (%s))' % (self.TEST, cp(self.at['calling'])), 'condᴹ (%s) (arm τ-rec) skipᴹ' % cp(self.TEST), 'rest']
         turn = ['assign (place %d []) (op2 (lt unsigned) (int w64 0) (%s))' % (self.TEST, cp(self.LEFT)), 'condᴹ (%s) skipᴹ (exit 1)' % cp(self.TEST), 'turn-body τ-rec']
         byte = 'tyRef erased mut (tyInt w8)'
@@ -339,7 +339,7 @@ shape %s =
         ct = '(α β : ℕ) (δ ε : GName) (x : Rec .Denot) (zs : List ℕ)' if B else '(α : ℕ) (δ : GName) (x : Rec .Denot)'
         ctt = 'ℕ → ℕ → GName → GName → Rec .Denot → List ℕ → ' if B else 'ℕ → GName → Rec .Denot → '
         cargs = lambda zs: listed(['vptr b o'] + [self.val(p, zs) for p in self.passed])
-        rargs = listed(['vptr b o'] + [self.val(p) for p in ('put', 'held', 'stores', 'list')])
+        rargs = listed(['vptr b o'] + [self.val(p) for p in ('kind', 'held', 'stores', 'list')])
         item = {'obs': '‵ (fobs γ (Rec .coded .code %s))', 'bor': '‵ (fbor κ (Body (mem Rec) b o γ))', 'tok': '‵ (flft κ q)'}
         item.update({self.lft[p][2]: '‵ (flft %s %s)' % self.lft[p][:2] for p, _ in self.slices})
         item.update(own)
@@ -493,7 +493,7 @@ module _ (Rec Ans : RattleType) (ans : Ans .Denot → Val) (%s : Ty)
         lends('(i .rec)')
         w.note()
         ts = ['tokα', self.lft['list'][2]]
-        calling('R', 'ready', 'α δ (i .rec)', ts, ['the reference', 'list again'], rargs, [self.R1] + [self.at[p] for p in ('put', 'held', 'stores', 'list')], 'Unit {0}', 'unit', rl, 'r')
+        calling('R', 'ready', 'α δ (i .rec)', ts, ['the reference', 'list again'], rargs, [self.R1] + [self.at[p] for p in ('kind', 'held', 'stores', 'list')], 'Unit {0}', 'unit', rl, 'r')
         w.emit(w.drop('ensured'))
         result(ts, 'unit', 'r')
         w.emit('land ! (from ! (stop !)) (init ! %d refl (nothing-lawful 𝓤 H A W .typed rr _ isr .0)) $' % w.i('L%d' % self.UNIT))
@@ -581,10 +581,10 @@ module _ (Rec Ans : RattleType) (ans : Ans .Denot → Val) (%s : Ty)
     def proof(self):
         B = self.buffer
         ans = self.types['before']
-        structs = [('Association', 'Rec', 'association'), (self.answer[0], 'Ans', self.answer[1]), ('Put', 'What', CRATE)] + self.structs
+        structs = [('Association', 'Rec', 'association'), (self.answer[0], 'Ans', self.answer[1]), ('Kind', 'What', CRATE)] + self.structs
         rec = lambda al, de, x: Arg('ref %s %s' % (de, x), 'vptr b o', item='the reference', own='‵ (MutRef (named 0) (%s ∷ []) Rec.the-row .own (ref %s %s) (vptr b o ∷ []))' % (al, de, x), fin='ref', last='res' + de)
         rd = Callee('ready', CRATE, 'ready', [('α', 'ℕ'), ('δ', 'GName'), ('y', 'Association')],
-                    lambda α, δ, y: dict(lfts=[(α + ' ∷ []', 'fullShare', 'tok' + α), self.lft['list']], args=[rec(α, δ, y), value(PUT, 'put', 'p-is'), value(USIZE, 'held', 'h-is'), value(BOOL, 'stores', 's-is'), shared('list', self.types['list'])], says=None), UNIT, ['Association'] + ['Unit {0}'] * 4)
+                    lambda α, δ, y: dict(lfts=[(α + ' ∷ []', 'fullShare', 'tok' + α), self.lft['list']], args=[rec(α, δ, y), value(KIND, 'kind', 'p-is'), value(USIZE, 'held', 'h-is'), value(BOOL, 'stores', 's-is'), shared('list', self.types['list'])], says=None), UNIT, ['Association'] + ['Unit {0}'] * 4)
 
         def arg(p, β, ε, zs):
             t = self.types[p]
@@ -634,7 +634,7 @@ module _ (Rec Ans : RattleType) (ans : Ans .Denot → Val) (%s : Ty)
                   '(%s .1) before-is %s' % (U64.typed('calls', 'calls-is'), ' '.join(x + '-is' if isinstance(t, Slice) else t.typed(x, x + '-is') for x, t in self.params[3:])),
                   '(λ α δ y. C-ready 𝓤 H A at-mem run .pre (to-ready α δ y)) (λ α δ y. C-ready 𝓤 H A at-mem run .post (to-ready α δ y)) E-ready',
                   '(λ %s. C-call 𝓤 H A at-mem run .pre (to-call %s)) (λ %s. C-call 𝓤 H A at-mem run .post (to-call %s)) E-call Post' % (cn, cn, cn, cn),
-                  '(λ α δ y. goes-ready α δ y put-is held-is stores-is) (λ α δ y v. id⊢ 𝓤 _) (λ %s. goes-call %s%s) (λ %s v. id⊢ 𝓤 _)%s' % (cn, cn, rest, cn, ' said-call' if B else ''),
+                  '(λ α δ y. goes-ready α δ y kind-is held-is stores-is) (λ α δ y v. id⊢ 𝓤 _) (λ %s. goes-call %s%s) (λ %s v. id⊢ 𝓤 _)%s' % (cn, cn, rest, cn, ' said-call' if B else ''),
                   '(λ r w%s is%s. exits r w%s is%s) 𝓣 (λ α δ y. known-ready (to-ready α δ y)) (λ %s. known-call (to-call %s)))' % (more[0], more[1], more[0], more[1], cn, cn)]:
             w.emit('  ' + a)
         p += '    %s\n    walk-here =\n' % f.walk_type().replace('walk :', 'walk-here :', 1).replace('WpFn 𝓤 H C Λ', 'WpFn 𝓤 H (𝓣 .C) (𝓣 .Λ)') + w.text() + '\n\n' + f.tie().replace('(walk 𝓤', '(walk-here 𝓤')

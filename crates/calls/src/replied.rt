@@ -1,5 +1,5 @@
 // The inputs of the reply.
-use crate::Put;
+use crate::Kind;
 use crate::inputs;
 use association::Association;
 use reply_rules::ReplyAnswer;
@@ -7,7 +7,7 @@ use time_types::NtpTimestamp;
 
 fn number(
     a: Association,
-    nts: bool,
+    kind: Kind,
     calls: u64,
     calling: bool,
     packet: &[u8],
@@ -15,14 +15,14 @@ fn number(
     decrypted: &[u8],
     list: &[u8],
 ) -> u8 {
-    let put = Put { timer: false, nts };
+    let nts = kind.nts;
     let held: usize = if nts { 8 } else { 0 };
     let out = crate::replies_owned(
         a,
         calls,
         calling,
         ReplyAnswer::NotWhole,
-        put,
+        kind,
         held,
         false,
         packet,
@@ -38,19 +38,19 @@ fn number(
 }
 
 // With NTS the reply is sealed over the unique identifier and has one new cookie; without, it is the header.
-pub fn answer(a: Association, nts: bool, calls: u64, calling: bool) -> u8 {
+pub fn answer(a: Association, kind: Kind, calls: u64, calling: bool) -> u8 {
     let mut packet = [0u8; 228];
     inputs::put_packet(&mut packet);
     let mut decrypted = [9u8; 104];
     inputs::put_decrypted(&mut decrypted);
     let mut list = [9u8; 104];
     inputs::put_list(&mut list);
-    if nts {
-        return number(a, nts, calls, calling, &packet, 84, &decrypted, &list);
+    if kind.nts {
+        return number(a, kind, calls, calling, &packet, 84, &decrypted, &list);
     }
     number(
         a,
-        nts,
+        kind,
         calls,
         calling,
         inputs::first(&packet, 48),

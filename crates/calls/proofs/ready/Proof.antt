@@ -59,9 +59,9 @@ use Rattle.association.proofs.State.Laws as Sm′
 use Rattle.cookiestash.specs.declared.CookieStash.{CookieStash}
 use Rattle.cookiestash.proofs.CookieStash as Sta
 use Rattle.cookiestash.proofs.CookieStash.Laws as Sta′
-use Rattle.calls.specs.declared.Put.{Put}
-use Rattle.calls.proofs.Put as What
-use Rattle.calls.proofs.Put.Laws as What′
+use Rattle.calls.specs.declared.Kind.{Kind}
+use Rattle.calls.proofs.Kind as What
+use Rattle.calls.proofs.Kind.Laws as What′
 use Rattle.calls.proofs.put_back as rule
 use Rattle.calls.proofs.put_back.Symbol as rule-def
 use Rattle.calls.proofs.put_back.Symbol.{name as #calls·put-back}
@@ -82,14 +82,14 @@ use Rattle.calls.proofs.ready.Code as code
 abbrev slice-val : RefT (List ℕ) → Val
 slice-val x = sliceVal (x .ptr) (length (x .now))
 
--- the function, over any types of the record's groups (τ-to and τ-sto are the names of the record and of the stash, behind a reference) and of what is put back
-abbrev shape : Sym → (τ-to τ-sto τ-set τ-sta τ-sm τ-put : Ty) → Fn
-shape ν τ-to τ-sto τ-set τ-sta τ-sm τ-put =
+-- the function, over any types of the record's groups (τ-to and τ-sto are the names of the record and of the stash, behind a reference) and of the kind of call
+abbrev shape : Sym → (τ-to τ-sto τ-set τ-sta τ-sm τ-kind : Ty) → Fn
+shape ν τ-to τ-sto τ-set τ-sta τ-sm τ-kind =
     record {
       lifetimes = 2;
       outlives = [];
       params = 5;
-      locals = local tyUnit valueLocal ∷ local (tyRef (named 0) mut τ-to) valueLocal ∷ local τ-put valueLocal ∷ local (tyInt w64) valueLocal ∷ local tyBool valueLocal ∷ local (sliceTy (tyRef (named 1) imm (tyInt w8))) valueLocal ∷ local τ-sm valueLocal ∷ local τ-sm valueLocal ∷ local τ-sta valueLocal ∷ local τ-sta valueLocal ∷ local tyUnit valueLocal ∷ local (tyRef erased mut τ-sto) valueLocal ∷ [];
+      locals = local tyUnit valueLocal ∷ local (tyRef (named 0) mut τ-to) valueLocal ∷ local τ-kind valueLocal ∷ local (tyInt w64) valueLocal ∷ local tyBool valueLocal ∷ local (sliceTy (tyRef (named 1) imm (tyInt w8))) valueLocal ∷ local τ-sm valueLocal ∷ local τ-sm valueLocal ∷ local τ-sta valueLocal ∷ local τ-sta valueLocal ∷ local tyUnit valueLocal ∷ local (tyRef erased mut τ-sto) valueLocal ∷ [];
       body =
           seq (assign (place 6 []) (rvOpd (copy (place 1 (deref (tyStruct ν (tcons τ-set (tcons τ-sta (tcons τ-sm tnil)))) ∷ field 2 ∷ [])))))
           (seq (call #calls·put-back (copy (place 6 []) ∷ copy (place 2 []) ∷ []) (place 7 []))
@@ -106,7 +106,7 @@ shape ν τ-to τ-sto τ-set τ-sta τ-sm τ-put =
 -- The walk, over any rows of the groups and any machine values: it asks only that these are of their types.
 module _ (Rec Set Sta Sm : RattleType) (set : Set .Denot → Val) (sta : Sta .Denot → Val) (sm : Sm .Denot → Val)
     (settings : Rec .Denot → Set .Denot) (stash : Rec .Denot → Sta .Denot) (state : Rec .Denot → Sm .Denot) (with : Rec .Denot → Sta .Denot → Sm .Denot → Rec .Denot)
-    (ν : Sym) (τ-to τ-sto τ-set τ-sta τ-sm τ-put : Ty) (rec-mir : Rec .mir ≡ tyStruct ν (tcons τ-set (tcons τ-sta (tcons τ-sm tnil))) ∷ []) (sta-mir : Sta .mir ≡ τ-sta ∷ [])
+    (ν : Sym) (τ-to τ-sto τ-set τ-sta τ-sm τ-kind : Ty) (rec-mir : Rec .mir ≡ tyStruct ν (tcons τ-set (tcons τ-sta (tcons τ-sm tnil))) ∷ []) (sta-mir : Sta .mir ≡ τ-sta ∷ [])
     (rec-tells : Tells Rec (Is Rec) (λ y. vstruct (ofList (set (settings y) ∷ sta (stash y) ∷ sm (state y) ∷ [])) ∷ [])) (sta-tells : Tells Sta (Is Sta) (λ y. sta y ∷ [])) (sm-tells : Tells Sm (Is Sm) (λ y. sm y ∷ []))
     (sm-typed : (y : Sm .Denot) (v : Val) → Is Sm y (v ∷ []) → T (hasTy τ-sm v) × WT v)
     (sta-typed : (y : Sta .Denot) (v : Val) → Is Sta y (v ∷ []) → T (hasTy τ-sta v) × WT v)
@@ -114,8 +114,8 @@ module _ (Rec Set Sta Sm : RattleType) (set : Set .Denot → Val) (sta : Sta .De
     (sm-is : (y : Rec .Denot) (vs : List Val) → Is Rec y vs → Is Sm (state y) (sm (state y) ∷ []))
     (with-is : (y : Rec .Denot) (w : Sta .Denot) (s : Sm .Denot) (vs : List Val) → Is Rec y vs → Is Sta w (sta w ∷ []) → Is Sm s (sm s ∷ []) → Is Rec (with y w s) (vstruct (ofList (set (settings y) ∷ sta w ∷ sm s ∷ [])) ∷ []))
     {M : Type 1} (𝓤 : URA M) (H : Heap 𝓤) (A : Atoms 𝓤) (W : Given 𝓤 H A) (rec-makes : Makes 𝓤 H A Rec (Is Rec)) (sta-makes : Makes 𝓤 H A Sta (Is Sta))
-    (κ κ1 : Lft) (q q1 : Share) (b o : ℕ) (γ : GName) (h : Rec .Denot) (put : Val) (held : ℕ) (stores : Bool) (list : RefT (List ℕ))
-    (put-typed : T (hasTy τ-put put) × WT put) (held-fits : Fits w64 held) (list-is : Is (ShrSlice (named 1) κ1 u8) list (slice-val list ∷ [])) where
+    (κ κ1 : Lft) (q q1 : Share) (b o : ℕ) (γ : GName) (h : Rec .Denot) (kind : Val) (held : ℕ) (stores : Bool) (list : RefT (List ℕ))
+    (kind-typed : T (hasTy τ-kind kind) × WT kind) (held-fits : Fits w64 held) (list-is : Is (ShrSlice (named 1) κ1 u8) list (slice-val list ∷ [])) where
   -- where the stash lies
   abbrev away : ℕ
   away = up (align τ-sta) (up (align τ-set) zero + size τ-set)
@@ -142,15 +142,15 @@ module _ (Rec Set Sta Sm : RattleType) (set : Set .Denot → Val) (sta : Sta .De
       (said-after : (β : ℕ) (δ : GName) (s : Sta .Denot) (r : Unit {0}) → ent 𝓤 (EnsuredA β δ s r) (mean 𝓤 H A (some (λ (w : Sta .Denot). ‵ (fres δ (Sta .coded .code w))))))
       (exits : (s : Sm .Denot) (w : Sta .Denot) → ent 𝓤 (⋆ 𝓤 H A (‵ (fobs γ (Rec .coded .code (with h w s))) ∷ ‵ (fbor κ (Body (mem Rec) b o γ)) ∷ ‵ (flft κ q) ∷ ‵ (flft κ1 q1) ∷ [])) (Post vunit))
       (C : Calls 𝓤 H) (Λ : Loops 𝓤 H) (fm : FmC 𝓤 H (W .laws) C)
-      (known-rule : ent 𝓤 PreR (C #calls·put-back (sm (state h) ∷ put ∷ []) BackR))
+      (known-rule : ent 𝓤 PreR (C #calls·put-back (sm (state h) ∷ kind ∷ []) BackR))
       (known-room : ent 𝓤 PreH (C #calls·with-held (sta (stash h) ∷ vint w64 held ∷ []) BackH))
       (known-after : (β : ℕ) (δ : GName) (s : Sta .Denot) → ent 𝓤 (PreA β δ s) (C #lent-stash·refill (vptr b (o + away) ∷ vint w8 8 ∷ vbool stores ∷ slice-val list ∷ []) (BackA β δ s))) where
-    walk : ent 𝓤 (⋆ 𝓤 H A (‵ (fobs γ (Rec .coded .code h)) ∷ ‵ (fbor κ (Body (mem Rec) b o γ)) ∷ ‵ (flft κ q) ∷ ‵ (flft κ1 q1) ∷ ‵ (ShrSlice (named 1) κ1 u8 .own list (slice-val list ∷ [])) ∷ [])) (WpFn 𝓤 H C Λ (shape ν τ-to τ-sto τ-set τ-sta τ-sm τ-put) (vptr b o ∷ put ∷ vint w64 held ∷ vbool stores ∷ slice-val list ∷ []) Post)
+    walk : ent 𝓤 (⋆ 𝓤 H A (‵ (fobs γ (Rec .coded .code h)) ∷ ‵ (fbor κ (Body (mem Rec) b o γ)) ∷ ‵ (flft κ q) ∷ ‵ (flft κ1 q1) ∷ ‵ (ShrSlice (named 1) κ1 u8 .own list (slice-val list ∷ [])) ∷ [])) (WpFn 𝓤 H C Λ (shape ν τ-to τ-sto τ-set τ-sta τ-sm τ-kind) (vptr b o ∷ kind ∷ vint w64 held ∷ vbool stores ∷ slice-val list ∷ []) Post)
     walk =
-        qed W (‵ (fobs γ (Rec .coded .code h)) ∷ ‵ (fbor κ (Body (mem Rec) b o γ)) ∷ ‵ (flft κ q) ∷ ‵ (flft κ1 q1) ∷ ‵ (ShrSlice (named 1) κ1 u8 .own list (slice-val list ∷ [])) ∷ []) ∵ enter ! C Λ (shape ν τ-to τ-sto τ-set τ-sta τ-sm τ-put) (vptr b o ∷ put ∷ vint w64 held ∷ vbool stores ∷ slice-val list ∷ []) _ $
+        qed W (‵ (fobs γ (Rec .coded .code h)) ∷ ‵ (fbor κ (Body (mem Rec) b o γ)) ∷ ‵ (flft κ q) ∷ ‵ (flft κ1 q1) ∷ ‵ (ShrSlice (named 1) κ1 u8 .own list (slice-val list ∷ [])) ∷ []) ∵ enter ! C Λ (shape ν τ-to τ-sto τ-set τ-sta τ-sm τ-kind) (vptr b o ∷ kind ∷ vint w64 held ∷ vbool stores ∷ slice-val list ∷ []) _ $
         alloc1 ! (λ l0. alloc1 ! (λ l1. alloc1 ! (λ l2. alloc1 ! (λ l3. alloc1 ! (λ l4. alloc1 ! (λ l5. alloc1 ! (λ l6. alloc1 ! (λ l7. alloc1 ! (λ l8. alloc1 ! (λ l9. alloc1 ! (λ l10. alloc1 ! (λ l11. alloc0 ! $ params1 ! $
         pass1 ! (init ! 20 refl (tt, tt)) $
-        pass1 ! (init ! 18 refl put-typed) $
+        pass1 ! (init ! 18 refl kind-typed) $
         pass1 ! (init ! 16 refl (tt, held-fits)) $
         pass1 ! (init ! 14 refl (tt, tt)) $
         pass1 ! (init ! 12 refl (shr-slice-lawful 𝓤 H A W (named 1) κ1 u8 .typed list _ list-is .0)) $
@@ -161,7 +161,7 @@ module _ (Rec Set Sta Sm : RattleType) (set : Set .Denot → Val) (sta : Sta .De
         -- [record; obor; obs; auth; the locals, the last first; tok1; list]
         assigns ! (of-opd ! (load ! (from ! (hop ! (look ! 24 refl) (fld ! refl (stop !)))) (look-in ! 0 (sub ! 2 refl (whole !))))) (from ! (stop !)) (init ! 14 refl (sm-typed (state h) _ (sm-is h _ g))) $
         nothing ! $ use1 W (raw PreR) (goes-rule (sm-is h _ g)) $
-        calls-from ! fm (raw PreR) (sm (state h) ∷ put ∷ []) BackR known-rule (and-then ! (load ! (from ! (stop !)) (look ! 15 refl)) (and-then ! (load ! (from ! (stop !)) (look ! 23 refl)) (no-more !))) (λ vrr.
+        calls-from ! fm (raw PreR) (sm (state h) ∷ kind ∷ []) BackR known-rule (and-then ! (load ! (from ! (stop !)) (look ! 15 refl)) (and-then ! (load ! (from ! (stop !)) (look ! 23 refl)) (no-more !))) (λ vrr.
         use1 W (later (some (λ (r : Sm .Denot). (‵ ftrue ⊛ ‵ (Sm .own r (vrr ∷ []))) ⊛ raw (EnsuredR r)))) (comes-rule vrr) $ await ! tt $ pick ! (λ rr. split ! $ move ! (1 ∷ []) $ drop ! $
         split ! $ move ! (1 ∷ []) $ peeks ! Sm (Is Sm) (shows 𝓤 H A Sm) rr (vrr ∷ []) (λ isrr. drop ! $ drop ! $
         land ! (from ! (stop !)) (init ! 12 refl (sm-typed rr vrr isrr)) $ rewrite ! 12 (λ (u : Val). ‵ (fat fullShare τ-sm l7 0 u)) (ap only (sm-tells rr _ isrr)) refl $
@@ -212,7 +212,7 @@ Sm-val = LL.val Sm.the-type Sm′.the-laws
 abbrev Sta-val : CookieStash → Val
 Sta-val = LL.val Sta.the-type Sta′.the-laws
 
-abbrev What-val : Put → Val
+abbrev What-val : Kind → Val
 What-val = LL.val What.the-type What′.the-laws
 
 -- what whoever holds a record knows of its parts
@@ -242,16 +242,16 @@ C-room 𝓤 H A at-mem run = tripleOf 𝓤 H A room.signature (room.spec 𝓤 H 
 abbrev C-after : {M : Type 1} (𝓤 : URA M) (H : Heap 𝓤) (A : Atoms 𝓤) (at-mem : Memory → SProp 𝓤) (run : Routine → Fun 𝓤) → Contract 𝓤
 C-after 𝓤 H A at-mem run = tripleOf 𝓤 H A after.signature (after.spec 𝓤 H A at-mem run)
 
-module _ {M : Type 1} (𝓤 : URA M) (H : Heap 𝓤) (A : Atoms 𝓤) (W : Given 𝓤 H A) (at-mem : Memory → SProp 𝓤) (run : Routine → Fun 𝓤) (κ κ1 : Lft) (q q1 : Share) (b o : ℕ) (γ : GName) (h : Association) (put : Put) (held : ℕ) (stores : Bool) (list : RefT (List ℕ))
-    (put-is : Is What.the-row put (What-val put ∷ [])) (held-is : Is usize held (vint w64 held ∷ [])) (stores-is : Is bool stores (vbool stores ∷ [])) (list-is : Is (ShrSlice (named 1) κ1 u8) list (slice-val list ∷ [])) where
+module _ {M : Type 1} (𝓤 : URA M) (H : Heap 𝓤) (A : Atoms 𝓤) (W : Given 𝓤 H A) (at-mem : Memory → SProp 𝓤) (run : Routine → Fun 𝓤) (κ κ1 : Lft) (q q1 : Share) (b o : ℕ) (γ : GName) (h : Association) (kind : Kind) (held : ℕ) (stores : Bool) (list : RefT (List ℕ))
+    (kind-is : Is What.the-row kind (What-val kind ∷ [])) (held-is : Is usize held (vint w64 held ∷ [])) (stores-is : Is bool stores (vbool stores ∷ [])) (list-is : Is (ShrSlice (named 1) κ1 u8) list (slice-val list ∷ [])) where
   abbrev ref : GName → Association → RefT Association
   ref δ w = record { ptr = (b, o); name = δ; now = w }
 
-  abbrev x : RefT Association × (Put × (ℕ × (Bool × (RefT (List ℕ) × Unit {0}))))
-  x = (ref γ h, (put, (held, (stores, (list, tt)))))
+  abbrev x : RefT Association × (Kind × (ℕ × (Bool × (RefT (List ℕ) × Unit {0}))))
+  x = (ref γ h, (kind, (held, (stores, (list, tt)))))
 
   abbrev at : List Val × (List Val × (List Val × (List Val × (List Val × Unit {0}))))
-  at = (vptr b o ∷ [], (What-val put ∷ [], (vint w64 held ∷ [], (vbool stores ∷ [], (slice-val list ∷ [], tt)))))
+  at = (vptr b o ∷ [], (What-val kind ∷ [], (vint w64 held ∷ [], (vbool stores ∷ [], (slice-val list ∷ [], tt)))))
 
   abbrev Post : Val → SProp 𝓤
   Post = walkOf 𝓤 H A self.ended stayed (self.clauses 𝓤 H A at-mem run) .post (((κ, (κ1, tt)), (q, (q1, tt)), tt, x, at), tt)
@@ -268,14 +268,14 @@ module _ {M : Type 1} (𝓤 : URA M) (H : Heap 𝓤) (A : Atoms 𝓤) (W : Given
 
   -- what `put_back` is given, and what it says
   abbrev to-rule : C-rule 𝓤 H A at-mem run .Ghost
-  to-rule = ((tt, tt, tt, (h .state, (put, tt)), (Sm-val (h .state) ∷ [], (What-val put ∷ [], tt))), tt)
+  to-rule = ((tt, tt, tt, (h .state, (kind, tt)), (Sm-val (h .state) ∷ [], (What-val kind ∷ [], tt))), tt)
 
-  goes-rule : Is Sm.the-row (h .state) (Sm-val (h .state) ∷ []) → Is What.the-row put (What-val put ∷ []) → ent 𝓤 (⋆ 𝓤 H A (‵ ftrue ∷ [])) (C-rule 𝓤 H A at-mem run .pre (to-rule))
+  goes-rule : Is Sm.the-row (h .state) (Sm-val (h .state) ∷ []) → Is What.the-row kind (What-val kind ∷ []) → ent 𝓤 (⋆ 𝓤 H A (‵ ftrue ∷ [])) (C-rule 𝓤 H A at-mem run .pre (to-rule))
   goes-rule m-is p-is =
-      qed W (‵ ftrue ∷ []) ∵ nothing ! $ owned ! What.the-row (Is What.the-row) (LL.makes What.the-type What′.the-plain 𝓤 H A) put _ p-is $ fjoin ! $ owned ! Sm.the-row (Is Sm.the-row) (LL.makes Sm.the-type Sm′.the-plain 𝓤 H A) (h .state) _ m-is $ fjoin ! $ move ! (1 ∷ 0 ∷ []) $ join ! $ frame ! $ done !
+      qed W (‵ ftrue ∷ []) ∵ nothing ! $ owned ! What.the-row (Is What.the-row) (LL.makes What.the-type What′.the-plain 𝓤 H A) kind _ p-is $ fjoin ! $ owned ! Sm.the-row (Is Sm.the-row) (LL.makes Sm.the-type Sm′.the-plain 𝓤 H A) (h .state) _ m-is $ fjoin ! $ move ! (1 ∷ 0 ∷ []) $ join ! $ frame ! $ done !
 
   abbrev E-rule : State → SProp 𝓤
-  E-rule r = ensured 𝓤 H A rule.ended (rule.clauses 𝓤 H A at-mem run) tt (h .state, (put, tt)) tt r
+  E-rule r = ensured 𝓤 H A rule.ended (rule.clauses 𝓤 H A at-mem run) tt (h .state, (kind, tt)) tt r
 
   -- what `with_held` is given, and what it says
   abbrev to-room : C-room 𝓤 H A at-mem run .Ghost
@@ -305,7 +305,7 @@ module _ {M : Type 1} (𝓤 : URA M) (H : Heap 𝓤) (A : Atoms 𝓤) (W : Given
       show ! (λ (w : CookieStash). mean 𝓤 H A (‵ (fres δ (Sta.the-row .coded .code w)))) (ws .0) $ done !)
 
   module _ (C : Calls 𝓤 H) (Λ : Loops 𝓤 H) (fm : FmC 𝓤 H (W .laws) C) (known-rule : Triple 𝓤 (C #calls·put-back) (C-rule 𝓤 H A at-mem run)) (known-room : Triple 𝓤 (C #calls·with-held) (C-room 𝓤 H A at-mem run)) (known-after : Triple 𝓤 (C #lent-stash·refill) (C-after 𝓤 H A at-mem run)) where
-    walk-here : ent 𝓤 (onEntry 𝓤 H A self.signature (κ, (κ1, tt)) (q, (q1, tt)) x at) (WpFn 𝓤 H C Λ code.function (vptr b o ∷ What-val put ∷ vint w64 held ∷ vbool stores ∷ slice-val list ∷ []) Post)
+    walk-here : ent 𝓤 (onEntry 𝓤 H A self.signature (κ, (κ1, tt)) (q, (q1, tt)) x at) (WpFn 𝓤 H C Λ code.function (vptr b o ∷ What-val kind ∷ vint w64 held ∷ vbool stores ∷ slice-val list ∷ []) Post)
     walk-here =
         qed W ((‵ (flft κ q) ⊛ (‵ (flft κ1 q1) ⊛ ‵ ftrue)) ∷ ‵ (owns (MutRef (named 0) κ Rec.the-row ∷ What.the-row ∷ usize ∷ bool ∷ ShrSlice (named 1) κ1 u8 ∷ []) x at) ∷ []) ∵ split ! $ move ! (1 ∷ []) $ split ! $ move ! (1 ∷ []) $ drop ! $ move ! (2 ∷ []) $ fsplit ! $ fsplit3 ! $ drop ! $ move ! (2 ∷ []) $ fsplit ! $ drop ! $ fsplit ! $ drop ! $ fsplit ! $ drop ! $ fsplit ! $ move ! (1 ∷ []) $ drop ! $
         move ! (1 ∷ 2 ∷ 4 ∷ 3 ∷ 0 ∷ []) $ by ! (walk
@@ -313,9 +313,9 @@ module _ {M : Type 1} (𝓤 : URA M) (H : Heap 𝓤) (A : Atoms 𝓤) (W : Given
         (97 ∷ 115 ∷ 115 ∷ 111 ∷ 99 ∷ 105 ∷ 97 ∷ 116 ∷ 105 ∷ 111 ∷ 110 ∷ 58 ∷ 58 ∷ 65 ∷ 115 ∷ 115 ∷ 111 ∷ 99 ∷ 105 ∷ 97 ∷ 116 ∷ 105 ∷ 111 ∷ 110 ∷ []) (tyNamed (97 ∷ 115 ∷ 115 ∷ 111 ∷ 99 ∷ 105 ∷ 97 ∷ 116 ∷ 105 ∷ 111 ∷ 110 ∷ 58 ∷ 58 ∷ 65 ∷ 115 ∷ 115 ∷ 111 ∷ 99 ∷ 105 ∷ 97 ∷ 116 ∷ 105 ∷ 111 ∷ 110 ∷ [], [])) (tyNamed (99 ∷ 111 ∷ 111 ∷ 107 ∷ 105 ∷ 101 ∷ 115 ∷ 116 ∷ 97 ∷ 115 ∷ 104 ∷ 58 ∷ 58 ∷ 67 ∷ 111 ∷ 111 ∷ 107 ∷ 105 ∷ 101 ∷ 83 ∷ 116 ∷ 97 ∷ 115 ∷ 104 ∷ [], [])) Set′.mir Sta′.mir Sm′.mir What′.mir refl refl
         (LL.tells Rec.the-type Rec′.the-laws) (LL.tells Sta.the-type Sta′.the-laws) (LL.tells Sm.the-type Sm′.the-laws) (λ y v g. (LL.lawful Sm.the-type Sm′.the-laws 𝓤 H A W .typed y _ g .0)) (λ y v g. (LL.lawful Sta.the-type Sta′.the-laws 𝓤 H A W .typed y _ g .0))
         sta-is sm-is with-is 𝓤 H A W (LL.makes Rec.the-type Rec′.the-plain 𝓤 H A) (LL.makes Sta.the-type Sta′.the-plain 𝓤 H A)
-        κ κ1 q q1 b o γ h (What-val put) held stores list (LL.lawful What.the-type What′.the-laws 𝓤 H A W .typed put _ put-is .0) ((uint-lawful 𝓤 H A W w64 .typed held _ held-is .0) .1) list-is
+        κ κ1 q q1 b o γ h (What-val kind) held stores list (LL.lawful What.the-type What′.the-laws 𝓤 H A W .typed kind _ kind-is .0) ((uint-lawful 𝓤 H A W w64 .typed held _ held-is .0) .1) list-is
         (C-rule 𝓤 H A at-mem run .pre to-rule) (C-rule 𝓤 H A at-mem run .post to-rule) E-rule (C-room 𝓤 H A at-mem run .pre to-room) (C-room 𝓤 H A at-mem run .post to-room) E-room (λ β δ s. C-after 𝓤 H A at-mem run .pre (to-after β δ s)) (λ β δ s. C-after 𝓤 H A at-mem run .post (to-after β δ s)) E-after Post
-        (λ g. goes-rule g put-is) (λ v. id⊢ 𝓤 _) (λ g. goes-room g held-is) (λ v. id⊢ 𝓤 _) (λ β δ s. goes-after β δ s (refl, lit< tt) stores-is) (λ β δ s v. id⊢ 𝓤 _) said-after (λ s w. exits (with h w s)) C Λ fm (known-rule to-rule) (known-room to-room) (λ β δ s. known-after (to-after β δ s)))
+        (λ g. goes-rule g kind-is) (λ v. id⊢ 𝓤 _) (λ g. goes-room g held-is) (λ v. id⊢ 𝓤 _) (λ β δ s. goes-after β δ s (refl, lit< tt) stores-is) (λ β δ s v. id⊢ 𝓤 _) said-after (λ s w. exits (with h w s)) C Λ fm (known-rule to-rule) (known-room to-room) (λ β δ s. known-after (to-after β δ s)))
 
 module _ {M : Type 1} (𝓤 : URA M) (H : Heap 𝓤) (A : Atoms 𝓤) (W : Given 𝓤 H A) (at-mem : Memory → SProp 𝓤) (run : Routine → Fun 𝓤) where
   walks : (C : Calls 𝓤 H) (Λ : Loops 𝓤 H) → FmC 𝓤 H (W .laws) C → Triple 𝓤 (C #calls·put-back) (C-rule 𝓤 H A at-mem run) → Triple 𝓤 (C #calls·with-held) (C-room 𝓤 H A at-mem run) → Triple 𝓤 (C #lent-stash·refill) (C-after 𝓤 H A at-mem run) → Walks 𝓤 H A self.ended stayed (WpFn 𝓤 H C Λ code.function) (self.clauses 𝓤 H A at-mem run)

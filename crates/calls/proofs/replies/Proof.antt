@@ -53,9 +53,9 @@ use Rattle.association.proofs.Association.Laws as Rec′
 use Rattle.reply_rules.specs.declared.ReplyAnswer.{ReplyAnswer}
 use Rattle.reply_rules.proofs.ReplyAnswer as Ans
 use Rattle.reply_rules.proofs.ReplyAnswer.Laws as Ans′
-use Rattle.calls.specs.declared.Put.{Put}
-use Rattle.calls.proofs.Put as What
-use Rattle.calls.proofs.Put.Laws as What′
+use Rattle.calls.specs.declared.Kind.{Kind}
+use Rattle.calls.proofs.Kind as What
+use Rattle.calls.proofs.Kind.Laws as What′
 use Rattle.time_types.specs.declared.NtpTimestamp.{NtpTimestamp}
 use Rattle.time_types.proofs.NtpTimestamp as Time
 use Rattle.time_types.proofs.NtpTimestamp.Laws as Time′
@@ -92,21 +92,21 @@ abbrev last : Code
 last = seq (assign (place 0 []) (rvOpd (copy (place 15 [])))) return
 
 -- the function, over° any types of the record (τ-to is its name, behind the reference), of the answer and of the other arguments
-abbrev shape : (τ-to τ-rec τ-ans τ-put τ-held τ-stores τ-end τ-t1 τ-t4 τ-time : Ty) → Fn
-shape τ-to τ-rec τ-ans τ-put τ-held τ-stores τ-end τ-t1 τ-t4 τ-time =
+abbrev shape : (τ-to τ-rec τ-ans τ-kind τ-held τ-stores τ-end τ-t1 τ-t4 τ-time : Ty) → Fn
+shape τ-to τ-rec τ-ans τ-kind τ-held τ-stores τ-end τ-t1 τ-t4 τ-time =
     record {
       lifetimes = 4;
       outlives = [];
       params = 14;
-      locals = local τ-ans valueLocal ∷ local (tyRef (named 0) mut τ-to) valueLocal ∷ local (tyInt w64) valueLocal ∷ local tyBool valueLocal ∷ local τ-ans valueLocal ∷ local τ-put valueLocal ∷ local τ-held valueLocal ∷ local τ-stores valueLocal ∷ local (sliceTy (tyRef (named 1) imm (tyInt w8))) valueLocal ∷ local τ-end valueLocal ∷ local (sliceTy (tyRef (named 2) imm (tyInt w8))) valueLocal ∷ local (sliceTy (tyRef (named 3) imm (tyInt w8))) valueLocal ∷ local τ-t1 valueLocal ∷ local τ-t4 valueLocal ∷ local τ-time valueLocal ∷ local τ-ans valueLocal ∷ local (tyInt w64) valueLocal ∷ local tyBool valueLocal ∷ local tyUnit valueLocal ∷ local (tyRef erased mut τ-to) valueLocal ∷ local (tyRef erased mut τ-to) valueLocal ∷ [];
+      locals = local τ-ans valueLocal ∷ local (tyRef (named 0) mut τ-to) valueLocal ∷ local (tyInt w64) valueLocal ∷ local tyBool valueLocal ∷ local τ-ans valueLocal ∷ local τ-kind valueLocal ∷ local τ-held valueLocal ∷ local τ-stores valueLocal ∷ local (sliceTy (tyRef (named 1) imm (tyInt w8))) valueLocal ∷ local τ-end valueLocal ∷ local (sliceTy (tyRef (named 2) imm (tyInt w8))) valueLocal ∷ local (sliceTy (tyRef (named 3) imm (tyInt w8))) valueLocal ∷ local τ-t1 valueLocal ∷ local τ-t4 valueLocal ∷ local τ-time valueLocal ∷ local τ-ans valueLocal ∷ local (tyInt w64) valueLocal ∷ local tyBool valueLocal ∷ local tyUnit valueLocal ∷ local (tyRef erased mut τ-to) valueLocal ∷ local (tyRef erased mut τ-to) valueLocal ∷ [];
       body = seq (assign (place 15 []) (rvOpd (copy (place 4 [])))) (seq (assign (place 16 []) (rvOpd (copy (place 2 [])))) (seq (block (loopᴹ (turn τ-rec))) last));
     }
 
 -- The walk, over° any rows of the record and the answer, and any machine values: it asks only that these are of their types.
-module _ (Rec Ans : RattleType) (ans : Ans .Denot → Val) (τ-to τ-rec τ-ans τ-put τ-held τ-stores τ-end τ-t1 τ-t4 τ-time : Ty)
+module _ (Rec Ans : RattleType) (ans : Ans .Denot → Val) (τ-to τ-rec τ-ans τ-kind τ-held τ-stores τ-end τ-t1 τ-t4 τ-time : Ty)
     (ans-tells : Tells Ans (Is Ans) (λ y. ans y ∷ [])) (ans-typed : (y : Ans .Denot) (v : Val) → Is Ans y (v ∷ []) → T (hasTy τ-ans v) × WT v)
-    {M : Type 1} (𝓤 : URA M) (H : Heap 𝓤) (A : Atoms 𝓤) (W : Given 𝓤 H A) (κ κ1 κ2 κ3 : Lft) (q q1 q2 q3 : Share) (b o : ℕ) (γ : GName) (h : Rec .Denot) (calls : ℕ) (calling : Bool) (before : Ans .Denot) (put : Val) (held : Val) (stores : Val) (packet : RefT (List ℕ)) (end : Val) (decrypted : RefT (List ℕ)) (list : RefT (List ℕ)) (t1 : Val) (t4 : Val) (time : Val)
-    (calls-fits : Fits w64 calls) (before-is : Is Ans before (ans before ∷ [])) (put-typed : T (hasTy τ-put put) × WT put) (held-typed : T (hasTy τ-held held) × WT held) (stores-typed : T (hasTy τ-stores stores) × WT stores) (packet-is : Is (ShrSlice (named 1) κ1 u8) packet (slice-val packet ∷ [])) (end-typed : T (hasTy τ-end end) × WT end) (decrypted-is : Is (ShrSlice (named 2) κ2 u8) decrypted (slice-val decrypted ∷ [])) (list-is : Is (ShrSlice (named 3) κ3 u8) list (slice-val list ∷ [])) (t1-typed : T (hasTy τ-t1 t1) × WT t1) (t4-typed : T (hasTy τ-t4 t4) × WT t4) (time-typed : T (hasTy τ-time time) × WT time) where
+    {M : Type 1} (𝓤 : URA M) (H : Heap 𝓤) (A : Atoms 𝓤) (W : Given 𝓤 H A) (κ κ1 κ2 κ3 : Lft) (q q1 q2 q3 : Share) (b o : ℕ) (γ : GName) (h : Rec .Denot) (calls : ℕ) (calling : Bool) (before : Ans .Denot) (kind : Val) (held : Val) (stores : Val) (packet : RefT (List ℕ)) (end : Val) (decrypted : RefT (List ℕ)) (list : RefT (List ℕ)) (t1 : Val) (t4 : Val) (time : Val)
+    (calls-fits : Fits w64 calls) (before-is : Is Ans before (ans before ∷ [])) (kind-typed : T (hasTy τ-kind kind) × WT kind) (held-typed : T (hasTy τ-held held) × WT held) (stores-typed : T (hasTy τ-stores stores) × WT stores) (packet-is : Is (ShrSlice (named 1) κ1 u8) packet (slice-val packet ∷ [])) (end-typed : T (hasTy τ-end end) × WT end) (decrypted-is : Is (ShrSlice (named 2) κ2 u8) decrypted (slice-val decrypted ∷ [])) (list-is : Is (ShrSlice (named 3) κ3 u8) list (slice-val list ∷ [])) (t1-typed : T (hasTy τ-t1 t1) × WT t1) (t4-typed : T (hasTy τ-t4 t4) × WT t4) (time-typed : T (hasTy τ-time time) × WT time) where
   -- the record, lent under a name
   abbrev ref° : GName → Rec .Denot → RefT (Rec .Denot)
   ref° δ x = record { ptr = (b, o); name = δ; now = x }
@@ -120,7 +120,7 @@ module _ (Rec Ans : RattleType) (ans : Ans .Denot → Val) (τ-to τ-rec τ-ans 
       (comes-call : (α : ℕ) (δ : GName) (x : Rec .Denot) (v : Val) → ent 𝓤 (BackC α δ x v) (mean 𝓤 H A (later (some (λ (r : Ans .Denot). ((‵ (flft (α ∷ []) fullShare) ⊛ (‵ (flft κ1 q1) ⊛ (‵ (flft κ2 q2) ⊛ (‵ (flft κ3 q3) ⊛ ‵ ftrue)))) ⊛ ‵ (Ans .own r (v ∷ []))) ⊛ raw (EnsuredC α δ x r))))))
       (exits : (r : Ans .Denot) (w : Rec .Denot) → Is Ans r (ans r ∷ []) → ent 𝓤 (⋆ 𝓤 H A (‵ (fobs γ (Rec .coded .code w)) ∷ ‵ (fbor κ (Body (mem Rec) b o γ)) ∷ ‵ (flft κ q) ∷ ‵ (flft κ1 q1) ∷ ‵ (flft κ2 q2) ∷ ‵ (flft κ3 q3) ∷ [])) (Post (ans r)))
       (𝓣 : Tables 𝓤 H)
-      (known-ready : (α : ℕ) (δ : GName) (x : Rec .Denot) → ent 𝓤 (PreR α δ x) (𝓣 .C #calls·ready (vptr b o ∷ put ∷ held ∷ stores ∷ slice-val list ∷ []) (BackR α δ x)))
+      (known-ready : (α : ℕ) (δ : GName) (x : Rec .Denot) → ent 𝓤 (PreR α δ x) (𝓣 .C #calls·ready (vptr b o ∷ kind ∷ held ∷ stores ∷ slice-val list ∷ []) (BackR α δ x)))
       (known-call : (α : ℕ) (δ : GName) (x : Rec .Denot) → ent 𝓤 (PreC α δ x) (𝓣 .C #reply·reply (vptr b o ∷ slice-val packet ∷ end ∷ slice-val decrypted ∷ slice-val list ∷ t1 ∷ t4 ∷ time ∷ []) (BackC α δ x))) where
     -- where a turn begins: the record and the answer there, the turns that are left
     record Turning : Type 0 where
@@ -147,7 +147,7 @@ module _ (Rec Ans : RattleType) (ans : Ans .Denot → Val) (τ-to τ-rec τ-ans 
 
     module _ (l0 l1 l2 l3 l4 l5 l6 l7 l8 l9 l10 l11 l12 l13 l14 l15 l16 l17 l18 l19 l20 : ℕ) where
       abbrev En : Env 𝓤 H
-      En = (τ-ans, l0) ∷ (tyRef (named 0) mut τ-to, l1) ∷ (tyInt w64, l2) ∷ (tyBool, l3) ∷ (τ-ans, l4) ∷ (τ-put, l5) ∷ (τ-held, l6) ∷ (τ-stores, l7) ∷ (sliceTy (tyRef (named 1) imm (tyInt w8)), l8) ∷ (τ-end, l9) ∷ (sliceTy (tyRef (named 2) imm (tyInt w8)), l10) ∷ (sliceTy (tyRef (named 3) imm (tyInt w8)), l11) ∷ (τ-t1, l12) ∷ (τ-t4, l13) ∷ (τ-time, l14) ∷ (τ-ans, l15) ∷ (tyInt w64, l16) ∷ (tyBool, l17) ∷ (tyUnit, l18) ∷ (tyRef erased mut τ-to, l19) ∷ (tyRef erased mut τ-to, l20) ∷ []
+      En = (τ-ans, l0) ∷ (tyRef (named 0) mut τ-to, l1) ∷ (tyInt w64, l2) ∷ (tyBool, l3) ∷ (τ-ans, l4) ∷ (τ-kind, l5) ∷ (τ-held, l6) ∷ (τ-stores, l7) ∷ (sliceTy (tyRef (named 1) imm (tyInt w8)), l8) ∷ (τ-end, l9) ∷ (sliceTy (tyRef (named 2) imm (tyInt w8)), l10) ∷ (sliceTy (tyRef (named 3) imm (tyInt w8)), l11) ∷ (τ-t1, l12) ∷ (τ-t4, l13) ∷ (τ-time, l14) ∷ (τ-ans, l15) ∷ (tyInt w64, l16) ∷ (tyBool, l17) ∷ (tyUnit, l18) ∷ (tyRef erased mut τ-to, l19) ∷ (tyRef erased mut τ-to, l20) ∷ []
 
       abbrev At : Turning → List (Item 𝓤)
       At i =
@@ -189,8 +189,8 @@ module _ (Rec Ans : RattleType) (ans : Ans .Denot → Val) (τ-to τ-rec τ-ans 
           ∷ ‵ (fdies τ-stores l7)
           ∷ ‵ (fat fullShare τ-held l6 0 (held))
           ∷ ‵ (fdies τ-held l6)
-          ∷ ‵ (fat fullShare τ-put l5 0 (put))
-          ∷ ‵ (fdies τ-put l5)
+          ∷ ‵ (fat fullShare τ-kind l5 0 (kind))
+          ∷ ‵ (fdies τ-kind l5)
           ∷ ‵ (fat fullShare τ-ans l4 0 (ans before))
           ∷ ‵ (fdies τ-ans l4)
           ∷ ‵ (fat fullShare tyBool l3 0 (vbool calling))
@@ -244,8 +244,8 @@ module _ (Rec Ans : RattleType) (ans : Ans .Denot → Val) (τ-to τ-rec τ-ans 
           ∷ ‵ (fdies τ-stores l7)
           ∷ ‵ (fat fullShare τ-held l6 0 (held))
           ∷ ‵ (fdies τ-held l6)
-          ∷ ‵ (fat fullShare τ-put l5 0 (put))
-          ∷ ‵ (fdies τ-put l5)
+          ∷ ‵ (fat fullShare τ-kind l5 0 (kind))
+          ∷ ‵ (fdies τ-kind l5)
           ∷ ‵ (fat fullShare τ-ans l4 0 (ans before))
           ∷ ‵ (fdies τ-ans l4)
           ∷ ‵ (fat fullShare tyBool l3 0 (vbool calling))
@@ -282,7 +282,7 @@ module _ (Rec Ans : RattleType) (ans : Ans .Denot → Val) (τ-to τ-rec τ-ans 
           move ! (3 ∷ 4 ∷ []) $ use2 W (later (some (λ (δ : GName). ‵ (MutRef (named 0) (α ∷ []) Rec .own (ref° δ (i .rec)) (vptr b o ∷ [])) ⊛ ‵ (LentAgain Rec κ (α ∷ []) q γ b o δ (i .rec))))) (lends-again 𝓤 H A W Rec (named 0) κ (α ∷ []) q γ b o (named 0) (i .rec)) $ await ! tt $ pick ! (λ δ. split ! $
           -- [the reference; kept; tokα; list; list again; tok1; tok2; tok3; packet; decrypted; the locals, the last first]
           nothing ! $ move ! (8 ∷ 0 ∷ []) $ join ! $ move ! (3 ∷ 0 ∷ []) $ join ! $ move ! (0 ∷ 1 ∷ 4 ∷ []) $ use3 W (raw (PreR α δ (i .rec))) (goes-ready α δ (i .rec)) $
-          calls-from ! fm (raw (PreR α δ (i .rec))) (vptr b o ∷ put ∷ held ∷ stores ∷ slice-val list ∷ []) (BackR α δ (i .rec)) (known-ready α δ (i .rec)) (and-then ! (load ! (from ! (stop !)) (look ! 9 refl)) (and-then ! (load ! (from ! (stop !)) (look ! 37 refl)) (and-then ! (load ! (from ! (stop !)) (look ! 35 refl)) (and-then ! (load ! (from ! (stop !)) (look ! 33 refl)) (and-then ! (load ! (from ! (stop !)) (look ! 25 refl)) (no-more !)))))) (λ vr.
+          calls-from ! fm (raw (PreR α δ (i .rec))) (vptr b o ∷ kind ∷ held ∷ stores ∷ slice-val list ∷ []) (BackR α δ (i .rec)) (known-ready α δ (i .rec)) (and-then ! (load ! (from ! (stop !)) (look ! 9 refl)) (and-then ! (load ! (from ! (stop !)) (look ! 37 refl)) (and-then ! (load ! (from ! (stop !)) (look ! 35 refl)) (and-then ! (load ! (from ! (stop !)) (look ! 33 refl)) (and-then ! (load ! (from ! (stop !)) (look ! 25 refl)) (no-more !)))))) (λ vr.
           use1 W (later (some (λ (r : Unit {0}). ((‵ (flft (α ∷ []) fullShare) ⊛ (‵ (flft κ3 q3) ⊛ ‵ ftrue)) ⊛ ‵ (unit .own r (vr ∷ []))) ⊛ raw (EnsuredR α δ (i .rec) r)))) (comes-ready α δ (i .rec) vr) $ await ! tt $ pick ! (λ rr. split ! $ move ! (1 ∷ []) $
           drop ! $
           split ! $ move ! (1 ∷ []) $ peeks ! unit (Is unit) (shows 𝓤 H A unit) rr (vr ∷ []) (λ isr. drop ! $ split ! $ move ! (1 ∷ []) $ split ! $ move ! (1 ∷ []) $ drop ! $
@@ -318,15 +318,15 @@ module _ (Rec Ans : RattleType) (ans : Ans .Denot → Val) (τ-to τ-rec τ-ans 
           move ! (49 ∷ 50 ∷ []) $ free1 ! $ move ! (47 ∷ 48 ∷ []) $ free1 ! $ move ! (45 ∷ 46 ∷ []) $ free1 ! $ move ! (43 ∷ 44 ∷ []) $ free1 ! $ move ! (41 ∷ 42 ∷ []) $ free1 ! $ move ! (39 ∷ 40 ∷ []) $ free1 ! $ move ! (37 ∷ 38 ∷ []) $ free1 ! $ move ! (35 ∷ 36 ∷ []) $ free1 ! $ move ! (33 ∷ 34 ∷ []) $ free1 ! $ move ! (31 ∷ 32 ∷ []) $ free1 ! $ move ! (29 ∷ 30 ∷ []) $ free1 ! $ move ! (27 ∷ 28 ∷ []) $ free1 ! $ move ! (25 ∷ 26 ∷ []) $ free1 ! $ move ! (23 ∷ 24 ∷ []) $ free1 ! $ move ! (21 ∷ 22 ∷ []) $ free1 ! $ move ! (19 ∷ 20 ∷ []) $ free1 ! $ move ! (17 ∷ 18 ∷ []) $ free1 ! $ move ! (15 ∷ 16 ∷ []) $ free1 ! $ move ! (13 ∷ 14 ∷ []) $ free1 ! $ move ! (11 ∷ 12 ∷ []) $ free1 ! $ move ! (9 ∷ 10 ∷ []) $ free1 ! $ free0 ! $
           keep ! (0 ∷ 1 ∷ 2 ∷ 3 ∷ 4 ∷ 5 ∷ []) $ by ! (exits (i .answer) (i .rec) (i .answer-is)))
 
-    walk : ent 𝓤 (⋆ 𝓤 H A (‵ (fobs γ (Rec .coded .code h)) ∷ ‵ (fbor κ (Body (mem Rec) b o γ)) ∷ ‵ (flft κ q) ∷ ‵ (flft κ1 q1) ∷ ‵ (flft κ2 q2) ∷ ‵ (flft κ3 q3) ∷ ‵ (ShrSlice (named 1) κ1 u8 .own packet (slice-val packet ∷ [])) ∷ ‵ (ShrSlice (named 2) κ2 u8 .own decrypted (slice-val decrypted ∷ [])) ∷ ‵ (ShrSlice (named 3) κ3 u8 .own list (slice-val list ∷ [])) ∷ [])) (WpFn 𝓤 H C Λ (shape τ-to τ-rec τ-ans τ-put τ-held τ-stores τ-end τ-t1 τ-t4 τ-time) (vptr b o ∷ vint w64 calls ∷ vbool calling ∷ ans before ∷ put ∷ held ∷ stores ∷ slice-val packet ∷ end ∷ slice-val decrypted ∷ slice-val list ∷ t1 ∷ t4 ∷ time ∷ []) Post)
+    walk : ent 𝓤 (⋆ 𝓤 H A (‵ (fobs γ (Rec .coded .code h)) ∷ ‵ (fbor κ (Body (mem Rec) b o γ)) ∷ ‵ (flft κ q) ∷ ‵ (flft κ1 q1) ∷ ‵ (flft κ2 q2) ∷ ‵ (flft κ3 q3) ∷ ‵ (ShrSlice (named 1) κ1 u8 .own packet (slice-val packet ∷ [])) ∷ ‵ (ShrSlice (named 2) κ2 u8 .own decrypted (slice-val decrypted ∷ [])) ∷ ‵ (ShrSlice (named 3) κ3 u8 .own list (slice-val list ∷ [])) ∷ [])) (WpFn 𝓤 H C Λ (shape τ-to τ-rec τ-ans τ-kind τ-held τ-stores τ-end τ-t1 τ-t4 τ-time) (vptr b o ∷ vint w64 calls ∷ vbool calling ∷ ans before ∷ kind ∷ held ∷ stores ∷ slice-val packet ∷ end ∷ slice-val decrypted ∷ slice-val list ∷ t1 ∷ t4 ∷ time ∷ []) Post)
     walk =
-        qed W (‵ (fobs γ (Rec .coded .code h)) ∷ ‵ (fbor κ (Body (mem Rec) b o γ)) ∷ ‵ (flft κ q) ∷ ‵ (flft κ1 q1) ∷ ‵ (flft κ2 q2) ∷ ‵ (flft κ3 q3) ∷ ‵ (ShrSlice (named 1) κ1 u8 .own packet (slice-val packet ∷ [])) ∷ ‵ (ShrSlice (named 2) κ2 u8 .own decrypted (slice-val decrypted ∷ [])) ∷ ‵ (ShrSlice (named 3) κ3 u8 .own list (slice-val list ∷ [])) ∷ []) ∵ enter ! C Λ (shape τ-to τ-rec τ-ans τ-put τ-held τ-stores τ-end τ-t1 τ-t4 τ-time) (vptr b o ∷ vint w64 calls ∷ vbool calling ∷ ans before ∷ put ∷ held ∷ stores ∷ slice-val packet ∷ end ∷ slice-val decrypted ∷ slice-val list ∷ t1 ∷ t4 ∷ time ∷ []) _ $
+        qed W (‵ (fobs γ (Rec .coded .code h)) ∷ ‵ (fbor κ (Body (mem Rec) b o γ)) ∷ ‵ (flft κ q) ∷ ‵ (flft κ1 q1) ∷ ‵ (flft κ2 q2) ∷ ‵ (flft κ3 q3) ∷ ‵ (ShrSlice (named 1) κ1 u8 .own packet (slice-val packet ∷ [])) ∷ ‵ (ShrSlice (named 2) κ2 u8 .own decrypted (slice-val decrypted ∷ [])) ∷ ‵ (ShrSlice (named 3) κ3 u8 .own list (slice-val list ∷ [])) ∷ []) ∵ enter ! C Λ (shape τ-to τ-rec τ-ans τ-kind τ-held τ-stores τ-end τ-t1 τ-t4 τ-time) (vptr b o ∷ vint w64 calls ∷ vbool calling ∷ ans before ∷ kind ∷ held ∷ stores ∷ slice-val packet ∷ end ∷ slice-val decrypted ∷ slice-val list ∷ t1 ∷ t4 ∷ time ∷ []) _ $
         alloc1 ! (λ l0. alloc1 ! (λ l1. alloc1 ! (λ l2. alloc1 ! (λ l3. alloc1 ! (λ l4. alloc1 ! (λ l5. alloc1 ! (λ l6. alloc1 ! (λ l7. alloc1 ! (λ l8. alloc1 ! (λ l9. alloc1 ! (λ l10. alloc1 ! (λ l11. alloc1 ! (λ l12. alloc1 ! (λ l13. alloc1 ! (λ l14. alloc1 ! (λ l15. alloc1 ! (λ l16. alloc1 ! (λ l17. alloc1 ! (λ l18. alloc1 ! (λ l19. alloc1 ! (λ l20. alloc0 ! $ params1 ! $
         pass1 ! (init ! 38 refl (tt, tt)) $
         pass1 ! (init ! 36 refl (tt, calls-fits)) $
         pass1 ! (init ! 34 refl (tt, tt)) $
         pass1 ! (init ! 32 refl (ans-typed before _ before-is)) $
-        pass1 ! (init ! 30 refl put-typed) $
+        pass1 ! (init ! 30 refl kind-typed) $
         pass1 ! (init ! 28 refl held-typed) $
         pass1 ! (init ! 26 refl stores-typed) $
         pass1 ! (init ! 24 refl (shr-slice-lawful 𝓤 H A W (named 1) κ1 u8 .typed packet _ packet-is .0)) $
@@ -353,7 +353,7 @@ Rec-val = LL.val Rec.the-type Rec′.the-laws
 abbrev Ans-val : ReplyAnswer → Val
 Ans-val = EL.val Ans.the-type Ans′.the-laws
 
-abbrev What-val : Put → Val
+abbrev What-val : Kind → Val
 What-val = LL.val What.the-type What′.the-laws
 
 abbrev Time-val : NtpTimestamp → Val
@@ -365,16 +365,16 @@ C-ready 𝓤 H A at-mem run = tripleOf 𝓤 H A ready.signature (ready.spec 𝓤
 abbrev C-call : {M : Type 1} (𝓤 : URA M) (H : Heap 𝓤) (A : Atoms 𝓤) (at-mem : Memory → SProp 𝓤) (run : Routine → Fun 𝓤) → Contract 𝓤
 C-call 𝓤 H A at-mem run = tripleOf 𝓤 H A call.signature (call.spec 𝓤 H A at-mem run)
 
-module _ {M : Type 1} (𝓤 : URA M) (H : Heap 𝓤) (A : Atoms 𝓤) (W : Given 𝓤 H A) (at-mem : Memory → SProp 𝓤) (run : Routine → Fun 𝓤) (κ κ1 κ2 κ3 : Lft) (q q1 q2 q3 : Share) (b o : ℕ) (γ : GName) (h : Association) (calls : ℕ) (calling : Bool) (before : ReplyAnswer) (put : Put) (held : ℕ) (stores : Bool) (packet : RefT (List ℕ)) (end : ℕ) (decrypted : RefT (List ℕ)) (list : RefT (List ℕ)) (t1 : NtpTimestamp) (t4 : NtpTimestamp) (time : ℕ)
-    (calls-is : Is u64 calls (vint w64 calls ∷ [])) (calling-is : Is bool calling (vbool calling ∷ [])) (before-is : Is Ans.the-row before (Ans-val before ∷ [])) (put-is : Is What.the-row put (What-val put ∷ [])) (held-is : Is usize held (vint w64 held ∷ [])) (stores-is : Is bool stores (vbool stores ∷ [])) (packet-is : Is (ShrSlice (named 1) κ1 u8) packet (slice-val packet ∷ [])) (end-is : Is usize end (vint w64 end ∷ [])) (decrypted-is : Is (ShrSlice (named 2) κ2 u8) decrypted (slice-val decrypted ∷ [])) (list-is : Is (ShrSlice (named 3) κ3 u8) list (slice-val list ∷ [])) (t1-is : Is Time.the-row t1 (Time-val t1 ∷ [])) (t4-is : Is Time.the-row t4 (Time-val t4 ∷ [])) (time-is : Is u64 time (vint w64 time ∷ [])) where
+module _ {M : Type 1} (𝓤 : URA M) (H : Heap 𝓤) (A : Atoms 𝓤) (W : Given 𝓤 H A) (at-mem : Memory → SProp 𝓤) (run : Routine → Fun 𝓤) (κ κ1 κ2 κ3 : Lft) (q q1 q2 q3 : Share) (b o : ℕ) (γ : GName) (h : Association) (calls : ℕ) (calling : Bool) (before : ReplyAnswer) (kind : Kind) (held : ℕ) (stores : Bool) (packet : RefT (List ℕ)) (end : ℕ) (decrypted : RefT (List ℕ)) (list : RefT (List ℕ)) (t1 : NtpTimestamp) (t4 : NtpTimestamp) (time : ℕ)
+    (calls-is : Is u64 calls (vint w64 calls ∷ [])) (calling-is : Is bool calling (vbool calling ∷ [])) (before-is : Is Ans.the-row before (Ans-val before ∷ [])) (kind-is : Is What.the-row kind (What-val kind ∷ [])) (held-is : Is usize held (vint w64 held ∷ [])) (stores-is : Is bool stores (vbool stores ∷ [])) (packet-is : Is (ShrSlice (named 1) κ1 u8) packet (slice-val packet ∷ [])) (end-is : Is usize end (vint w64 end ∷ [])) (decrypted-is : Is (ShrSlice (named 2) κ2 u8) decrypted (slice-val decrypted ∷ [])) (list-is : Is (ShrSlice (named 3) κ3 u8) list (slice-val list ∷ [])) (t1-is : Is Time.the-row t1 (Time-val t1 ∷ [])) (t4-is : Is Time.the-row t4 (Time-val t4 ∷ [])) (time-is : Is u64 time (vint w64 time ∷ [])) where
   abbrev ref : GName → Association → RefT Association
   ref δ w = record { ptr = (b, o); name = δ; now = w }
 
-  abbrev x : RefT Association × (ℕ × (Bool × (ReplyAnswer × (Put × (ℕ × (Bool × (RefT (List ℕ) × (ℕ × (RefT (List ℕ) × (RefT (List ℕ) × (NtpTimestamp × (NtpTimestamp × (ℕ × Unit {0})))))))))))))
-  x = (ref γ h, (calls, (calling, (before, (put, (held, (stores, (packet, (end, (decrypted, (list, (t1, (t4, (time, tt))))))))))))))
+  abbrev x : RefT Association × (ℕ × (Bool × (ReplyAnswer × (Kind × (ℕ × (Bool × (RefT (List ℕ) × (ℕ × (RefT (List ℕ) × (RefT (List ℕ) × (NtpTimestamp × (NtpTimestamp × (ℕ × Unit {0})))))))))))))
+  x = (ref γ h, (calls, (calling, (before, (kind, (held, (stores, (packet, (end, (decrypted, (list, (t1, (t4, (time, tt))))))))))))))
 
   abbrev at : List Val × (List Val × (List Val × (List Val × (List Val × (List Val × (List Val × (List Val × (List Val × (List Val × (List Val × (List Val × (List Val × (List Val × Unit {0})))))))))))))
-  at = (vptr b o ∷ [], (vint w64 calls ∷ [], (vbool calling ∷ [], (Ans-val before ∷ [], (What-val put ∷ [], (vint w64 held ∷ [], (vbool stores ∷ [], (slice-val packet ∷ [], (vint w64 end ∷ [], (slice-val decrypted ∷ [], (slice-val list ∷ [], (Time-val t1 ∷ [], (Time-val t4 ∷ [], (vint w64 time ∷ [], tt))))))))))))))
+  at = (vptr b o ∷ [], (vint w64 calls ∷ [], (vbool calling ∷ [], (Ans-val before ∷ [], (What-val kind ∷ [], (vint w64 held ∷ [], (vbool stores ∷ [], (slice-val packet ∷ [], (vint w64 end ∷ [], (slice-val decrypted ∷ [], (slice-val list ∷ [], (Time-val t1 ∷ [], (Time-val t4 ∷ [], (vint w64 time ∷ [], tt))))))))))))))
 
   abbrev Post : Val → SProp 𝓤
   Post = walkOf 𝓤 H A self.ended stayed (self.clauses 𝓤 H A at-mem run) .post (((κ, (κ1, (κ2, (κ3, tt)))), (q, (q1, (q2, (q3, tt)))), tt, x, at), tt)
@@ -388,14 +388,14 @@ module _ {M : Type 1} (𝓤 : URA M) (H : Heap 𝓤) (A : Atoms 𝓤) (W : Given
 
   -- what `ready` is given, and what it says
   abbrev to-ready : ℕ → GName → Association → C-ready 𝓤 H A at-mem run .Ghost
-  to-ready α δ y = (((α ∷ [], (κ3, tt)), (fullShare, (q3, tt)), tt, (ref δ y, (put, (held, (stores, (list, tt))))), (vptr b o ∷ [], (What-val put ∷ [], (vint w64 held ∷ [], (vbool stores ∷ [], (slice-val list ∷ [], tt)))))), tt)
+  to-ready α δ y = (((α ∷ [], (κ3, tt)), (fullShare, (q3, tt)), tt, (ref δ y, (kind, (held, (stores, (list, tt))))), (vptr b o ∷ [], (What-val kind ∷ [], (vint w64 held ∷ [], (vbool stores ∷ [], (slice-val list ∷ [], tt)))))), tt)
 
-  goes-ready : (α : ℕ) (δ : GName) (y : Association) → Is What.the-row put (What-val put ∷ []) → Is usize held (vint w64 held ∷ []) → Is bool stores (vbool stores ∷ []) → ent 𝓤 (⋆ 𝓤 H A ((‵ (flft (α ∷ []) fullShare) ⊛ (‵ (flft κ3 q3) ⊛ ‵ ftrue)) ∷ ‵ (MutRef (named 0) (α ∷ []) Rec.the-row .own (ref δ y) (vptr b o ∷ [])) ∷ ‵ (ShrSlice (named 3) κ3 u8 .own list (slice-val list ∷ [])) ∷ [])) (C-ready 𝓤 H A at-mem run .pre (to-ready α δ y))
+  goes-ready : (α : ℕ) (δ : GName) (y : Association) → Is What.the-row kind (What-val kind ∷ []) → Is usize held (vint w64 held ∷ []) → Is bool stores (vbool stores ∷ []) → ent 𝓤 (⋆ 𝓤 H A ((‵ (flft (α ∷ []) fullShare) ⊛ (‵ (flft κ3 q3) ⊛ ‵ ftrue)) ∷ ‵ (MutRef (named 0) (α ∷ []) Rec.the-row .own (ref δ y) (vptr b o ∷ [])) ∷ ‵ (ShrSlice (named 3) κ3 u8 .own list (slice-val list ∷ [])) ∷ [])) (C-ready 𝓤 H A at-mem run .pre (to-ready α δ y))
   goes-ready α δ y p-is h-is s-is =
-      qed W ((‵ (flft (α ∷ []) fullShare) ⊛ (‵ (flft κ3 q3) ⊛ ‵ ftrue)) ∷ ‵ (MutRef (named 0) (α ∷ []) Rec.the-row .own (ref δ y) (vptr b o ∷ [])) ∷ ‵ (ShrSlice (named 3) κ3 u8 .own list (slice-val list ∷ [])) ∷ []) ∵ nothing ! $ move ! (3 ∷ 0 ∷ []) $ fjoin ! $ owned ! bool (Is bool) (bool-makes 𝓤 H A W) stores _ s-is $ fjoin ! $ owned ! usize (Is usize) (uint-makes 𝓤 H A W w64) held _ h-is $ fjoin ! $ owned ! What.the-row (Is What.the-row) (LL.makes What.the-type What′.the-plain 𝓤 H A) put _ p-is $ fjoin ! $ move ! (2 ∷ 0 ∷ []) $ fjoin ! $ move ! (1 ∷ 0 ∷ []) $ join ! $ frame ! $ done !
+      qed W ((‵ (flft (α ∷ []) fullShare) ⊛ (‵ (flft κ3 q3) ⊛ ‵ ftrue)) ∷ ‵ (MutRef (named 0) (α ∷ []) Rec.the-row .own (ref δ y) (vptr b o ∷ [])) ∷ ‵ (ShrSlice (named 3) κ3 u8 .own list (slice-val list ∷ [])) ∷ []) ∵ nothing ! $ move ! (3 ∷ 0 ∷ []) $ fjoin ! $ owned ! bool (Is bool) (bool-makes 𝓤 H A W) stores _ s-is $ fjoin ! $ owned ! usize (Is usize) (uint-makes 𝓤 H A W w64) held _ h-is $ fjoin ! $ owned ! What.the-row (Is What.the-row) (LL.makes What.the-type What′.the-plain 𝓤 H A) kind _ p-is $ fjoin ! $ move ! (2 ∷ 0 ∷ []) $ fjoin ! $ move ! (1 ∷ 0 ∷ []) $ join ! $ frame ! $ done !
 
   abbrev E-ready : ℕ → GName → Association → Unit {0} → SProp 𝓤
-  E-ready α δ y r = ensured 𝓤 H A ready.ended (ready.clauses 𝓤 H A at-mem run) (α ∷ [], (κ3, tt)) (ref δ y, (put, (held, (stores, (list, tt))))) tt r
+  E-ready α δ y r = ensured 𝓤 H A ready.ended (ready.clauses 𝓤 H A at-mem run) (α ∷ [], (κ3, tt)) (ref δ y, (kind, (held, (stores, (list, tt))))) tt r
 
   -- what `reply` is given, and what it says
   abbrev to-call : ℕ → GName → Association → C-call 𝓤 H A at-mem run .Ghost
@@ -409,17 +409,17 @@ module _ {M : Type 1} (𝓤 : URA M) (H : Heap 𝓤) (A : Atoms 𝓤) (W : Given
   E-call α δ y r = ensured 𝓤 H A call.ended (call.clauses 𝓤 H A at-mem run) (α ∷ [], (κ1, (κ2, (κ3, tt)))) (ref δ y, (packet, (end, (decrypted, (list, (t1, (t4, (time, tt)))))))) tt r
 
   module _ (𝓣 : Tables 𝓤 H) (known-ready : Triple 𝓤 (𝓣 .C #calls·ready) (C-ready 𝓤 H A at-mem run)) (known-call : Triple 𝓤 (𝓣 .C #reply·reply) (C-call 𝓤 H A at-mem run)) where
-    walk-here : ent 𝓤 (onEntry 𝓤 H A self.signature (κ, (κ1, (κ2, (κ3, tt)))) (q, (q1, (q2, (q3, tt)))) x at) (WpFn 𝓤 H (𝓣 .C) (𝓣 .Λ) code.function (vptr b o ∷ vint w64 calls ∷ vbool calling ∷ Ans-val before ∷ What-val put ∷ vint w64 held ∷ vbool stores ∷ slice-val packet ∷ vint w64 end ∷ slice-val decrypted ∷ slice-val list ∷ Time-val t1 ∷ Time-val t4 ∷ vint w64 time ∷ []) Post)
+    walk-here : ent 𝓤 (onEntry 𝓤 H A self.signature (κ, (κ1, (κ2, (κ3, tt)))) (q, (q1, (q2, (q3, tt)))) x at) (WpFn 𝓤 H (𝓣 .C) (𝓣 .Λ) code.function (vptr b o ∷ vint w64 calls ∷ vbool calling ∷ Ans-val before ∷ What-val kind ∷ vint w64 held ∷ vbool stores ∷ slice-val packet ∷ vint w64 end ∷ slice-val decrypted ∷ slice-val list ∷ Time-val t1 ∷ Time-val t4 ∷ vint w64 time ∷ []) Post)
     walk-here =
         qed W ((‵ (flft κ q) ⊛ (‵ (flft κ1 q1) ⊛ (‵ (flft κ2 q2) ⊛ (‵ (flft κ3 q3) ⊛ ‵ ftrue)))) ∷ ‵ (owns (MutRef (named 0) κ Rec.the-row ∷ u64 ∷ bool ∷ Ans.the-row ∷ What.the-row ∷ usize ∷ bool ∷ ShrSlice (named 1) κ1 u8 ∷ usize ∷ ShrSlice (named 2) κ2 u8 ∷ ShrSlice (named 3) κ3 u8 ∷ Time.the-row ∷ Time.the-row ∷ u64 ∷ []) x at) ∷ []) ∵ split ! $ move ! (1 ∷ []) $ split ! $ move ! (1 ∷ []) $ split ! $ move ! (1 ∷ []) $ split ! $ move ! (1 ∷ []) $ drop ! $ move ! (4 ∷ []) $ fsplit ! $ fsplit3 ! $ drop ! $ move ! (2 ∷ []) $ fsplit ! $ drop ! $ fsplit ! $ drop ! $ fsplit ! $ drop ! $ fsplit ! $ drop ! $ fsplit ! $ drop ! $ fsplit ! $ drop ! $ fsplit ! $ move ! (1 ∷ []) $ fsplit ! $ drop ! $ fsplit ! $ move ! (1 ∷ []) $ fsplit ! $ move ! (1 ∷ []) $ fsplit ! $ drop ! $ fsplit ! $ drop ! $ fsplit ! $ drop ! $ drop ! $
         move ! (3 ∷ 4 ∷ 8 ∷ 7 ∷ 6 ∷ 5 ∷ 2 ∷ 1 ∷ 0 ∷ []) $ by ! (walk
         Rec.the-row Ans.the-row Ans-val (tyNamed (97 ∷ 115 ∷ 115 ∷ 111 ∷ 99 ∷ 105 ∷ 97 ∷ 116 ∷ 105 ∷ 111 ∷ 110 ∷ 58 ∷ 58 ∷ 65 ∷ 115 ∷ 115 ∷ 111 ∷ 99 ∷ 105 ∷ 97 ∷ 116 ∷ 105 ∷ 111 ∷ 110 ∷ [], [])) Rec′.mir Ans′.mir What′.mir (tyInt w64) tyBool (tyInt w64) Time′.mir Time′.mir (tyInt w64)
         (EL.tells Ans.the-type Ans′.the-laws) (λ y v g. (EL.lawful Ans.the-type Ans′.the-laws 𝓤 H A W tt .typed y _ g .0))
-        𝓤 H A W κ κ1 κ2 κ3 q q1 q2 q3 b o γ h calls calling before (What-val put) (vint w64 held) (vbool stores) packet (vint w64 end) decrypted list (Time-val t1) (Time-val t4) (vint w64 time)
-        ((uint-lawful 𝓤 H A W w64 .typed calls _ calls-is .0) .1) before-is (LL.lawful What.the-type What′.the-laws 𝓤 H A W .typed put _ put-is .0) (uint-lawful 𝓤 H A W w64 .typed held _ held-is .0) (bool-lawful 𝓤 H A W .typed stores _ stores-is .0) packet-is (uint-lawful 𝓤 H A W w64 .typed end _ end-is .0) decrypted-is list-is (LL.lawful Time.the-type Time′.the-laws 𝓤 H A W .typed t1 _ t1-is .0) (LL.lawful Time.the-type Time′.the-laws 𝓤 H A W .typed t4 _ t4-is .0) (uint-lawful 𝓤 H A W w64 .typed time _ time-is .0)
+        𝓤 H A W κ κ1 κ2 κ3 q q1 q2 q3 b o γ h calls calling before (What-val kind) (vint w64 held) (vbool stores) packet (vint w64 end) decrypted list (Time-val t1) (Time-val t4) (vint w64 time)
+        ((uint-lawful 𝓤 H A W w64 .typed calls _ calls-is .0) .1) before-is (LL.lawful What.the-type What′.the-laws 𝓤 H A W .typed kind _ kind-is .0) (uint-lawful 𝓤 H A W w64 .typed held _ held-is .0) (bool-lawful 𝓤 H A W .typed stores _ stores-is .0) packet-is (uint-lawful 𝓤 H A W w64 .typed end _ end-is .0) decrypted-is list-is (LL.lawful Time.the-type Time′.the-laws 𝓤 H A W .typed t1 _ t1-is .0) (LL.lawful Time.the-type Time′.the-laws 𝓤 H A W .typed t4 _ t4-is .0) (uint-lawful 𝓤 H A W w64 .typed time _ time-is .0)
         (λ α δ y. C-ready 𝓤 H A at-mem run .pre (to-ready α δ y)) (λ α δ y. C-ready 𝓤 H A at-mem run .post (to-ready α δ y)) E-ready
         (λ α δ y. C-call 𝓤 H A at-mem run .pre (to-call α δ y)) (λ α δ y. C-call 𝓤 H A at-mem run .post (to-call α δ y)) E-call Post
-        (λ α δ y. goes-ready α δ y put-is held-is stores-is) (λ α δ y v. id⊢ 𝓤 _) (λ α δ y. goes-call α δ y end-is t1-is t4-is time-is) (λ α δ y v. id⊢ 𝓤 _)
+        (λ α δ y. goes-ready α δ y kind-is held-is stores-is) (λ α δ y v. id⊢ 𝓤 _) (λ α δ y. goes-call α δ y end-is t1-is t4-is time-is) (λ α δ y v. id⊢ 𝓤 _)
         (λ r w is. exits r w is) 𝓣 (λ α δ y. known-ready (to-ready α δ y)) (λ α δ y. known-call (to-call α δ y)))
 
 module _ {M : Type 1} (𝓤 : URA M) (H : Heap 𝓤) (A : Atoms 𝓤) (W : Given 𝓤 H A) (at-mem : Memory → SProp 𝓤) (run : Routine → Fun 𝓤) where

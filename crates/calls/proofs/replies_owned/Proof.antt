@@ -49,18 +49,18 @@ use Rattle.calls.proofs.Lent.{silent}
 use Rattle.association.specs.declared.Association.{Association}
 use Rattle.calls.specs.declared.RepliesOut.{RepliesOut}
 use Rattle.reply_rules.specs.declared.ReplyAnswer.{ReplyAnswer}
+use Rattle.calls.specs.declared.Kind.{Kind}
 use Rattle.time_types.specs.declared.NtpTimestamp.{NtpTimestamp}
-use Rattle.calls.specs.declared.Put.{Put}
 use Rattle.association.proofs.Association as Rec
 use Rattle.association.proofs.Association.Laws as Rec′
 use Rattle.calls.proofs.RepliesOut as Out
 use Rattle.calls.proofs.RepliesOut.Laws as Out′
 use Rattle.reply_rules.proofs.ReplyAnswer as Ans
 use Rattle.reply_rules.proofs.ReplyAnswer.Laws as Ans′
+use Rattle.calls.proofs.Kind as Kind·
+use Rattle.calls.proofs.Kind.Laws as Kind·′
 use Rattle.time_types.proofs.NtpTimestamp as NtpTimestamp·
 use Rattle.time_types.proofs.NtpTimestamp.Laws as NtpTimestamp·′
-use Rattle.calls.proofs.Put as Put·
-use Rattle.calls.proofs.Put.Laws as Put·′
 use Rattle.calls.proofs.replies as core
 use Rattle.calls.proofs.replies.Symbol as core-def
 use Rattle.calls.proofs.replies.Symbol.{name as #calls·replies}
@@ -71,13 +71,13 @@ use Rattle.calls.proofs.replies_owned.Statement as stated
 use Rattle.calls.proofs.replies_owned.Code as code
 
 -- the function, over any types of the record (τ-to is its name, behind the reference), of the answer and of the other arguments
-abbrev shape : Sym → (τ-to τ-rec τ-ans τ-calls τ-calling τ-before τ-put τ-held τ-stores τ-packet τ-end τ-decrypted τ-list τ-t1 τ-t4 τ-time : Ty) → Fn
-shape ν τ-to τ-rec τ-ans τ-calls τ-calling τ-before τ-put τ-held τ-stores τ-packet τ-end τ-decrypted τ-list τ-t1 τ-t4 τ-time =
+abbrev shape : Sym → (τ-to τ-rec τ-ans τ-calls τ-calling τ-before τ-kind τ-held τ-stores τ-packet τ-end τ-decrypted τ-list τ-t1 τ-t4 τ-time : Ty) → Fn
+shape ν τ-to τ-rec τ-ans τ-calls τ-calling τ-before τ-kind τ-held τ-stores τ-packet τ-end τ-decrypted τ-list τ-t1 τ-t4 τ-time =
     record {
       lifetimes = 3;
       outlives = [];
       params = 14;
-      locals = local (tyStruct ν (tcons τ-ans (tcons τ-rec tnil))) valueLocal ∷ local τ-rec valueLocal ∷ local τ-calls valueLocal ∷ local τ-calling valueLocal ∷ local τ-before valueLocal ∷ local τ-put valueLocal ∷ local τ-held valueLocal ∷ local τ-stores valueLocal ∷ local τ-packet valueLocal ∷ local τ-end valueLocal ∷ local τ-decrypted valueLocal ∷ local τ-list valueLocal ∷ local τ-t1 valueLocal ∷ local τ-t4 valueLocal ∷ local τ-time valueLocal ∷ local τ-rec memorySlot ∷ local τ-ans valueLocal ∷ local (tyRef erased mut τ-to) valueLocal ∷ local τ-rec valueLocal ∷ [];
+      locals = local (tyStruct ν (tcons τ-ans (tcons τ-rec tnil))) valueLocal ∷ local τ-rec valueLocal ∷ local τ-calls valueLocal ∷ local τ-calling valueLocal ∷ local τ-before valueLocal ∷ local τ-kind valueLocal ∷ local τ-held valueLocal ∷ local τ-stores valueLocal ∷ local τ-packet valueLocal ∷ local τ-end valueLocal ∷ local τ-decrypted valueLocal ∷ local τ-list valueLocal ∷ local τ-t1 valueLocal ∷ local τ-t4 valueLocal ∷ local τ-time valueLocal ∷ local τ-rec memorySlot ∷ local τ-ans valueLocal ∷ local (tyRef erased mut τ-to) valueLocal ∷ local τ-rec valueLocal ∷ [];
       body =
           seq (assign (place 15 []) (rvOpd (copy (place 1 []))))
           (seq (assign (place 17 []) (addrOf (place 15 [])))
@@ -88,7 +88,7 @@ shape ν τ-to τ-rec τ-ans τ-calls τ-calling τ-before τ-put τ-held τ-sto
     }
 
 -- The walk, over any rows of a record and an answer, and any machine values: it asks only that these are of their types.
-module _ (Rec Ans : RattleType) (rec : Rec .Denot → Val) (ans : Ans .Denot → Val) (ν : Sym) (τ-to τ-rec τ-ans τ-calls τ-calling τ-before τ-put τ-held τ-stores τ-packet τ-end τ-decrypted τ-list τ-t1 τ-t4 τ-time : Ty) (rec-mir : Rec .mir ≡ τ-rec ∷ [])
+module _ (Rec Ans : RattleType) (rec : Rec .Denot → Val) (ans : Ans .Denot → Val) (ν : Sym) (τ-to τ-rec τ-ans τ-calls τ-calling τ-before τ-kind τ-held τ-stores τ-packet τ-end τ-decrypted τ-list τ-t1 τ-t4 τ-time : Ty) (rec-mir : Rec .mir ≡ τ-rec ∷ [])
     (rec-tells : Tells Rec (Is Rec) (λ y. rec y ∷ [])) (ans-tells : Tells Ans (Is Ans) (λ y. ans y ∷ []))
     (rec-typed : (y : Rec .Denot) → Is Rec y (rec y ∷ []) → T (hasTy τ-rec (rec y)) × WT (rec y))
     (ans-typed : (y : Ans .Denot) (v : Val) → Is Ans y (v ∷ []) → T (hasTy τ-ans v) × WT v)
@@ -108,26 +108,26 @@ module _ (Rec Ans : RattleType) (rec : Rec .Denot → Val) (ans : Ans .Denot →
       qed W (‵ (partAt Rec fullShare w b 0) ∷ []) ∵ fpick ! (λ vs. fsplit ! $ spelt ! Rec (Is Rec) (shows 𝓤 H A Rec) (λ y. rec y ∷ []) rec-tells fullShare w vs b 0 $
       rewrite ! 0 (λ (τs : List Ty). ‵ (cellAt fullShare τs (rec w ∷ []) b 0)) rec-mir refl $ move ! (1 ∷ []) $ peeks ! Rec (Is Rec) (shows 𝓤 H A Rec) w (rec w ∷ []) (λ g. check ! g $ drop ! $ by ! (W .laws .raw-at fullShare τ-rec b 0 (rec w))))
 
-  module _ (h : Rec .Denot) (calls calling before put held stores packet end decrypted list t1 t4 time : Val) (h-is : Is Rec h (rec h ∷ [])) (calls-typed : T (hasTy τ-calls calls) × WT calls) (calling-typed : T (hasTy τ-calling calling) × WT calling) (before-typed : T (hasTy τ-before before) × WT before) (put-typed : T (hasTy τ-put put) × WT put) (held-typed : T (hasTy τ-held held) × WT held) (stores-typed : T (hasTy τ-stores stores) × WT stores) (packet-typed : T (hasTy τ-packet packet) × WT packet) (end-typed : T (hasTy τ-end end) × WT end) (decrypted-typed : T (hasTy τ-decrypted decrypted) × WT decrypted) (list-typed : T (hasTy τ-list list) × WT list) (t1-typed : T (hasTy τ-t1 t1) × WT t1) (t4-typed : T (hasTy τ-t4 t4) × WT t4) (time-typed : T (hasTy τ-time time) × WT time)
+  module _ (h : Rec .Denot) (calls calling before kind held stores packet end decrypted list t1 t4 time : Val) (h-is : Is Rec h (rec h ∷ [])) (calls-typed : T (hasTy τ-calls calls) × WT calls) (calling-typed : T (hasTy τ-calling calling) × WT calling) (before-typed : T (hasTy τ-before before) × WT before) (kind-typed : T (hasTy τ-kind kind) × WT kind) (held-typed : T (hasTy τ-held held) × WT held) (stores-typed : T (hasTy τ-stores stores) × WT stores) (packet-typed : T (hasTy τ-packet packet) × WT packet) (end-typed : T (hasTy τ-end end) × WT end) (decrypted-typed : T (hasTy τ-decrypted decrypted) × WT decrypted) (list-typed : T (hasTy τ-list list) × WT list) (t1-typed : T (hasTy τ-t1 t1) × WT t1) (t4-typed : T (hasTy τ-t4 t4) × WT t4) (time-typed : T (hasTy τ-time time) × WT time)
       (Own Left : SProp 𝓤) (Pre : ℕ → ℕ → GName → SProp 𝓤) (Back : ℕ → ℕ → GName → Val → SProp 𝓤) (Post : Val → SProp 𝓤) (Ensured : ℕ → ℕ → GName → Ans .Denot → SProp 𝓤) (Says : Ans .Denot → Rec .Denot → Type 0)
       (goes-core : (α l : ℕ) (δ : GName) → ent 𝓤 (⋆ 𝓤 H A (‵ (flft (α ∷ []) fullShare) ∷ ‵ (MutRef (named 0) (α ∷ []) Rec .own (record { ptr = (l, 0); name = δ; now = h }) (vptr l 0 ∷ [])) ∷ raw Own ∷ [])) (Pre α l δ))
       (comes-back : (α l : ℕ) (δ : GName) (v : Val) → ent 𝓤 (Back α l δ v) (mean 𝓤 H A (later (some (λ (r : Ans .Denot). ((‵ (flft (α ∷ []) fullShare) ⊛ raw Left) ⊛ ‵ (Ans .own r (v ∷ []))) ⊛ raw (Ensured α l δ r))))))
       (said-of : (α l : ℕ) (δ : GName) (r : Ans .Denot) → ent 𝓤 (Ensured α l δ r) (mean 𝓤 H A (some (λ (w : Rec .Denot). given (Says r w) (‵ (fres δ (Rec .coded .code w)))))))
       (exits : (r : Ans .Denot) (w : Rec .Denot) → Is Ans r (ans r ∷ []) → Is Rec w (rec w ∷ []) → Says r w → ent 𝓤 (⋆ 𝓤 H A (raw Left ∷ [])) (Post (vstruct (ofList (ans r ∷ rec w ∷ [])))))
-      (C : Calls 𝓤 H) (Λ : Loops 𝓤 H) (fm : FmC 𝓤 H (W .laws) C) (known : (α l : ℕ) (δ : GName) → ent 𝓤 (Pre α l δ) (C #calls·replies (vptr l 0 ∷ calls ∷ calling ∷ before ∷ put ∷ held ∷ stores ∷ packet ∷ end ∷ decrypted ∷ list ∷ t1 ∷ t4 ∷ time ∷ []) (Back α l δ))) where
+      (C : Calls 𝓤 H) (Λ : Loops 𝓤 H) (fm : FmC 𝓤 H (W .laws) C) (known : (α l : ℕ) (δ : GName) → ent 𝓤 (Pre α l δ) (C #calls·replies (vptr l 0 ∷ calls ∷ calling ∷ before ∷ kind ∷ held ∷ stores ∷ packet ∷ end ∷ decrypted ∷ list ∷ t1 ∷ t4 ∷ time ∷ []) (Back α l δ))) where
     -- the record, lent at l under the name δ
     abbrev ref : ℕ → GName → RefT (Rec .Denot)
     ref l δ = record { ptr = (l, 0); name = δ; now = h }
 
-    walk : ent 𝓤 (⋆ 𝓤 H A (raw Own ∷ [])) (WpFn 𝓤 H C Λ (shape ν τ-to τ-rec τ-ans τ-calls τ-calling τ-before τ-put τ-held τ-stores τ-packet τ-end τ-decrypted τ-list τ-t1 τ-t4 τ-time) (rec h ∷ calls ∷ calling ∷ before ∷ put ∷ held ∷ stores ∷ packet ∷ end ∷ decrypted ∷ list ∷ t1 ∷ t4 ∷ time ∷ []) Post)
+    walk : ent 𝓤 (⋆ 𝓤 H A (raw Own ∷ [])) (WpFn 𝓤 H C Λ (shape ν τ-to τ-rec τ-ans τ-calls τ-calling τ-before τ-kind τ-held τ-stores τ-packet τ-end τ-decrypted τ-list τ-t1 τ-t4 τ-time) (rec h ∷ calls ∷ calling ∷ before ∷ kind ∷ held ∷ stores ∷ packet ∷ end ∷ decrypted ∷ list ∷ t1 ∷ t4 ∷ time ∷ []) Post)
     walk =
         qed W (raw Own ∷ []) ∵
-        enter ! C Λ (shape ν τ-to τ-rec τ-ans τ-calls τ-calling τ-before τ-put τ-held τ-stores τ-packet τ-end τ-decrypted τ-list τ-t1 τ-t4 τ-time) (rec h ∷ calls ∷ calling ∷ before ∷ put ∷ held ∷ stores ∷ packet ∷ end ∷ decrypted ∷ list ∷ t1 ∷ t4 ∷ time ∷ []) _ $
+        enter ! C Λ (shape ν τ-to τ-rec τ-ans τ-calls τ-calling τ-before τ-kind τ-held τ-stores τ-packet τ-end τ-decrypted τ-list τ-t1 τ-t4 τ-time) (rec h ∷ calls ∷ calling ∷ before ∷ kind ∷ held ∷ stores ∷ packet ∷ end ∷ decrypted ∷ list ∷ t1 ∷ t4 ∷ time ∷ []) _ $
         alloc1 ! (λ l0. alloc1 ! (λ l1. alloc1 ! (λ l2. alloc1 ! (λ l3. alloc1 ! (λ l4. alloc1 ! (λ l5. alloc1 ! (λ l6. alloc1 ! (λ l7. alloc1 ! (λ l8. alloc1 ! (λ l9. alloc1 ! (λ l10. alloc1 ! (λ l11. alloc1 ! (λ l12. alloc1 ! (λ l13. alloc1 ! (λ l14. alloc1 ! (λ l15. alloc1 ! (λ l16. alloc1 ! (λ l17. alloc1 ! (λ l18. alloc0 ! $ params1 ! $ pass1 ! (init ! 34 refl (rec-typed h h-is)) $
         pass1 ! (init ! 32 refl calls-typed) $
         pass1 ! (init ! 30 refl calling-typed) $
         pass1 ! (init ! 28 refl before-typed) $
-        pass1 ! (init ! 26 refl put-typed) $
+        pass1 ! (init ! 26 refl kind-typed) $
         pass1 ! (init ! 24 refl held-typed) $
         pass1 ! (init ! 22 refl stores-typed) $
         pass1 ! (init ! 20 refl packet-typed) $
@@ -145,7 +145,7 @@ module _ (Rec Ans : RattleType) (rec : Rec .Denot → Val) (ans : Ans .Denot →
         use1 W (later (some (λ (δ : GName). ‵ (MutRef (named 0) (α ∷ []) Rec .own (ref l15 δ) (vptr l15 0 ∷ [])) ⊛ ‵ (flent (α ∷ []) (Body (mem Rec) l15 0 δ))))) (lends-ref 𝓤 H A W Rec (named 0) (α ∷ []) h l15 0) $ await ! tt $ pick ! (λ δ. split ! $
         -- [the reference; the lender's part; the token; the locals; what the other arguments own]
         move ! (2 ∷ 0 ∷ 40 ∷ []) $ use3 W (raw (Pre α l15 δ)) (goes-core α l15 δ) $
-        calls-from ! fm (raw (Pre α l15 δ)) (vptr l15 0 ∷ calls ∷ calling ∷ before ∷ put ∷ held ∷ stores ∷ packet ∷ end ∷ decrypted ∷ list ∷ t1 ∷ t4 ∷ time ∷ []) (Back α l15 δ) (known α l15 δ) (and-then ! (load ! (from ! (stop !)) (look ! 4 refl)) (and-then ! (load ! (from ! (stop !)) (look ! 33 refl)) (and-then ! (load ! (from ! (stop !)) (look ! 31 refl)) (and-then ! (load ! (from ! (stop !)) (look ! 29 refl)) (and-then ! (load ! (from ! (stop !)) (look ! 27 refl)) (and-then ! (load ! (from ! (stop !)) (look ! 25 refl)) (and-then ! (load ! (from ! (stop !)) (look ! 23 refl)) (and-then ! (load ! (from ! (stop !)) (look ! 21 refl)) (and-then ! (load ! (from ! (stop !)) (look ! 19 refl)) (and-then ! (load ! (from ! (stop !)) (look ! 17 refl)) (and-then ! (load ! (from ! (stop !)) (look ! 15 refl)) (and-then ! (load ! (from ! (stop !)) (look ! 13 refl)) (and-then ! (load ! (from ! (stop !)) (look ! 11 refl)) (and-then ! (load ! (from ! (stop !)) (look ! 9 refl)) (no-more !))))))))))))))) (λ v.
+        calls-from ! fm (raw (Pre α l15 δ)) (vptr l15 0 ∷ calls ∷ calling ∷ before ∷ kind ∷ held ∷ stores ∷ packet ∷ end ∷ decrypted ∷ list ∷ t1 ∷ t4 ∷ time ∷ []) (Back α l15 δ) (known α l15 δ) (and-then ! (load ! (from ! (stop !)) (look ! 4 refl)) (and-then ! (load ! (from ! (stop !)) (look ! 33 refl)) (and-then ! (load ! (from ! (stop !)) (look ! 31 refl)) (and-then ! (load ! (from ! (stop !)) (look ! 29 refl)) (and-then ! (load ! (from ! (stop !)) (look ! 27 refl)) (and-then ! (load ! (from ! (stop !)) (look ! 25 refl)) (and-then ! (load ! (from ! (stop !)) (look ! 23 refl)) (and-then ! (load ! (from ! (stop !)) (look ! 21 refl)) (and-then ! (load ! (from ! (stop !)) (look ! 19 refl)) (and-then ! (load ! (from ! (stop !)) (look ! 17 refl)) (and-then ! (load ! (from ! (stop !)) (look ! 15 refl)) (and-then ! (load ! (from ! (stop !)) (look ! 13 refl)) (and-then ! (load ! (from ! (stop !)) (look ! 11 refl)) (and-then ! (load ! (from ! (stop !)) (look ! 9 refl)) (no-more !))))))))))))))) (λ v.
         use1 W (later (some (λ (r : Ans .Denot). ((‵ (flft (α ∷ []) fullShare) ⊛ raw Left) ⊛ ‵ (Ans .own r (v ∷ []))) ⊛ raw (Ensured α l15 δ r)))) (comes-back α l15 δ v) $ await ! tt $ pick ! (λ r. split ! $ move ! (1 ∷ []) $
         use1 W (some (λ (w : Rec .Denot). given (Says r w) (‵ (fres δ (Rec .coded .code w))))) (said-of α l15 δ r) $ pick ! (λ w. learn ! (λ e. move ! (1 ∷ []) $ split ! $ move ! (1 ∷ []) $ peeks ! Ans (Is Ans) (shows 𝓤 H A Ans) r (v ∷ []) (λ is.
         -- [what the answer owns; the tokens; the last value; the lender's part; the locals]
@@ -162,7 +162,7 @@ module _ (Rec Ans : RattleType) (rec : Rec .Denot → Val) (ans : Ans .Denot →
 
 -- what is had at exit: nothing
 abbrev stayed : Stays (self.ended .signature .params) (self.ended .kept)
-stayed = (stay-dropped (plain (λ _. Rec.the-row)) yes, (stay-dropped (plain (λ _. u64)) yes, (stay-dropped (plain (λ _. bool)) yes, (stay-dropped (plain (λ _. Ans.the-row)) yes, (stay-dropped (plain (λ _. Put·.the-row)) yes, (stay-dropped (plain (λ _. usize)) yes, (stay-dropped (plain (λ _. bool)) yes, (stay-dropped (shrSliceOf (0 ∷ []) tt (plain (λ _. u8))) yes, (stay-dropped (plain (λ _. usize)) yes, (stay-dropped (shrSliceOf (1 ∷ []) tt (plain (λ _. u8))) yes, (stay-dropped (shrSliceOf (2 ∷ []) tt (plain (λ _. u8))) yes, (stay-dropped (plain (λ _. NtpTimestamp·.the-row)) yes, (stay-dropped (plain (λ _. NtpTimestamp·.the-row)) yes, (stay-dropped (plain (λ _. u64)) yes, tt))))))))))))))
+stayed = (stay-dropped (plain (λ _. Rec.the-row)) yes, (stay-dropped (plain (λ _. u64)) yes, (stay-dropped (plain (λ _. bool)) yes, (stay-dropped (plain (λ _. Ans.the-row)) yes, (stay-dropped (plain (λ _. Kind·.the-row)) yes, (stay-dropped (plain (λ _. usize)) yes, (stay-dropped (plain (λ _. bool)) yes, (stay-dropped (shrSliceOf (0 ∷ []) tt (plain (λ _. u8))) yes, (stay-dropped (plain (λ _. usize)) yes, (stay-dropped (shrSliceOf (1 ∷ []) tt (plain (λ _. u8))) yes, (stay-dropped (shrSliceOf (2 ∷ []) tt (plain (λ _. u8))) yes, (stay-dropped (plain (λ _. NtpTimestamp·.the-row)) yes, (stay-dropped (plain (λ _. NtpTimestamp·.the-row)) yes, (stay-dropped (plain (λ _. u64)) yes, tt))))))))))))))
 
 -- the machine values of a record, of an answer and of the two
 abbrev rec : Association → Val
@@ -181,13 +181,13 @@ made r w is g = LL.owes Out.the-type Out′.the-laws (record { answer = r; assoc
 abbrev Core : {M : Type 1} (𝓤 : URA M) (H : Heap 𝓤) (A : Atoms 𝓤) (at-mem : Memory → SProp 𝓤) (run : Routine → Fun 𝓤) → Contract 𝓤
 Core 𝓤 H A at-mem run = tripleOf 𝓤 H A core.signature (core.spec 𝓤 H A at-mem run)
 
-module _ {M : Type 1} (𝓤 : URA M) (H : Heap 𝓤) (A : Atoms 𝓤) (W : Given 𝓤 H A) (at-mem : Memory → SProp 𝓤) (run : Routine → Fun 𝓤) (κ1 κ2 κ3 : Lft) (q1 q2 q3 : Share) (h : Association) (calls : ℕ) (calling : Bool) (before : ReplyAnswer) (put : Put) (held : ℕ) (stores : Bool) (packet : RefT (List ℕ)) (end : ℕ) (decrypted : RefT (List ℕ)) (list : RefT (List ℕ)) (t1 : NtpTimestamp) (t4 : NtpTimestamp) (time : ℕ)
-    (h-is : Is Rec.the-row h (rec h ∷ [])) (calls-is : Is (u64) calls (vint w64 calls ∷ [])) (calling-is : Is (bool) calling (vbool calling ∷ [])) (before-is : Is (Ans.the-row) before (EL.val Ans.the-type Ans′.the-laws before ∷ [])) (put-is : Is (Put·.the-row) put (LL.val Put·.the-type Put·′.the-laws put ∷ [])) (held-is : Is (usize) held (vint w64 held ∷ [])) (stores-is : Is (bool) stores (vbool stores ∷ [])) (packet-is : Is (ShrSlice (named 0) κ1 u8) packet (sliceVal (packet .ptr) (length (packet .now)) ∷ [])) (end-is : Is (usize) end (vint w64 end ∷ [])) (decrypted-is : Is (ShrSlice (named 1) κ2 u8) decrypted (sliceVal (decrypted .ptr) (length (decrypted .now)) ∷ [])) (list-is : Is (ShrSlice (named 2) κ3 u8) list (sliceVal (list .ptr) (length (list .now)) ∷ [])) (t1-is : Is (NtpTimestamp·.the-row) t1 (LL.val NtpTimestamp·.the-type NtpTimestamp·′.the-laws t1 ∷ [])) (t4-is : Is (NtpTimestamp·.the-row) t4 (LL.val NtpTimestamp·.the-type NtpTimestamp·′.the-laws t4 ∷ [])) (time-is : Is (u64) time (vint w64 time ∷ [])) where
-  abbrev z : ℕ × (Bool × (ReplyAnswer × (Put × (ℕ × (Bool × (RefT (List ℕ) × (ℕ × (RefT (List ℕ) × (RefT (List ℕ) × (NtpTimestamp × (NtpTimestamp × (ℕ × Unit {0}))))))))))))
-  z = (calls, (calling, (before, (put, (held, (stores, (packet, (end, (decrypted, (list, (t1, (t4, (time, tt)))))))))))))
+module _ {M : Type 1} (𝓤 : URA M) (H : Heap 𝓤) (A : Atoms 𝓤) (W : Given 𝓤 H A) (at-mem : Memory → SProp 𝓤) (run : Routine → Fun 𝓤) (κ1 κ2 κ3 : Lft) (q1 q2 q3 : Share) (h : Association) (calls : ℕ) (calling : Bool) (before : ReplyAnswer) (kind : Kind) (held : ℕ) (stores : Bool) (packet : RefT (List ℕ)) (end : ℕ) (decrypted : RefT (List ℕ)) (list : RefT (List ℕ)) (t1 : NtpTimestamp) (t4 : NtpTimestamp) (time : ℕ)
+    (h-is : Is Rec.the-row h (rec h ∷ [])) (calls-is : Is (u64) calls (vint w64 calls ∷ [])) (calling-is : Is (bool) calling (vbool calling ∷ [])) (before-is : Is (Ans.the-row) before (EL.val Ans.the-type Ans′.the-laws before ∷ [])) (kind-is : Is (Kind·.the-row) kind (LL.val Kind·.the-type Kind·′.the-laws kind ∷ [])) (held-is : Is (usize) held (vint w64 held ∷ [])) (stores-is : Is (bool) stores (vbool stores ∷ [])) (packet-is : Is (ShrSlice (named 0) κ1 u8) packet (sliceVal (packet .ptr) (length (packet .now)) ∷ [])) (end-is : Is (usize) end (vint w64 end ∷ [])) (decrypted-is : Is (ShrSlice (named 1) κ2 u8) decrypted (sliceVal (decrypted .ptr) (length (decrypted .now)) ∷ [])) (list-is : Is (ShrSlice (named 2) κ3 u8) list (sliceVal (list .ptr) (length (list .now)) ∷ [])) (t1-is : Is (NtpTimestamp·.the-row) t1 (LL.val NtpTimestamp·.the-type NtpTimestamp·′.the-laws t1 ∷ [])) (t4-is : Is (NtpTimestamp·.the-row) t4 (LL.val NtpTimestamp·.the-type NtpTimestamp·′.the-laws t4 ∷ [])) (time-is : Is (u64) time (vint w64 time ∷ [])) where
+  abbrev z : ℕ × (Bool × (ReplyAnswer × (Kind × (ℕ × (Bool × (RefT (List ℕ) × (ℕ × (RefT (List ℕ) × (RefT (List ℕ) × (NtpTimestamp × (NtpTimestamp × (ℕ × Unit {0}))))))))))))
+  z = (calls, (calling, (before, (kind, (held, (stores, (packet, (end, (decrypted, (list, (t1, (t4, (time, tt)))))))))))))
 
   abbrev zv : List Val × (List Val × (List Val × (List Val × (List Val × (List Val × (List Val × (List Val × (List Val × (List Val × (List Val × (List Val × (List Val × Unit {0}))))))))))))
-  zv = (vint w64 calls ∷ [], (vbool calling ∷ [], (EL.val Ans.the-type Ans′.the-laws before ∷ [], (LL.val Put·.the-type Put·′.the-laws put ∷ [], (vint w64 held ∷ [], (vbool stores ∷ [], (sliceVal (packet .ptr) (length (packet .now)) ∷ [], (vint w64 end ∷ [], (sliceVal (decrypted .ptr) (length (decrypted .now)) ∷ [], (sliceVal (list .ptr) (length (list .now)) ∷ [], (LL.val NtpTimestamp·.the-type NtpTimestamp·′.the-laws t1 ∷ [], (LL.val NtpTimestamp·.the-type NtpTimestamp·′.the-laws t4 ∷ [], (vint w64 time ∷ [], tt)))))))))))))
+  zv = (vint w64 calls ∷ [], (vbool calling ∷ [], (EL.val Ans.the-type Ans′.the-laws before ∷ [], (LL.val Kind·.the-type Kind·′.the-laws kind ∷ [], (vint w64 held ∷ [], (vbool stores ∷ [], (sliceVal (packet .ptr) (length (packet .now)) ∷ [], (vint w64 end ∷ [], (sliceVal (decrypted .ptr) (length (decrypted .now)) ∷ [], (sliceVal (list .ptr) (length (list .now)) ∷ [], (LL.val NtpTimestamp·.the-type NtpTimestamp·′.the-laws t1 ∷ [], (LL.val NtpTimestamp·.the-type NtpTimestamp·′.the-laws t4 ∷ [], (vint w64 time ∷ [], tt)))))))))))))
 
   abbrev Post : Val → SProp 𝓤
   Post = walkOf 𝓤 H A self.ended stayed (self.clauses 𝓤 H A at-mem run) .post (((κ1, (κ2, (κ3, tt))), (q1, (q2, (q3, tt))), tt, (h, z), (rec h ∷ [], zv)), tt)
@@ -203,14 +203,14 @@ module _ {M : Type 1} (𝓤 : URA M) (H : Heap 𝓤) (A : Atoms 𝓤) (W : Given
   lent l δ = record { ptr = (l, 0); name = δ; now = h }
 
   abbrev Own : SProp 𝓤
-  Own = mean 𝓤 H A (‵ (owns (u64 ∷ bool ∷ Ans.the-row ∷ Put·.the-row ∷ usize ∷ bool ∷ ShrSlice (named 0) κ1 u8 ∷ usize ∷ ShrSlice (named 1) κ2 u8 ∷ ShrSlice (named 2) κ3 u8 ∷ NtpTimestamp·.the-row ∷ NtpTimestamp·.the-row ∷ u64 ∷ []) z zv) ⊛ (‵ (flft κ1 q1) ⊛ ‵ (flft κ2 q2) ⊛ ‵ (flft κ3 q3) ⊛ ‵ ftrue))
+  Own = mean 𝓤 H A (‵ (owns (u64 ∷ bool ∷ Ans.the-row ∷ Kind·.the-row ∷ usize ∷ bool ∷ ShrSlice (named 0) κ1 u8 ∷ usize ∷ ShrSlice (named 1) κ2 u8 ∷ ShrSlice (named 2) κ3 u8 ∷ NtpTimestamp·.the-row ∷ NtpTimestamp·.the-row ∷ u64 ∷ []) z zv) ⊛ (‵ (flft κ1 q1) ⊛ ‵ (flft κ2 q2) ⊛ ‵ (flft κ3 q3) ⊛ ‵ ftrue))
 
   abbrev to-core : ℕ → ℕ → GName → Core 𝓤 H A at-mem run .Ghost
   to-core α l δ = (((α ∷ [], (κ1, (κ2, (κ3, tt)))), (fullShare, (q1, (q2, (q3, tt)))), tt, (lent l δ, z), (vptr l 0 ∷ [], zv)), tt)
 
   goes-core : (α l : ℕ) (δ : GName) → ent 𝓤 (⋆ 𝓤 H A (‵ (flft (α ∷ []) fullShare) ∷ ‵ (MutRef (named 0) (α ∷ []) Rec.the-row .own (lent l δ) (vptr l 0 ∷ [])) ∷ raw Own ∷ [])) (Core 𝓤 H A at-mem run .pre (to-core α l δ))
   goes-core α l δ =
-      qed W (‵ (flft (α ∷ []) fullShare) ∷ ‵ (MutRef (named 0) (α ∷ []) Rec.the-row .own (lent l δ) (vptr l 0 ∷ [])) ∷ (‵ (owns (u64 ∷ bool ∷ Ans.the-row ∷ Put·.the-row ∷ usize ∷ bool ∷ ShrSlice (named 0) κ1 u8 ∷ usize ∷ ShrSlice (named 1) κ2 u8 ∷ ShrSlice (named 2) κ3 u8 ∷ NtpTimestamp·.the-row ∷ NtpTimestamp·.the-row ∷ u64 ∷ []) z zv) ⊛ (‵ (flft κ1 q1) ⊛ ‵ (flft κ2 q2) ⊛ ‵ (flft κ3 q3) ⊛ ‵ ftrue)) ∷ []) ∵
+      qed W (‵ (flft (α ∷ []) fullShare) ∷ ‵ (MutRef (named 0) (α ∷ []) Rec.the-row .own (lent l δ) (vptr l 0 ∷ [])) ∷ (‵ (owns (u64 ∷ bool ∷ Ans.the-row ∷ Kind·.the-row ∷ usize ∷ bool ∷ ShrSlice (named 0) κ1 u8 ∷ usize ∷ ShrSlice (named 1) κ2 u8 ∷ ShrSlice (named 2) κ3 u8 ∷ NtpTimestamp·.the-row ∷ NtpTimestamp·.the-row ∷ u64 ∷ []) z zv) ⊛ (‵ (flft κ1 q1) ⊛ ‵ (flft κ2 q2) ⊛ ‵ (flft κ3 q3) ⊛ ‵ ftrue)) ∷ []) ∵
       move ! (2 ∷ []) $ split ! $ move ! (3 ∷ 0 ∷ []) $ fjoin ! $ move ! (2 ∷ 1 ∷ []) $ join ! $ join ! $ frame ! $ done !
 
   abbrev Ensured : ℕ → ℕ → GName → ReplyAnswer → SProp 𝓤
@@ -226,23 +226,23 @@ module _ {M : Type 1} (𝓤 : URA M) (H : Heap 𝓤) (A : Atoms 𝓤) (W : Given
       show ! (λ (w : Association). guard 𝓤 (Unit {0}) (mean 𝓤 H A (‵ (fres δ (Rec.the-row .coded .code w))))) (w .0) $ check ! e $ done !))
 
   module _ (C : Calls 𝓤 H) (Λ : Loops 𝓤 H) (fm : FmC 𝓤 H (W .laws) C) (known : Triple 𝓤 (C #calls·replies) (Core 𝓤 H A at-mem run)) where
-    walk-here : ent 𝓤 (onEntry 𝓤 H A self.signature (κ1, (κ2, (κ3, tt))) (q1, (q2, (q3, tt))) (h, z) (rec h ∷ [], zv)) (WpFn 𝓤 H C Λ code.function (rec h ∷ vint w64 calls ∷ vbool calling ∷ EL.val Ans.the-type Ans′.the-laws before ∷ LL.val Put·.the-type Put·′.the-laws put ∷ vint w64 held ∷ vbool stores ∷ sliceVal (packet .ptr) (length (packet .now)) ∷ vint w64 end ∷ sliceVal (decrypted .ptr) (length (decrypted .now)) ∷ sliceVal (list .ptr) (length (list .now)) ∷ LL.val NtpTimestamp·.the-type NtpTimestamp·′.the-laws t1 ∷ LL.val NtpTimestamp·.the-type NtpTimestamp·′.the-laws t4 ∷ vint w64 time ∷ []) Post)
+    walk-here : ent 𝓤 (onEntry 𝓤 H A self.signature (κ1, (κ2, (κ3, tt))) (q1, (q2, (q3, tt))) (h, z) (rec h ∷ [], zv)) (WpFn 𝓤 H C Λ code.function (rec h ∷ vint w64 calls ∷ vbool calling ∷ EL.val Ans.the-type Ans′.the-laws before ∷ LL.val Kind·.the-type Kind·′.the-laws kind ∷ vint w64 held ∷ vbool stores ∷ sliceVal (packet .ptr) (length (packet .now)) ∷ vint w64 end ∷ sliceVal (decrypted .ptr) (length (decrypted .now)) ∷ sliceVal (list .ptr) (length (list .now)) ∷ LL.val NtpTimestamp·.the-type NtpTimestamp·′.the-laws t1 ∷ LL.val NtpTimestamp·.the-type NtpTimestamp·′.the-laws t4 ∷ vint w64 time ∷ []) Post)
     walk-here =
-        qed W ((‵ (flft κ1 q1) ⊛ ‵ (flft κ2 q2) ⊛ ‵ (flft κ3 q3) ⊛ ‵ ftrue) ∷ ‵ (owns (Rec.the-row ∷ u64 ∷ bool ∷ Ans.the-row ∷ Put·.the-row ∷ usize ∷ bool ∷ ShrSlice (named 0) κ1 u8 ∷ usize ∷ ShrSlice (named 1) κ2 u8 ∷ ShrSlice (named 2) κ3 u8 ∷ NtpTimestamp·.the-row ∷ NtpTimestamp·.the-row ∷ u64 ∷ []) (h, z) (rec h ∷ [], zv)) ∷ []) ∵ move ! (1 ∷ []) $ fsplit ! $ drop ! $ join ! $
-        by ! (walk Rec.the-row Ans.the-row rec ans (99 ∷ 97 ∷ 108 ∷ 108 ∷ 115 ∷ 58 ∷ 58 ∷ 82 ∷ 101 ∷ 112 ∷ 108 ∷ 105 ∷ 101 ∷ 115 ∷ 79 ∷ 117 ∷ 116 ∷ []) (tyNamed (97 ∷ 115 ∷ 115 ∷ 111 ∷ 99 ∷ 105 ∷ 97 ∷ 116 ∷ 105 ∷ 111 ∷ 110 ∷ 58 ∷ 58 ∷ 65 ∷ 115 ∷ 115 ∷ 111 ∷ 99 ∷ 105 ∷ 97 ∷ 116 ∷ 105 ∷ 111 ∷ 110 ∷ [], [])) Rec′.mir Ans′.mir (tyInt w64) tyBool Ans′.mir Put·′.mir (tyInt w64) tyBool (tyStruct (38 ∷ 91 ∷ 93 ∷ []) (tcons (tyRef (named 0) imm (tyInt w8)) (tcons (tyInt w64) tnil))) (tyInt w64) (tyStruct (38 ∷ 91 ∷ 93 ∷ []) (tcons (tyRef (named 1) imm (tyInt w8)) (tcons (tyInt w64) tnil))) (tyStruct (38 ∷ 91 ∷ 93 ∷ []) (tcons (tyRef (named 2) imm (tyInt w8)) (tcons (tyInt w64) tnil))) NtpTimestamp·′.mir NtpTimestamp·′.mir (tyInt w64) refl
+        qed W ((‵ (flft κ1 q1) ⊛ ‵ (flft κ2 q2) ⊛ ‵ (flft κ3 q3) ⊛ ‵ ftrue) ∷ ‵ (owns (Rec.the-row ∷ u64 ∷ bool ∷ Ans.the-row ∷ Kind·.the-row ∷ usize ∷ bool ∷ ShrSlice (named 0) κ1 u8 ∷ usize ∷ ShrSlice (named 1) κ2 u8 ∷ ShrSlice (named 2) κ3 u8 ∷ NtpTimestamp·.the-row ∷ NtpTimestamp·.the-row ∷ u64 ∷ []) (h, z) (rec h ∷ [], zv)) ∷ []) ∵ move ! (1 ∷ []) $ fsplit ! $ drop ! $ join ! $
+        by ! (walk Rec.the-row Ans.the-row rec ans (99 ∷ 97 ∷ 108 ∷ 108 ∷ 115 ∷ 58 ∷ 58 ∷ 82 ∷ 101 ∷ 112 ∷ 108 ∷ 105 ∷ 101 ∷ 115 ∷ 79 ∷ 117 ∷ 116 ∷ []) (tyNamed (97 ∷ 115 ∷ 115 ∷ 111 ∷ 99 ∷ 105 ∷ 97 ∷ 116 ∷ 105 ∷ 111 ∷ 110 ∷ 58 ∷ 58 ∷ 65 ∷ 115 ∷ 115 ∷ 111 ∷ 99 ∷ 105 ∷ 97 ∷ 116 ∷ 105 ∷ 111 ∷ 110 ∷ [], [])) Rec′.mir Ans′.mir (tyInt w64) tyBool Ans′.mir Kind·′.mir (tyInt w64) tyBool (tyStruct (38 ∷ 91 ∷ 93 ∷ []) (tcons (tyRef (named 0) imm (tyInt w8)) (tcons (tyInt w64) tnil))) (tyInt w64) (tyStruct (38 ∷ 91 ∷ 93 ∷ []) (tcons (tyRef (named 1) imm (tyInt w8)) (tcons (tyInt w64) tnil))) (tyStruct (38 ∷ 91 ∷ 93 ∷ []) (tcons (tyRef (named 2) imm (tyInt w8)) (tcons (tyInt w64) tnil))) NtpTimestamp·′.mir NtpTimestamp·′.mir (tyInt w64) refl
         (LL.tells Rec.the-type Rec′.the-laws) (EL.tells Ans.the-type Ans′.the-laws)
         (λ y g. LL.lawful Rec.the-type Rec′.the-laws 𝓤 H A W .typed y _ g .0) (λ y v g. EL.lawful Ans.the-type Ans′.the-laws 𝓤 H A W tt .typed y _ g .0) (λ r w is g. LL.lawful Out.the-type Out′.the-laws 𝓤 H A W .typed (record { answer = r; association = w }) _ (made r w is g) .0)
-        𝓤 H A W (LL.makes Rec.the-type Rec′.the-plain 𝓤 H A) h (vint w64 calls) (vbool calling) (EL.val Ans.the-type Ans′.the-laws before) (LL.val Put·.the-type Put·′.the-laws put) (vint w64 held) (vbool stores) (sliceVal (packet .ptr) (length (packet .now))) (vint w64 end) (sliceVal (decrypted .ptr) (length (decrypted .now))) (sliceVal (list .ptr) (length (list .now))) (LL.val NtpTimestamp·.the-type NtpTimestamp·′.the-laws t1) (LL.val NtpTimestamp·.the-type NtpTimestamp·′.the-laws t4) (vint w64 time) h-is
-        (uint-lawful 𝓤 H A W w64 .typed calls _ calls-is .0) (bool-lawful 𝓤 H A W .typed calling _ calling-is .0) (EL.lawful Ans.the-type Ans′.the-laws 𝓤 H A W tt .typed before _ before-is .0) (LL.lawful Put·.the-type Put·′.the-laws 𝓤 H A W .typed put _ put-is .0) (uint-lawful 𝓤 H A W w64 .typed held _ held-is .0) (bool-lawful 𝓤 H A W .typed stores _ stores-is .0) (shr-slice-lawful 𝓤 H A W (named 0) κ1 u8 .typed packet _ packet-is .0) (uint-lawful 𝓤 H A W w64 .typed end _ end-is .0) (shr-slice-lawful 𝓤 H A W (named 1) κ2 u8 .typed decrypted _ decrypted-is .0) (shr-slice-lawful 𝓤 H A W (named 2) κ3 u8 .typed list _ list-is .0) (LL.lawful NtpTimestamp·.the-type NtpTimestamp·′.the-laws 𝓤 H A W .typed t1 _ t1-is .0) (LL.lawful NtpTimestamp·.the-type NtpTimestamp·′.the-laws 𝓤 H A W .typed t4 _ t4-is .0) (uint-lawful 𝓤 H A W w64 .typed time _ time-is .0)
+        𝓤 H A W (LL.makes Rec.the-type Rec′.the-plain 𝓤 H A) h (vint w64 calls) (vbool calling) (EL.val Ans.the-type Ans′.the-laws before) (LL.val Kind·.the-type Kind·′.the-laws kind) (vint w64 held) (vbool stores) (sliceVal (packet .ptr) (length (packet .now))) (vint w64 end) (sliceVal (decrypted .ptr) (length (decrypted .now))) (sliceVal (list .ptr) (length (list .now))) (LL.val NtpTimestamp·.the-type NtpTimestamp·′.the-laws t1) (LL.val NtpTimestamp·.the-type NtpTimestamp·′.the-laws t4) (vint w64 time) h-is
+        (uint-lawful 𝓤 H A W w64 .typed calls _ calls-is .0) (bool-lawful 𝓤 H A W .typed calling _ calling-is .0) (EL.lawful Ans.the-type Ans′.the-laws 𝓤 H A W tt .typed before _ before-is .0) (LL.lawful Kind·.the-type Kind·′.the-laws 𝓤 H A W .typed kind _ kind-is .0) (uint-lawful 𝓤 H A W w64 .typed held _ held-is .0) (bool-lawful 𝓤 H A W .typed stores _ stores-is .0) (shr-slice-lawful 𝓤 H A W (named 0) κ1 u8 .typed packet _ packet-is .0) (uint-lawful 𝓤 H A W w64 .typed end _ end-is .0) (shr-slice-lawful 𝓤 H A W (named 1) κ2 u8 .typed decrypted _ decrypted-is .0) (shr-slice-lawful 𝓤 H A W (named 2) κ3 u8 .typed list _ list-is .0) (LL.lawful NtpTimestamp·.the-type NtpTimestamp·′.the-laws 𝓤 H A W .typed t1 _ t1-is .0) (LL.lawful NtpTimestamp·.the-type NtpTimestamp·′.the-laws 𝓤 H A W .typed t4 _ t4-is .0) (uint-lawful 𝓤 H A W w64 .typed time _ time-is .0)
         Own (mean 𝓤 H A (‵ (flft κ1 q1) ⊛ ‵ (flft κ2 q2) ⊛ ‵ (flft κ3 q3) ⊛ ‵ ftrue)) (λ α l δ. Core 𝓤 H A at-mem run .pre (to-core α l δ)) (λ α l δ. Core 𝓤 H A at-mem run .post (to-core α l δ)) Post Ensured (λ r w. Unit {0}) goes-core comes-back said-of exits C Λ fm (λ α l δ. known (to-core α l δ)))
 
 module _ {M : Type 1} (𝓤 : URA M) (H : Heap 𝓤) (A : Atoms 𝓤) (W : Given 𝓤 H A) (at-mem : Memory → SProp 𝓤) (run : Routine → Fun 𝓤) where
   walks : (C : Calls 𝓤 H) (Λ : Loops 𝓤 H) → FmC 𝓤 H (W .laws) C → Triple 𝓤 (C #calls·replies) (Core 𝓤 H A at-mem run) → Walks 𝓤 H A self.ended stayed (WpFn 𝓤 H C Λ code.function) (self.clauses 𝓤 H A at-mem run)
-  walks C Λ fm known = walked 𝓤 H A self.ended stayed (self.clauses 𝓤 H A at-mem run) (WpFn 𝓤 H C Λ code.function) (λ κs. (LL.vals Rec.the-type Rec′.the-laws, (uint-vals w64, (bool-vals, (EL.vals Ans.the-type Ans′.the-laws, (LL.vals Put·.the-type Put·′.the-laws, (uint-vals w64, (bool-vals, (slice-vals, (uint-vals w64, (slice-vals, (slice-vals, (LL.vals NtpTimestamp·.the-type NtpTimestamp·′.the-laws, (LL.vals NtpTimestamp·.the-type NtpTimestamp·′.the-laws, (uint-vals w64, tt))))))))))))))) (λ κs. (LL.tells Rec.the-type Rec′.the-laws, (uint-tells w64, (bool-tells, (EL.tells Ans.the-type Ans′.the-laws, (LL.tells Put·.the-type Put·′.the-laws, (uint-tells w64, (bool-tells, (shr-slice-tells (named 0) (κs .0) u8, (uint-tells w64, (shr-slice-tells (named 1) (κs .1 .0) u8, (shr-slice-tells (named 2) (κs .1 .1 .0) u8, (LL.tells NtpTimestamp·.the-type NtpTimestamp·′.the-laws, (LL.tells NtpTimestamp·.the-type NtpTimestamp·′.the-laws, (uint-tells w64, tt)))))))))))))))
+  walks C Λ fm known = walked 𝓤 H A self.ended stayed (self.clauses 𝓤 H A at-mem run) (WpFn 𝓤 H C Λ code.function) (λ κs. (LL.vals Rec.the-type Rec′.the-laws, (uint-vals w64, (bool-vals, (EL.vals Ans.the-type Ans′.the-laws, (LL.vals Kind·.the-type Kind·′.the-laws, (uint-vals w64, (bool-vals, (slice-vals, (uint-vals w64, (slice-vals, (slice-vals, (LL.vals NtpTimestamp·.the-type NtpTimestamp·′.the-laws, (LL.vals NtpTimestamp·.the-type NtpTimestamp·′.the-laws, (uint-vals w64, tt))))))))))))))) (λ κs. (LL.tells Rec.the-type Rec′.the-laws, (uint-tells w64, (bool-tells, (EL.tells Ans.the-type Ans′.the-laws, (LL.tells Kind·.the-type Kind·′.the-laws, (uint-tells w64, (bool-tells, (shr-slice-tells (named 0) (κs .0) u8, (uint-tells w64, (shr-slice-tells (named 1) (κs .1 .0) u8, (shr-slice-tells (named 2) (κs .1 .1 .0) u8, (LL.tells NtpTimestamp·.the-type NtpTimestamp·′.the-laws, (LL.tells NtpTimestamp·.the-type NtpTimestamp·′.the-laws, (uint-tells w64, tt)))))))))))))))
       (λ κs qs bounds a g are. via 𝓤 _ (fst∗ 𝓤 _ (emp 𝓤)) (walk-here 𝓤 H A W at-mem run (κs .0) (κs .1 .0) (κs .1 .1 .0) (qs .0) (qs .1 .0) (qs .1 .1 .0) (a .0) (a .1 .0) (a .1 .1 .0) (a .1 .1 .1 .0) (a .1 .1 .1 .1 .0) (a .1 .1 .1 .1 .1 .0) (a .1 .1 .1 .1 .1 .1 .0) (a .1 .1 .1 .1 .1 .1 .1 .0) (a .1 .1 .1 .1 .1 .1 .1 .1 .0) (a .1 .1 .1 .1 .1 .1 .1 .1 .1 .0) (a .1 .1 .1 .1 .1 .1 .1 .1 .1 .1 .0) (a .1 .1 .1 .1 .1 .1 .1 .1 .1 .1 .1 .0) (a .1 .1 .1 .1 .1 .1 .1 .1 .1 .1 .1 .1 .0) (a .1 .1 .1 .1 .1 .1 .1 .1 .1 .1 .1 .1 .1 .0) (are .0) (are .1 .0) (are .1 .1 .0) (are .1 .1 .1 .0) (are .1 .1 .1 .1 .0) (are .1 .1 .1 .1 .1 .0) (are .1 .1 .1 .1 .1 .1 .0) (are .1 .1 .1 .1 .1 .1 .1 .0) (are .1 .1 .1 .1 .1 .1 .1 .1 .0) (are .1 .1 .1 .1 .1 .1 .1 .1 .1 .0) (are .1 .1 .1 .1 .1 .1 .1 .1 .1 .1 .0) (are .1 .1 .1 .1 .1 .1 .1 .1 .1 .1 .1 .0) (are .1 .1 .1 .1 .1 .1 .1 .1 .1 .1 .1 .1 .0) (are .1 .1 .1 .1 .1 .1 .1 .1 .1 .1 .1 .1 .1 .0) C Λ fm known))
 
   goes : AllGo 𝓤 H A W 3 (self.signature .params) (self.ended .kept) stayed
-  goes = (goes-dropped 𝓤 H A W 3 (plain (λ _. Rec.the-row)) yes (λ κs x f. refl), (goes-dropped 𝓤 H A W 3 (plain (λ _. u64)) yes (λ κs x f. refl), (goes-dropped 𝓤 H A W 3 (plain (λ _. bool)) yes (λ κs x f. refl), (goes-dropped 𝓤 H A W 3 (plain (λ _. Ans.the-row)) yes (λ κs x f. refl), (goes-dropped 𝓤 H A W 3 (plain (λ _. Put·.the-row)) yes (λ κs x f. refl), (goes-dropped 𝓤 H A W 3 (plain (λ _. usize)) yes (λ κs x f. refl), (goes-dropped 𝓤 H A W 3 (plain (λ _. bool)) yes (λ κs x f. refl), (goes-dropped 𝓤 H A W 3 (shrSliceOf (0 ∷ []) tt (plain (λ _. u8))) yes (λ κs x f. refl), (goes-dropped 𝓤 H A W 3 (plain (λ _. usize)) yes (λ κs x f. refl), (goes-dropped 𝓤 H A W 3 (shrSliceOf (1 ∷ []) tt (plain (λ _. u8))) yes (λ κs x f. refl), (goes-dropped 𝓤 H A W 3 (shrSliceOf (2 ∷ []) tt (plain (λ _. u8))) yes (λ κs x f. refl), (goes-dropped 𝓤 H A W 3 (plain (λ _. NtpTimestamp·.the-row)) yes (λ κs x f. refl), (goes-dropped 𝓤 H A W 3 (plain (λ _. NtpTimestamp·.the-row)) yes (λ κs x f. refl), (goes-dropped 𝓤 H A W 3 (plain (λ _. u64)) yes (λ κs x f. refl), tt))))))))))))))
+  goes = (goes-dropped 𝓤 H A W 3 (plain (λ _. Rec.the-row)) yes (λ κs x f. refl), (goes-dropped 𝓤 H A W 3 (plain (λ _. u64)) yes (λ κs x f. refl), (goes-dropped 𝓤 H A W 3 (plain (λ _. bool)) yes (λ κs x f. refl), (goes-dropped 𝓤 H A W 3 (plain (λ _. Ans.the-row)) yes (λ κs x f. refl), (goes-dropped 𝓤 H A W 3 (plain (λ _. Kind·.the-row)) yes (λ κs x f. refl), (goes-dropped 𝓤 H A W 3 (plain (λ _. usize)) yes (λ κs x f. refl), (goes-dropped 𝓤 H A W 3 (plain (λ _. bool)) yes (λ κs x f. refl), (goes-dropped 𝓤 H A W 3 (shrSliceOf (0 ∷ []) tt (plain (λ _. u8))) yes (λ κs x f. refl), (goes-dropped 𝓤 H A W 3 (plain (λ _. usize)) yes (λ κs x f. refl), (goes-dropped 𝓤 H A W 3 (shrSliceOf (1 ∷ []) tt (plain (λ _. u8))) yes (λ κs x f. refl), (goes-dropped 𝓤 H A W 3 (shrSliceOf (2 ∷ []) tt (plain (λ _. u8))) yes (λ κs x f. refl), (goes-dropped 𝓤 H A W 3 (plain (λ _. NtpTimestamp·.the-row)) yes (λ κs x f. refl), (goes-dropped 𝓤 H A W 3 (plain (λ _. NtpTimestamp·.the-row)) yes (λ κs x f. refl), (goes-dropped 𝓤 H A W 3 (plain (λ _. u64)) yes (λ κs x f. refl), tt))))))))))))))
 
 meets : {M : Type 1} (𝓤 : URA M) (H : Heap 𝓤) (A : Atoms 𝓤) → Given 𝓤 H A → (at-mem : Memory → SProp 𝓤) (run : Routine → Fun 𝓤) (𝓣 : Tables 𝓤 H) → Triple 𝓤 (𝓣 .C #calls·replies) (Core 𝓤 H A at-mem run)
     → Meets 𝓤 H A self.signature (WpFn 𝓤 H (𝓣 .C) (𝓣 .Λ) code.function) (self.spec 𝓤 H A at-mem run)

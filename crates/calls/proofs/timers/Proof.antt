@@ -58,9 +58,9 @@ use Rattle.association.proofs.Association.Laws as Rec′
 use Rattle.timer_rules.specs.declared.TimerAnswer.{TimerAnswer}
 use Rattle.timer_rules.proofs.TimerAnswer as Ans
 use Rattle.timer_rules.proofs.TimerAnswer.Laws as Ans′
-use Rattle.calls.specs.declared.Put.{Put}
-use Rattle.calls.proofs.Put as What
-use Rattle.calls.proofs.Put.Laws as What′
+use Rattle.calls.specs.declared.Kind.{Kind}
+use Rattle.calls.proofs.Kind as What
+use Rattle.calls.proofs.Kind.Laws as What′
 use Rattle.time_types.specs.declared.PollInterval.{PollInterval}
 use Rattle.time_types.proofs.PollInterval as Poll
 use Rattle.time_types.proofs.PollInterval.Laws as Poll′
@@ -97,21 +97,21 @@ abbrev last : Code
 last = seq (assign (place 0 []) (rvOpd (copy (place 14 [])))) return
 
 -- the function, over° any types of the record (τ-to is its name, behind the reference), of the answer and of the other arguments
-abbrev shape : (τ-to τ-rec τ-ans τ-put τ-held τ-stores τ-time τ-desired τ-id τ-uid : Ty) → Fn
-shape τ-to τ-rec τ-ans τ-put τ-held τ-stores τ-time τ-desired τ-id τ-uid =
+abbrev shape : (τ-to τ-rec τ-ans τ-kind τ-held τ-stores τ-time τ-desired τ-id τ-uid : Ty) → Fn
+shape τ-to τ-rec τ-ans τ-kind τ-held τ-stores τ-time τ-desired τ-id τ-uid =
     record {
       lifetimes = 3;
       outlives = [];
       params = 13;
-      locals = local τ-ans valueLocal ∷ local (tyRef (named 0) mut τ-to) valueLocal ∷ local (tyInt w64) valueLocal ∷ local tyBool valueLocal ∷ local τ-ans valueLocal ∷ local τ-put valueLocal ∷ local τ-held valueLocal ∷ local τ-stores valueLocal ∷ local τ-time valueLocal ∷ local τ-desired valueLocal ∷ local τ-id valueLocal ∷ local τ-uid valueLocal ∷ local (sliceTy (tyRef (named 1) imm (tyInt w8))) valueLocal ∷ local (sliceTy (tyRef (named 2) mut (tyInt w8))) valueLocal ∷ local τ-ans valueLocal ∷ local (tyInt w64) valueLocal ∷ local tyBool valueLocal ∷ local tyUnit valueLocal ∷ local (tyRef erased mut τ-to) valueLocal ∷ local (tyRef erased mut τ-to) valueLocal ∷ local (tyRef erased mut (tyInt w8)) valueLocal ∷ local (sliceTy (tyRef erased mut (tyInt w8))) valueLocal ∷ [];
+      locals = local τ-ans valueLocal ∷ local (tyRef (named 0) mut τ-to) valueLocal ∷ local (tyInt w64) valueLocal ∷ local tyBool valueLocal ∷ local τ-ans valueLocal ∷ local τ-kind valueLocal ∷ local τ-held valueLocal ∷ local τ-stores valueLocal ∷ local τ-time valueLocal ∷ local τ-desired valueLocal ∷ local τ-id valueLocal ∷ local τ-uid valueLocal ∷ local (sliceTy (tyRef (named 1) imm (tyInt w8))) valueLocal ∷ local (sliceTy (tyRef (named 2) mut (tyInt w8))) valueLocal ∷ local τ-ans valueLocal ∷ local (tyInt w64) valueLocal ∷ local tyBool valueLocal ∷ local tyUnit valueLocal ∷ local (tyRef erased mut τ-to) valueLocal ∷ local (tyRef erased mut τ-to) valueLocal ∷ local (tyRef erased mut (tyInt w8)) valueLocal ∷ local (sliceTy (tyRef erased mut (tyInt w8))) valueLocal ∷ [];
       body = seq (assign (place 14 []) (rvOpd (copy (place 4 [])))) (seq (assign (place 15 []) (rvOpd (copy (place 2 [])))) (seq (block (loopᴹ (turn τ-rec))) last));
     }
 
 -- The walk, over° any rows of the record and the answer, and any machine values: it asks only that these are of their types.
-module _ (Rec Ans : RattleType) (ans : Ans .Denot → Val) (τ-to τ-rec τ-ans τ-put τ-held τ-stores τ-time τ-desired τ-id τ-uid : Ty)
+module _ (Rec Ans : RattleType) (ans : Ans .Denot → Val) (τ-to τ-rec τ-ans τ-kind τ-held τ-stores τ-time τ-desired τ-id τ-uid : Ty)
     (ans-tells : Tells Ans (Is Ans) (λ y. ans y ∷ [])) (ans-typed : (y : Ans .Denot) (v : Val) → Is Ans y (v ∷ []) → T (hasTy τ-ans v) × WT v)
-    {M : Type 1} (𝓤 : URA M) (H : Heap 𝓤) (A : Atoms 𝓤) (W : Given 𝓤 H A) (κ κ1 κ2 : Lft) (q q1 q2 : Share) (b o : ℕ) (γ : GName) (h : Rec .Denot) (calls : ℕ) (calling : Bool) (before : Ans .Denot) (put : Val) (held : Val) (stores : Val) (time : Val) (desired : Val) (id : Val) (uid : Val) (list : RefT (List ℕ)) (buffer : RefT (List ℕ))
-    (calls-fits : Fits w64 calls) (before-is : Is Ans before (ans before ∷ [])) (put-typed : T (hasTy τ-put put) × WT put) (held-typed : T (hasTy τ-held held) × WT held) (stores-typed : T (hasTy τ-stores stores) × WT stores) (time-typed : T (hasTy τ-time time) × WT time) (desired-typed : T (hasTy τ-desired desired) × WT desired) (id-typed : T (hasTy τ-id id) × WT id) (uid-typed : T (hasTy τ-uid uid) × WT uid) (list-is : Is (ShrSlice (named 1) κ1 u8) list (slice-val list ∷ [])) (buffer-is : Is (MutSlice (named 2) κ2 u8) buffer (slice-val buffer ∷ [])) where
+    {M : Type 1} (𝓤 : URA M) (H : Heap 𝓤) (A : Atoms 𝓤) (W : Given 𝓤 H A) (κ κ1 κ2 : Lft) (q q1 q2 : Share) (b o : ℕ) (γ : GName) (h : Rec .Denot) (calls : ℕ) (calling : Bool) (before : Ans .Denot) (kind : Val) (held : Val) (stores : Val) (time : Val) (desired : Val) (id : Val) (uid : Val) (list : RefT (List ℕ)) (buffer : RefT (List ℕ))
+    (calls-fits : Fits w64 calls) (before-is : Is Ans before (ans before ∷ [])) (kind-typed : T (hasTy τ-kind kind) × WT kind) (held-typed : T (hasTy τ-held held) × WT held) (stores-typed : T (hasTy τ-stores stores) × WT stores) (time-typed : T (hasTy τ-time time) × WT time) (desired-typed : T (hasTy τ-desired desired) × WT desired) (id-typed : T (hasTy τ-id id) × WT id) (uid-typed : T (hasTy τ-uid uid) × WT uid) (list-is : Is (ShrSlice (named 1) κ1 u8) list (slice-val list ∷ [])) (buffer-is : Is (MutSlice (named 2) κ2 u8) buffer (slice-val buffer ∷ [])) where
   -- the record, lent under a name
   abbrev ref° : GName → Rec .Denot → RefT (Rec .Denot)
   ref° δ x = record { ptr = (b, o); name = δ; now = x }
@@ -130,7 +130,7 @@ module _ (Rec Ans : RattleType) (ans : Ans .Denot → Val) (τ-to τ-rec τ-ans 
       (said-call : (α β : ℕ) (δ ε : GName) (x : Rec .Denot) (zs : List ℕ) (r : Ans .Denot) → ent 𝓤 (EnsuredC α β δ ε x zs r) (mean 𝓤 H A (some (λ (ys : List ℕ). ‵ (finally u8 ε ys)))))
       (exits : (r : Ans .Denot) (w : Rec .Denot) (zs : List ℕ) → Is Ans r (ans r ∷ []) → length zs ≡ length (buffer .now) → ent 𝓤 (⋆ 𝓤 H A (‵ (fobs γ (Rec .coded .code w)) ∷ ‵ (fbor κ (Body (mem Rec) b o γ)) ∷ ‵ (flft κ q) ∷ ‵ (flft κ1 q1) ∷ ‵ (flft κ2 q2) ∷ ‵ (finally u8 (buffer .name) zs) ∷ [])) (Post (ans r)))
       (𝓣 : Tables 𝓤 H)
-      (known-ready : (α : ℕ) (δ : GName) (x : Rec .Denot) → ent 𝓤 (PreR α δ x) (𝓣 .C #calls·ready (vptr b o ∷ put ∷ held ∷ stores ∷ slice-val list ∷ []) (BackR α δ x)))
+      (known-ready : (α : ℕ) (δ : GName) (x : Rec .Denot) → ent 𝓤 (PreR α δ x) (𝓣 .C #calls·ready (vptr b o ∷ kind ∷ held ∷ stores ∷ slice-val list ∷ []) (BackR α δ x)))
       (known-call : (α β : ℕ) (δ ε : GName) (x : Rec .Denot) (zs : List ℕ) → ent 𝓤 (PreC α β δ ε x zs) (𝓣 .C #timer·timer (vptr b o ∷ time ∷ desired ∷ id ∷ uid ∷ sliceVal (buffer .ptr) (length zs) ∷ []) (BackC α β δ ε x zs))) where
     -- where a turn begins: the record and the answer there, the turns that are left, and the buffer
     record Turning : Type 0 where
@@ -160,7 +160,7 @@ module _ (Rec Ans : RattleType) (ans : Ans .Denot → Val) (τ-to τ-rec τ-ans 
 
     module _ (l0 l1 l2 l3 l4 l5 l6 l7 l8 l9 l10 l11 l12 l13 l14 l15 l16 l17 l18 l19 l20 l21 : ℕ) where
       abbrev En : Env 𝓤 H
-      En = (τ-ans, l0) ∷ (tyRef (named 0) mut τ-to, l1) ∷ (tyInt w64, l2) ∷ (tyBool, l3) ∷ (τ-ans, l4) ∷ (τ-put, l5) ∷ (τ-held, l6) ∷ (τ-stores, l7) ∷ (τ-time, l8) ∷ (τ-desired, l9) ∷ (τ-id, l10) ∷ (τ-uid, l11) ∷ (sliceTy (tyRef (named 1) imm (tyInt w8)), l12) ∷ (sliceTy (tyRef (named 2) mut (tyInt w8)), l13) ∷ (τ-ans, l14) ∷ (tyInt w64, l15) ∷ (tyBool, l16) ∷ (tyUnit, l17) ∷ (tyRef erased mut τ-to, l18) ∷ (tyRef erased mut τ-to, l19) ∷ (tyRef erased mut (tyInt w8), l20) ∷ (sliceTy (tyRef erased mut (tyInt w8)), l21) ∷ []
+      En = (τ-ans, l0) ∷ (tyRef (named 0) mut τ-to, l1) ∷ (tyInt w64, l2) ∷ (tyBool, l3) ∷ (τ-ans, l4) ∷ (τ-kind, l5) ∷ (τ-held, l6) ∷ (τ-stores, l7) ∷ (τ-time, l8) ∷ (τ-desired, l9) ∷ (τ-id, l10) ∷ (τ-uid, l11) ∷ (sliceTy (tyRef (named 1) imm (tyInt w8)), l12) ∷ (sliceTy (tyRef (named 2) mut (tyInt w8)), l13) ∷ (τ-ans, l14) ∷ (tyInt w64, l15) ∷ (tyBool, l16) ∷ (tyUnit, l17) ∷ (tyRef erased mut τ-to, l18) ∷ (tyRef erased mut τ-to, l19) ∷ (tyRef erased mut (tyInt w8), l20) ∷ (sliceTy (tyRef erased mut (tyInt w8)), l21) ∷ []
 
       abbrev At : Turning → List (Item 𝓤)
       At i =
@@ -202,8 +202,8 @@ module _ (Rec Ans : RattleType) (ans : Ans .Denot → Val) (τ-to τ-rec τ-ans 
           ∷ ‵ (fdies τ-stores l7)
           ∷ ‵ (fat fullShare τ-held l6 0 (held))
           ∷ ‵ (fdies τ-held l6)
-          ∷ ‵ (fat fullShare τ-put l5 0 (put))
-          ∷ ‵ (fdies τ-put l5)
+          ∷ ‵ (fat fullShare τ-kind l5 0 (kind))
+          ∷ ‵ (fdies τ-kind l5)
           ∷ ‵ (fat fullShare τ-ans l4 0 (ans before))
           ∷ ‵ (fdies τ-ans l4)
           ∷ ‵ (fat fullShare tyBool l3 0 (vbool calling))
@@ -257,8 +257,8 @@ module _ (Rec Ans : RattleType) (ans : Ans .Denot → Val) (τ-to τ-rec τ-ans 
           ∷ ‵ (fdies τ-stores l7)
           ∷ ‵ (fat fullShare τ-held l6 0 (held))
           ∷ ‵ (fdies τ-held l6)
-          ∷ ‵ (fat fullShare τ-put l5 0 (put))
-          ∷ ‵ (fdies τ-put l5)
+          ∷ ‵ (fat fullShare τ-kind l5 0 (kind))
+          ∷ ‵ (fdies τ-kind l5)
           ∷ ‵ (fat fullShare τ-ans l4 0 (ans before))
           ∷ ‵ (fdies τ-ans l4)
           ∷ ‵ (fat fullShare tyBool l3 0 (vbool calling))
@@ -295,7 +295,7 @@ module _ (Rec Ans : RattleType) (ans : Ans .Denot → Val) (τ-to τ-rec τ-ans 
           move ! (3 ∷ 4 ∷ []) $ use2 W (later (some (λ (δ : GName). ‵ (MutRef (named 0) (α ∷ []) Rec .own (ref° δ (i .rec)) (vptr b o ∷ [])) ⊛ ‵ (LentAgain Rec κ (α ∷ []) q γ b o δ (i .rec))))) (lends-again 𝓤 H A W Rec (named 0) κ (α ∷ []) q γ b o (named 0) (i .rec)) $ await ! tt $ pick ! (λ δ. split ! $
           -- [the reference; kept; tokα; list; list again; tok1; tok2; buffer; the locals, the last first]
           nothing ! $ move ! (6 ∷ 0 ∷ []) $ join ! $ move ! (3 ∷ 0 ∷ []) $ join ! $ move ! (0 ∷ 1 ∷ 4 ∷ []) $ use3 W (raw (PreR α δ (i .rec))) (goes-ready α δ (i .rec)) $
-          calls-from ! fm (raw (PreR α δ (i .rec))) (vptr b o ∷ put ∷ held ∷ stores ∷ slice-val list ∷ []) (BackR α δ (i .rec)) (known-ready α δ (i .rec)) (and-then ! (load ! (from ! (stop !)) (look ! 11 refl)) (and-then ! (load ! (from ! (stop !)) (look ! 37 refl)) (and-then ! (load ! (from ! (stop !)) (look ! 35 refl)) (and-then ! (load ! (from ! (stop !)) (look ! 33 refl)) (and-then ! (load ! (from ! (stop !)) (look ! 23 refl)) (no-more !)))))) (λ vr.
+          calls-from ! fm (raw (PreR α δ (i .rec))) (vptr b o ∷ kind ∷ held ∷ stores ∷ slice-val list ∷ []) (BackR α δ (i .rec)) (known-ready α δ (i .rec)) (and-then ! (load ! (from ! (stop !)) (look ! 11 refl)) (and-then ! (load ! (from ! (stop !)) (look ! 37 refl)) (and-then ! (load ! (from ! (stop !)) (look ! 35 refl)) (and-then ! (load ! (from ! (stop !)) (look ! 33 refl)) (and-then ! (load ! (from ! (stop !)) (look ! 23 refl)) (no-more !)))))) (λ vr.
           use1 W (later (some (λ (r : Unit {0}). ((‵ (flft (α ∷ []) fullShare) ⊛ (‵ (flft κ1 q1) ⊛ ‵ ftrue)) ⊛ ‵ (unit .own r (vr ∷ []))) ⊛ raw (EnsuredR α δ (i .rec) r)))) (comes-ready α δ (i .rec) vr) $ await ! tt $ pick ! (λ rr. split ! $ move ! (1 ∷ []) $
           drop ! $
           split ! $ move ! (1 ∷ []) $ peeks ! unit (Is unit) (shows 𝓤 H A unit) rr (vr ∷ []) (λ isr. drop ! $ split ! $ move ! (1 ∷ []) $ split ! $ move ! (1 ∷ []) $ drop ! $
@@ -334,15 +334,15 @@ module _ (Rec Ans : RattleType) (ans : Ans .Denot → Val) (τ-to τ-rec τ-ans 
           move ! (49 ∷ 50 ∷ []) $ free1 ! $ move ! (47 ∷ 48 ∷ []) $ free1 ! $ move ! (45 ∷ 46 ∷ []) $ free1 ! $ move ! (43 ∷ 44 ∷ []) $ free1 ! $ move ! (41 ∷ 42 ∷ []) $ free1 ! $ move ! (39 ∷ 40 ∷ []) $ free1 ! $ move ! (37 ∷ 38 ∷ []) $ free1 ! $ move ! (35 ∷ 36 ∷ []) $ free1 ! $ move ! (33 ∷ 34 ∷ []) $ free1 ! $ move ! (31 ∷ 32 ∷ []) $ free1 ! $ move ! (29 ∷ 30 ∷ []) $ free1 ! $ move ! (27 ∷ 28 ∷ []) $ free1 ! $ move ! (25 ∷ 26 ∷ []) $ free1 ! $ move ! (23 ∷ 24 ∷ []) $ free1 ! $ move ! (21 ∷ 22 ∷ []) $ free1 ! $ move ! (19 ∷ 20 ∷ []) $ free1 ! $ move ! (17 ∷ 18 ∷ []) $ free1 ! $ move ! (15 ∷ 16 ∷ []) $ free1 ! $ move ! (13 ∷ 14 ∷ []) $ free1 ! $ move ! (11 ∷ 12 ∷ []) $ free1 ! $ move ! (9 ∷ 10 ∷ []) $ free1 ! $ move ! (7 ∷ 8 ∷ []) $ free1 ! $ free0 ! $
           keep ! (1 ∷ 2 ∷ 3 ∷ 4 ∷ 5 ∷ 0 ∷ []) $ by ! (exits (i .answer) (i .rec) (i .bytes) (i .answer-is) (i .long)))
 
-    walk : ent 𝓤 (⋆ 𝓤 H A (‵ (fobs γ (Rec .coded .code h)) ∷ ‵ (fbor κ (Body (mem Rec) b o γ)) ∷ ‵ (flft κ q) ∷ ‵ (flft κ1 q1) ∷ ‵ (flft κ2 q2) ∷ ‵ (ShrSlice (named 1) κ1 u8 .own list (slice-val list ∷ [])) ∷ ‵ (MutSlice (named 2) κ2 u8 .own buffer (slice-val buffer ∷ [])) ∷ [])) (WpFn 𝓤 H C Λ (shape τ-to τ-rec τ-ans τ-put τ-held τ-stores τ-time τ-desired τ-id τ-uid) (vptr b o ∷ vint w64 calls ∷ vbool calling ∷ ans before ∷ put ∷ held ∷ stores ∷ time ∷ desired ∷ id ∷ uid ∷ slice-val list ∷ slice-val buffer ∷ []) Post)
+    walk : ent 𝓤 (⋆ 𝓤 H A (‵ (fobs γ (Rec .coded .code h)) ∷ ‵ (fbor κ (Body (mem Rec) b o γ)) ∷ ‵ (flft κ q) ∷ ‵ (flft κ1 q1) ∷ ‵ (flft κ2 q2) ∷ ‵ (ShrSlice (named 1) κ1 u8 .own list (slice-val list ∷ [])) ∷ ‵ (MutSlice (named 2) κ2 u8 .own buffer (slice-val buffer ∷ [])) ∷ [])) (WpFn 𝓤 H C Λ (shape τ-to τ-rec τ-ans τ-kind τ-held τ-stores τ-time τ-desired τ-id τ-uid) (vptr b o ∷ vint w64 calls ∷ vbool calling ∷ ans before ∷ kind ∷ held ∷ stores ∷ time ∷ desired ∷ id ∷ uid ∷ slice-val list ∷ slice-val buffer ∷ []) Post)
     walk =
-        qed W (‵ (fobs γ (Rec .coded .code h)) ∷ ‵ (fbor κ (Body (mem Rec) b o γ)) ∷ ‵ (flft κ q) ∷ ‵ (flft κ1 q1) ∷ ‵ (flft κ2 q2) ∷ ‵ (ShrSlice (named 1) κ1 u8 .own list (slice-val list ∷ [])) ∷ ‵ (MutSlice (named 2) κ2 u8 .own buffer (slice-val buffer ∷ [])) ∷ []) ∵ enter ! C Λ (shape τ-to τ-rec τ-ans τ-put τ-held τ-stores τ-time τ-desired τ-id τ-uid) (vptr b o ∷ vint w64 calls ∷ vbool calling ∷ ans before ∷ put ∷ held ∷ stores ∷ time ∷ desired ∷ id ∷ uid ∷ slice-val list ∷ slice-val buffer ∷ []) _ $
+        qed W (‵ (fobs γ (Rec .coded .code h)) ∷ ‵ (fbor κ (Body (mem Rec) b o γ)) ∷ ‵ (flft κ q) ∷ ‵ (flft κ1 q1) ∷ ‵ (flft κ2 q2) ∷ ‵ (ShrSlice (named 1) κ1 u8 .own list (slice-val list ∷ [])) ∷ ‵ (MutSlice (named 2) κ2 u8 .own buffer (slice-val buffer ∷ [])) ∷ []) ∵ enter ! C Λ (shape τ-to τ-rec τ-ans τ-kind τ-held τ-stores τ-time τ-desired τ-id τ-uid) (vptr b o ∷ vint w64 calls ∷ vbool calling ∷ ans before ∷ kind ∷ held ∷ stores ∷ time ∷ desired ∷ id ∷ uid ∷ slice-val list ∷ slice-val buffer ∷ []) _ $
         alloc1 ! (λ l0. alloc1 ! (λ l1. alloc1 ! (λ l2. alloc1 ! (λ l3. alloc1 ! (λ l4. alloc1 ! (λ l5. alloc1 ! (λ l6. alloc1 ! (λ l7. alloc1 ! (λ l8. alloc1 ! (λ l9. alloc1 ! (λ l10. alloc1 ! (λ l11. alloc1 ! (λ l12. alloc1 ! (λ l13. alloc1 ! (λ l14. alloc1 ! (λ l15. alloc1 ! (λ l16. alloc1 ! (λ l17. alloc1 ! (λ l18. alloc1 ! (λ l19. alloc1 ! (λ l20. alloc1 ! (λ l21. alloc0 ! $ params1 ! $
         pass1 ! (init ! 40 refl (tt, tt)) $
         pass1 ! (init ! 38 refl (tt, calls-fits)) $
         pass1 ! (init ! 36 refl (tt, tt)) $
         pass1 ! (init ! 34 refl (ans-typed before _ before-is)) $
-        pass1 ! (init ! 32 refl put-typed) $
+        pass1 ! (init ! 32 refl kind-typed) $
         pass1 ! (init ! 30 refl held-typed) $
         pass1 ! (init ! 28 refl stores-typed) $
         pass1 ! (init ! 26 refl time-typed) $
@@ -368,7 +368,7 @@ Rec-val = LL.val Rec.the-type Rec′.the-laws
 abbrev Ans-val : TimerAnswer → Val
 Ans-val = EL.val Ans.the-type Ans′.the-laws
 
-abbrev What-val : Put → Val
+abbrev What-val : Kind → Val
 What-val = LL.val What.the-type What′.the-laws
 
 abbrev Poll-val : PollInterval → Val
@@ -383,16 +383,16 @@ C-ready 𝓤 H A at-mem run = tripleOf 𝓤 H A ready.signature (ready.spec 𝓤
 abbrev C-call : {M : Type 1} (𝓤 : URA M) (H : Heap 𝓤) (A : Atoms 𝓤) (at-mem : Memory → SProp 𝓤) (run : Routine → Fun 𝓤) → Contract 𝓤
 C-call 𝓤 H A at-mem run = tripleOf 𝓤 H A call.signature (call.spec 𝓤 H A at-mem run)
 
-module _ {M : Type 1} (𝓤 : URA M) (H : Heap 𝓤) (A : Atoms 𝓤) (W : Given 𝓤 H A) (at-mem : Memory → SProp 𝓤) (run : Routine → Fun 𝓤) (κ κ1 κ2 : Lft) (q q1 q2 : Share) (b o : ℕ) (γ : GName) (h : Association) (calls : ℕ) (calling : Bool) (before : TimerAnswer) (put : Put) (held : ℕ) (stores : Bool) (time : ℕ) (desired : PollInterval) (id : ℕ) (uid : List ℕ) (list : RefT (List ℕ)) (buffer : RefT (List ℕ))
-    (calls-is : Is u64 calls (vint w64 calls ∷ [])) (calling-is : Is bool calling (vbool calling ∷ [])) (before-is : Is Ans.the-row before (Ans-val before ∷ [])) (put-is : Is What.the-row put (What-val put ∷ [])) (held-is : Is usize held (vint w64 held ∷ [])) (stores-is : Is bool stores (vbool stores ∷ [])) (time-is : Is u64 time (vint w64 time ∷ [])) (desired-is : Is Poll.the-row desired (Poll-val desired ∷ [])) (id-is : Is u64 id (vint w64 id ∷ [])) (uid-is : Is (Array u8 32) uid (bytes-val uid ∷ [])) (list-is : Is (ShrSlice (named 1) κ1 u8) list (slice-val list ∷ [])) (buffer-is : Is (MutSlice (named 2) κ2 u8) buffer (slice-val buffer ∷ [])) where
+module _ {M : Type 1} (𝓤 : URA M) (H : Heap 𝓤) (A : Atoms 𝓤) (W : Given 𝓤 H A) (at-mem : Memory → SProp 𝓤) (run : Routine → Fun 𝓤) (κ κ1 κ2 : Lft) (q q1 q2 : Share) (b o : ℕ) (γ : GName) (h : Association) (calls : ℕ) (calling : Bool) (before : TimerAnswer) (kind : Kind) (held : ℕ) (stores : Bool) (time : ℕ) (desired : PollInterval) (id : ℕ) (uid : List ℕ) (list : RefT (List ℕ)) (buffer : RefT (List ℕ))
+    (calls-is : Is u64 calls (vint w64 calls ∷ [])) (calling-is : Is bool calling (vbool calling ∷ [])) (before-is : Is Ans.the-row before (Ans-val before ∷ [])) (kind-is : Is What.the-row kind (What-val kind ∷ [])) (held-is : Is usize held (vint w64 held ∷ [])) (stores-is : Is bool stores (vbool stores ∷ [])) (time-is : Is u64 time (vint w64 time ∷ [])) (desired-is : Is Poll.the-row desired (Poll-val desired ∷ [])) (id-is : Is u64 id (vint w64 id ∷ [])) (uid-is : Is (Array u8 32) uid (bytes-val uid ∷ [])) (list-is : Is (ShrSlice (named 1) κ1 u8) list (slice-val list ∷ [])) (buffer-is : Is (MutSlice (named 2) κ2 u8) buffer (slice-val buffer ∷ [])) where
   abbrev ref : GName → Association → RefT Association
   ref δ w = record { ptr = (b, o); name = δ; now = w }
 
-  abbrev x : RefT Association × (ℕ × (Bool × (TimerAnswer × (Put × (ℕ × (Bool × (ℕ × (PollInterval × (ℕ × (List ℕ × (RefT (List ℕ) × (RefT (List ℕ) × Unit {0}))))))))))))
-  x = (ref γ h, (calls, (calling, (before, (put, (held, (stores, (time, (desired, (id, (uid, (list, (buffer, tt)))))))))))))
+  abbrev x : RefT Association × (ℕ × (Bool × (TimerAnswer × (Kind × (ℕ × (Bool × (ℕ × (PollInterval × (ℕ × (List ℕ × (RefT (List ℕ) × (RefT (List ℕ) × Unit {0}))))))))))))
+  x = (ref γ h, (calls, (calling, (before, (kind, (held, (stores, (time, (desired, (id, (uid, (list, (buffer, tt)))))))))))))
 
   abbrev at : List Val × (List Val × (List Val × (List Val × (List Val × (List Val × (List Val × (List Val × (List Val × (List Val × (List Val × (List Val × (List Val × Unit {0}))))))))))))
-  at = (vptr b o ∷ [], (vint w64 calls ∷ [], (vbool calling ∷ [], (Ans-val before ∷ [], (What-val put ∷ [], (vint w64 held ∷ [], (vbool stores ∷ [], (vint w64 time ∷ [], (Poll-val desired ∷ [], (vint w64 id ∷ [], (bytes-val uid ∷ [], (slice-val list ∷ [], (slice-val buffer ∷ [], tt)))))))))))))
+  at = (vptr b o ∷ [], (vint w64 calls ∷ [], (vbool calling ∷ [], (Ans-val before ∷ [], (What-val kind ∷ [], (vint w64 held ∷ [], (vbool stores ∷ [], (vint w64 time ∷ [], (Poll-val desired ∷ [], (vint w64 id ∷ [], (bytes-val uid ∷ [], (slice-val list ∷ [], (slice-val buffer ∷ [], tt)))))))))))))
 
   abbrev Post : Val → SProp 𝓤
   Post = walkOf 𝓤 H A self.ended stayed (self.clauses 𝓤 H A at-mem run) .post (((κ, (κ1, (κ2, tt))), (q, (q1, (q2, tt))), tt, x, at), tt)
@@ -409,14 +409,14 @@ module _ {M : Type 1} (𝓤 : URA M) (H : Heap 𝓤) (A : Atoms 𝓤) (W : Given
 
   -- what `ready` is given, and what it says
   abbrev to-ready : ℕ → GName → Association → C-ready 𝓤 H A at-mem run .Ghost
-  to-ready α δ y = (((α ∷ [], (κ1, tt)), (fullShare, (q1, tt)), tt, (ref δ y, (put, (held, (stores, (list, tt))))), (vptr b o ∷ [], (What-val put ∷ [], (vint w64 held ∷ [], (vbool stores ∷ [], (slice-val list ∷ [], tt)))))), tt)
+  to-ready α δ y = (((α ∷ [], (κ1, tt)), (fullShare, (q1, tt)), tt, (ref δ y, (kind, (held, (stores, (list, tt))))), (vptr b o ∷ [], (What-val kind ∷ [], (vint w64 held ∷ [], (vbool stores ∷ [], (slice-val list ∷ [], tt)))))), tt)
 
-  goes-ready : (α : ℕ) (δ : GName) (y : Association) → Is What.the-row put (What-val put ∷ []) → Is usize held (vint w64 held ∷ []) → Is bool stores (vbool stores ∷ []) → ent 𝓤 (⋆ 𝓤 H A ((‵ (flft (α ∷ []) fullShare) ⊛ (‵ (flft κ1 q1) ⊛ ‵ ftrue)) ∷ ‵ (MutRef (named 0) (α ∷ []) Rec.the-row .own (ref δ y) (vptr b o ∷ [])) ∷ ‵ (ShrSlice (named 1) κ1 u8 .own list (slice-val list ∷ [])) ∷ [])) (C-ready 𝓤 H A at-mem run .pre (to-ready α δ y))
+  goes-ready : (α : ℕ) (δ : GName) (y : Association) → Is What.the-row kind (What-val kind ∷ []) → Is usize held (vint w64 held ∷ []) → Is bool stores (vbool stores ∷ []) → ent 𝓤 (⋆ 𝓤 H A ((‵ (flft (α ∷ []) fullShare) ⊛ (‵ (flft κ1 q1) ⊛ ‵ ftrue)) ∷ ‵ (MutRef (named 0) (α ∷ []) Rec.the-row .own (ref δ y) (vptr b o ∷ [])) ∷ ‵ (ShrSlice (named 1) κ1 u8 .own list (slice-val list ∷ [])) ∷ [])) (C-ready 𝓤 H A at-mem run .pre (to-ready α δ y))
   goes-ready α δ y p-is h-is s-is =
-      qed W ((‵ (flft (α ∷ []) fullShare) ⊛ (‵ (flft κ1 q1) ⊛ ‵ ftrue)) ∷ ‵ (MutRef (named 0) (α ∷ []) Rec.the-row .own (ref δ y) (vptr b o ∷ [])) ∷ ‵ (ShrSlice (named 1) κ1 u8 .own list (slice-val list ∷ [])) ∷ []) ∵ nothing ! $ move ! (3 ∷ 0 ∷ []) $ fjoin ! $ owned ! bool (Is bool) (bool-makes 𝓤 H A W) stores _ s-is $ fjoin ! $ owned ! usize (Is usize) (uint-makes 𝓤 H A W w64) held _ h-is $ fjoin ! $ owned ! What.the-row (Is What.the-row) (LL.makes What.the-type What′.the-plain 𝓤 H A) put _ p-is $ fjoin ! $ move ! (2 ∷ 0 ∷ []) $ fjoin ! $ move ! (1 ∷ 0 ∷ []) $ join ! $ frame ! $ done !
+      qed W ((‵ (flft (α ∷ []) fullShare) ⊛ (‵ (flft κ1 q1) ⊛ ‵ ftrue)) ∷ ‵ (MutRef (named 0) (α ∷ []) Rec.the-row .own (ref δ y) (vptr b o ∷ [])) ∷ ‵ (ShrSlice (named 1) κ1 u8 .own list (slice-val list ∷ [])) ∷ []) ∵ nothing ! $ move ! (3 ∷ 0 ∷ []) $ fjoin ! $ owned ! bool (Is bool) (bool-makes 𝓤 H A W) stores _ s-is $ fjoin ! $ owned ! usize (Is usize) (uint-makes 𝓤 H A W w64) held _ h-is $ fjoin ! $ owned ! What.the-row (Is What.the-row) (LL.makes What.the-type What′.the-plain 𝓤 H A) kind _ p-is $ fjoin ! $ move ! (2 ∷ 0 ∷ []) $ fjoin ! $ move ! (1 ∷ 0 ∷ []) $ join ! $ frame ! $ done !
 
   abbrev E-ready : ℕ → GName → Association → Unit {0} → SProp 𝓤
-  E-ready α δ y r = ensured 𝓤 H A ready.ended (ready.clauses 𝓤 H A at-mem run) (α ∷ [], (κ1, tt)) (ref δ y, (put, (held, (stores, (list, tt))))) tt r
+  E-ready α δ y r = ensured 𝓤 H A ready.ended (ready.clauses 𝓤 H A at-mem run) (α ∷ [], (κ1, tt)) (ref δ y, (kind, (held, (stores, (list, tt))))) tt r
 
   -- what `timer` is given, and what it says
   abbrev to-call : ℕ → ℕ → GName → GName → Association → List ℕ → C-call 𝓤 H A at-mem run .Ghost
@@ -435,17 +435,17 @@ module _ {M : Type 1} (𝓤 : URA M) (H : Heap 𝓤) (A : Atoms 𝓤) (W : Given
       show ! (λ (ys : List ℕ). mean 𝓤 H A (‵ (finally u8 ε ys))) (ws .1 .1 .1 .1 .1 .0) $ done !)
 
   module _ (𝓣 : Tables 𝓤 H) (known-ready : Triple 𝓤 (𝓣 .C #calls·ready) (C-ready 𝓤 H A at-mem run)) (known-call : Triple 𝓤 (𝓣 .C #timer·timer) (C-call 𝓤 H A at-mem run)) where
-    walk-here : ent 𝓤 (onEntry 𝓤 H A self.signature (κ, (κ1, (κ2, tt))) (q, (q1, (q2, tt))) x at) (WpFn 𝓤 H (𝓣 .C) (𝓣 .Λ) code.function (vptr b o ∷ vint w64 calls ∷ vbool calling ∷ Ans-val before ∷ What-val put ∷ vint w64 held ∷ vbool stores ∷ vint w64 time ∷ Poll-val desired ∷ vint w64 id ∷ bytes-val uid ∷ slice-val list ∷ slice-val buffer ∷ []) Post)
+    walk-here : ent 𝓤 (onEntry 𝓤 H A self.signature (κ, (κ1, (κ2, tt))) (q, (q1, (q2, tt))) x at) (WpFn 𝓤 H (𝓣 .C) (𝓣 .Λ) code.function (vptr b o ∷ vint w64 calls ∷ vbool calling ∷ Ans-val before ∷ What-val kind ∷ vint w64 held ∷ vbool stores ∷ vint w64 time ∷ Poll-val desired ∷ vint w64 id ∷ bytes-val uid ∷ slice-val list ∷ slice-val buffer ∷ []) Post)
     walk-here =
         qed W ((‵ (flft κ q) ⊛ (‵ (flft κ1 q1) ⊛ (‵ (flft κ2 q2) ⊛ ‵ ftrue))) ∷ ‵ (owns (MutRef (named 0) κ Rec.the-row ∷ u64 ∷ bool ∷ Ans.the-row ∷ What.the-row ∷ usize ∷ bool ∷ u64 ∷ Poll.the-row ∷ u64 ∷ Array u8 32 ∷ ShrSlice (named 1) κ1 u8 ∷ MutSlice (named 2) κ2 u8 ∷ []) x at) ∷ []) ∵ split ! $ move ! (1 ∷ []) $ split ! $ move ! (1 ∷ []) $ split ! $ move ! (1 ∷ []) $ drop ! $ move ! (3 ∷ []) $ fsplit ! $ fsplit3 ! $ drop ! $ move ! (2 ∷ []) $ fsplit ! $ drop ! $ fsplit ! $ drop ! $ fsplit ! $ drop ! $ fsplit ! $ drop ! $ fsplit ! $ drop ! $ fsplit ! $ drop ! $ fsplit ! $ drop ! $ fsplit ! $ drop ! $ fsplit ! $ drop ! $ fsplit ! $ drop ! $ fsplit ! $ move ! (1 ∷ []) $ fsplit ! $ move ! (1 ∷ []) $ drop ! $
         move ! (2 ∷ 3 ∷ 6 ∷ 5 ∷ 4 ∷ 1 ∷ 0 ∷ []) $ by ! (walk
         Rec.the-row Ans.the-row Ans-val (tyNamed (97 ∷ 115 ∷ 115 ∷ 111 ∷ 99 ∷ 105 ∷ 97 ∷ 116 ∷ 105 ∷ 111 ∷ 110 ∷ 58 ∷ 58 ∷ 65 ∷ 115 ∷ 115 ∷ 111 ∷ 99 ∷ 105 ∷ 97 ∷ 116 ∷ 105 ∷ 111 ∷ 110 ∷ [], [])) Rec′.mir Ans′.mir What′.mir (tyInt w64) tyBool (tyInt w64) Poll′.mir (tyInt w64) (tyArray (tyInt w8) 32)
         (EL.tells Ans.the-type Ans′.the-laws) (λ y v g. (EL.lawful Ans.the-type Ans′.the-laws 𝓤 H A W tt .typed y _ g .0))
-        𝓤 H A W κ κ1 κ2 q q1 q2 b o γ h calls calling before (What-val put) (vint w64 held) (vbool stores) (vint w64 time) (Poll-val desired) (vint w64 id) (bytes-val uid) list buffer
-        ((uint-lawful 𝓤 H A W w64 .typed calls _ calls-is .0) .1) before-is (LL.lawful What.the-type What′.the-laws 𝓤 H A W .typed put _ put-is .0) (uint-lawful 𝓤 H A W w64 .typed held _ held-is .0) (bool-lawful 𝓤 H A W .typed stores _ stores-is .0) (uint-lawful 𝓤 H A W w64 .typed time _ time-is .0) (LL.lawful Poll.the-type Poll′.the-laws 𝓤 H A W .typed desired _ desired-is .0) (uint-lawful 𝓤 H A W w64 .typed id _ id-is .0) (array-lawful 𝓤 H A W u8 (uint-lawful 𝓤 H A W w8) 32 .typed uid _ uid-is .0) list-is buffer-is
+        𝓤 H A W κ κ1 κ2 q q1 q2 b o γ h calls calling before (What-val kind) (vint w64 held) (vbool stores) (vint w64 time) (Poll-val desired) (vint w64 id) (bytes-val uid) list buffer
+        ((uint-lawful 𝓤 H A W w64 .typed calls _ calls-is .0) .1) before-is (LL.lawful What.the-type What′.the-laws 𝓤 H A W .typed kind _ kind-is .0) (uint-lawful 𝓤 H A W w64 .typed held _ held-is .0) (bool-lawful 𝓤 H A W .typed stores _ stores-is .0) (uint-lawful 𝓤 H A W w64 .typed time _ time-is .0) (LL.lawful Poll.the-type Poll′.the-laws 𝓤 H A W .typed desired _ desired-is .0) (uint-lawful 𝓤 H A W w64 .typed id _ id-is .0) (array-lawful 𝓤 H A W u8 (uint-lawful 𝓤 H A W w8) 32 .typed uid _ uid-is .0) list-is buffer-is
         (λ α δ y. C-ready 𝓤 H A at-mem run .pre (to-ready α δ y)) (λ α δ y. C-ready 𝓤 H A at-mem run .post (to-ready α δ y)) E-ready
         (λ α β δ ε y zs. C-call 𝓤 H A at-mem run .pre (to-call α β δ ε y zs)) (λ α β δ ε y zs. C-call 𝓤 H A at-mem run .post (to-call α β δ ε y zs)) E-call Post
-        (λ α δ y. goes-ready α δ y put-is held-is stores-is) (λ α δ y v. id⊢ 𝓤 _) (λ α β δ ε y zs. goes-call α β δ ε y zs time-is desired-is id-is uid-is) (λ α β δ ε y zs v. id⊢ 𝓤 _) said-call
+        (λ α δ y. goes-ready α δ y kind-is held-is stores-is) (λ α δ y v. id⊢ 𝓤 _) (λ α β δ ε y zs. goes-call α β δ ε y zs time-is desired-is id-is uid-is) (λ α β δ ε y zs v. id⊢ 𝓤 _) said-call
         (λ r w zs is n. exits r w zs is n) 𝓣 (λ α δ y. known-ready (to-ready α δ y)) (λ α β δ ε y zs. known-call (to-call α β δ ε y zs)))
 
 module _ {M : Type 1} (𝓤 : URA M) (H : Heap 𝓤) (A : Atoms 𝓤) (W : Given 𝓤 H A) (at-mem : Memory → SProp 𝓤) (run : Routine → Fun 𝓤) where

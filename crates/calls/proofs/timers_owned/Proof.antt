@@ -50,18 +50,18 @@ use Rattle.calls.proofs.Lent.{silent}
 use Rattle.association.specs.declared.Association.{Association}
 use Rattle.calls.specs.declared.TimersOut.{TimersOut}
 use Rattle.timer_rules.specs.declared.TimerAnswer.{TimerAnswer}
+use Rattle.calls.specs.declared.Kind.{Kind}
 use Rattle.time_types.specs.declared.PollInterval.{PollInterval}
-use Rattle.calls.specs.declared.Put.{Put}
 use Rattle.association.proofs.Association as Rec
 use Rattle.association.proofs.Association.Laws as Rec′
 use Rattle.calls.proofs.TimersOut as Out
 use Rattle.calls.proofs.TimersOut.Laws as Out′
 use Rattle.timer_rules.proofs.TimerAnswer as Ans
 use Rattle.timer_rules.proofs.TimerAnswer.Laws as Ans′
+use Rattle.calls.proofs.Kind as Kind·
+use Rattle.calls.proofs.Kind.Laws as Kind·′
 use Rattle.time_types.proofs.PollInterval as PollInterval·
 use Rattle.time_types.proofs.PollInterval.Laws as PollInterval·′
-use Rattle.calls.proofs.Put as Put·
-use Rattle.calls.proofs.Put.Laws as Put·′
 use Rattle.calls.proofs.timers as core
 use Rattle.calls.proofs.timers.Symbol as core-def
 use Rattle.calls.proofs.timers.Symbol.{name as #calls·timers}
@@ -72,13 +72,13 @@ use Rattle.calls.proofs.timers_owned.Statement as stated
 use Rattle.calls.proofs.timers_owned.Code as code
 
 -- the function, over any types of the record (τ-to is its name, behind the reference), of the answer and of the other arguments
-abbrev shape : Sym → (τ-to τ-rec τ-ans τ-calls τ-calling τ-before τ-put τ-held τ-stores τ-time τ-desired τ-id τ-uid τ-list : Ty) → Fn
-shape ν τ-to τ-rec τ-ans τ-calls τ-calling τ-before τ-put τ-held τ-stores τ-time τ-desired τ-id τ-uid τ-list =
+abbrev shape : Sym → (τ-to τ-rec τ-ans τ-calls τ-calling τ-before τ-kind τ-held τ-stores τ-time τ-desired τ-id τ-uid τ-list : Ty) → Fn
+shape ν τ-to τ-rec τ-ans τ-calls τ-calling τ-before τ-kind τ-held τ-stores τ-time τ-desired τ-id τ-uid τ-list =
     record {
       lifetimes = 2;
       outlives = [];
       params = 13;
-      locals = local (tyStruct ν (tcons τ-ans (tcons τ-rec tnil))) valueLocal ∷ local τ-rec valueLocal ∷ local τ-calls valueLocal ∷ local τ-calling valueLocal ∷ local τ-before valueLocal ∷ local τ-put valueLocal ∷ local τ-held valueLocal ∷ local τ-stores valueLocal ∷ local τ-time valueLocal ∷ local τ-desired valueLocal ∷ local τ-id valueLocal ∷ local τ-uid valueLocal ∷ local τ-list valueLocal ∷ local (tyStruct (38 ∷ 91 ∷ 93 ∷ []) (tcons (tyRef (named 1) mut (tyInt w8)) (tcons (tyInt w64) tnil))) valueLocal ∷ local τ-rec memorySlot ∷ local τ-ans valueLocal ∷ local (tyRef erased mut τ-to) valueLocal ∷ local (tyRef erased mut (tyInt w8)) valueLocal ∷ local (tyStruct (38 ∷ 91 ∷ 93 ∷ []) (tcons (tyRef erased mut (tyInt w8)) (tcons (tyInt w64) tnil))) valueLocal ∷ local τ-rec valueLocal ∷ [];
+      locals = local (tyStruct ν (tcons τ-ans (tcons τ-rec tnil))) valueLocal ∷ local τ-rec valueLocal ∷ local τ-calls valueLocal ∷ local τ-calling valueLocal ∷ local τ-before valueLocal ∷ local τ-kind valueLocal ∷ local τ-held valueLocal ∷ local τ-stores valueLocal ∷ local τ-time valueLocal ∷ local τ-desired valueLocal ∷ local τ-id valueLocal ∷ local τ-uid valueLocal ∷ local τ-list valueLocal ∷ local (tyStruct (38 ∷ 91 ∷ 93 ∷ []) (tcons (tyRef (named 1) mut (tyInt w8)) (tcons (tyInt w64) tnil))) valueLocal ∷ local τ-rec memorySlot ∷ local τ-ans valueLocal ∷ local (tyRef erased mut τ-to) valueLocal ∷ local (tyRef erased mut (tyInt w8)) valueLocal ∷ local (tyStruct (38 ∷ 91 ∷ 93 ∷ []) (tcons (tyRef erased mut (tyInt w8)) (tcons (tyInt w64) tnil))) valueLocal ∷ local τ-rec valueLocal ∷ [];
       body =
           seq (assign (place 14 []) (rvOpd (copy (place 1 []))))
           (seq (assign (place 16 []) (addrOf (place 14 [])))
@@ -91,7 +91,7 @@ shape ν τ-to τ-rec τ-ans τ-calls τ-calling τ-before τ-put τ-held τ-sto
     }
 
 -- The walk, over any rows of a record and an answer, and any machine values: it asks only that these are of their types.
-module _ (Rec Ans : RattleType) (rec : Rec .Denot → Val) (ans : Ans .Denot → Val) (ν : Sym) (τ-to τ-rec τ-ans τ-calls τ-calling τ-before τ-put τ-held τ-stores τ-time τ-desired τ-id τ-uid τ-list : Ty) (rec-mir : Rec .mir ≡ τ-rec ∷ [])
+module _ (Rec Ans : RattleType) (rec : Rec .Denot → Val) (ans : Ans .Denot → Val) (ν : Sym) (τ-to τ-rec τ-ans τ-calls τ-calling τ-before τ-kind τ-held τ-stores τ-time τ-desired τ-id τ-uid τ-list : Ty) (rec-mir : Rec .mir ≡ τ-rec ∷ [])
     (rec-tells : Tells Rec (Is Rec) (λ y. rec y ∷ [])) (ans-tells : Tells Ans (Is Ans) (λ y. ans y ∷ []))
     (rec-typed : (y : Rec .Denot) → Is Rec y (rec y ∷ []) → T (hasTy τ-rec (rec y)) × WT (rec y))
     (ans-typed : (y : Ans .Denot) (v : Val) → Is Ans y (v ∷ []) → T (hasTy τ-ans v) × WT v)
@@ -111,26 +111,26 @@ module _ (Rec Ans : RattleType) (rec : Rec .Denot → Val) (ans : Ans .Denot →
       qed W (‵ (partAt Rec fullShare w b 0) ∷ []) ∵ fpick ! (λ vs. fsplit ! $ spelt ! Rec (Is Rec) (shows 𝓤 H A Rec) (λ y. rec y ∷ []) rec-tells fullShare w vs b 0 $
       rewrite ! 0 (λ (τs : List Ty). ‵ (cellAt fullShare τs (rec w ∷ []) b 0)) rec-mir refl $ move ! (1 ∷ []) $ peeks ! Rec (Is Rec) (shows 𝓤 H A Rec) w (rec w ∷ []) (λ g. check ! g $ drop ! $ by ! (W .laws .raw-at fullShare τ-rec b 0 (rec w))))
 
-  module _ (h : Rec .Denot) (calls calling before put held stores time desired id uid list : Val) (buffer : RefT (List ℕ)) (h-is : Is Rec h (rec h ∷ [])) (calls-typed : T (hasTy τ-calls calls) × WT calls) (calling-typed : T (hasTy τ-calling calling) × WT calling) (before-typed : T (hasTy τ-before before) × WT before) (put-typed : T (hasTy τ-put put) × WT put) (held-typed : T (hasTy τ-held held) × WT held) (stores-typed : T (hasTy τ-stores stores) × WT stores) (time-typed : T (hasTy τ-time time) × WT time) (desired-typed : T (hasTy τ-desired desired) × WT desired) (id-typed : T (hasTy τ-id id) × WT id) (uid-typed : T (hasTy τ-uid uid) × WT uid) (list-typed : T (hasTy τ-list list) × WT list) (buffer-typed : T (hasTy (tyStruct (38 ∷ 91 ∷ 93 ∷ []) (tcons (tyRef (named 1) mut (tyInt w8)) (tcons (tyInt w64) tnil))) (sliceVal (buffer .ptr) (length (buffer .now)))) × WT (sliceVal (buffer .ptr) (length (buffer .now))))
+  module _ (h : Rec .Denot) (calls calling before kind held stores time desired id uid list : Val) (buffer : RefT (List ℕ)) (h-is : Is Rec h (rec h ∷ [])) (calls-typed : T (hasTy τ-calls calls) × WT calls) (calling-typed : T (hasTy τ-calling calling) × WT calling) (before-typed : T (hasTy τ-before before) × WT before) (kind-typed : T (hasTy τ-kind kind) × WT kind) (held-typed : T (hasTy τ-held held) × WT held) (stores-typed : T (hasTy τ-stores stores) × WT stores) (time-typed : T (hasTy τ-time time) × WT time) (desired-typed : T (hasTy τ-desired desired) × WT desired) (id-typed : T (hasTy τ-id id) × WT id) (uid-typed : T (hasTy τ-uid uid) × WT uid) (list-typed : T (hasTy τ-list list) × WT list) (buffer-typed : T (hasTy (tyStruct (38 ∷ 91 ∷ 93 ∷ []) (tcons (tyRef (named 1) mut (tyInt w8)) (tcons (tyInt w64) tnil))) (sliceVal (buffer .ptr) (length (buffer .now)))) × WT (sliceVal (buffer .ptr) (length (buffer .now))))
       (Own Left : SProp 𝓤) (Last : List ℕ → SProp 𝓤) (Pre : ℕ → ℕ → GName → SProp 𝓤) (Back : ℕ → ℕ → GName → Val → SProp 𝓤) (Post : Val → SProp 𝓤) (Ensured : ℕ → ℕ → GName → Ans .Denot → SProp 𝓤) (Says : Ans .Denot → Rec .Denot → List ℕ → Type 0)
       (goes-core : (α l : ℕ) (δ : GName) → ent 𝓤 (⋆ 𝓤 H A (‵ (flft (α ∷ []) fullShare) ∷ ‵ (MutRef (named 0) (α ∷ []) Rec .own (record { ptr = (l, 0); name = δ; now = h }) (vptr l 0 ∷ [])) ∷ raw Own ∷ [])) (Pre α l δ))
       (comes-back : (α l : ℕ) (δ : GName) (v : Val) → ent 𝓤 (Back α l δ v) (mean 𝓤 H A (later (some (λ (r : Ans .Denot). ((‵ (flft (α ∷ []) fullShare) ⊛ raw Left) ⊛ ‵ (Ans .own r (v ∷ []))) ⊛ raw (Ensured α l δ r))))))
       (said-of : (α l : ℕ) (δ : GName) (r : Ans .Denot) → ent 𝓤 (Ensured α l δ r) (mean 𝓤 H A (some (λ (w : Rec .Denot). some (λ (last : List ℕ). given (Says r w last) (‵ (fres δ (Rec .coded .code w)) ⊛ raw (Last last)))))))
       (exits : (r : Ans .Denot) (w : Rec .Denot) → (last : List ℕ) → Is Ans r (ans r ∷ []) → Is Rec w (rec w ∷ []) → Says r w last → ent 𝓤 (⋆ 𝓤 H A (raw Left ∷ raw (Last last) ∷ [])) (Post (vstruct (ofList (ans r ∷ rec w ∷ [])))))
-      (C : Calls 𝓤 H) (Λ : Loops 𝓤 H) (fm : FmC 𝓤 H (W .laws) C) (known : (α l : ℕ) (δ : GName) → ent 𝓤 (Pre α l δ) (C #calls·timers (vptr l 0 ∷ calls ∷ calling ∷ before ∷ put ∷ held ∷ stores ∷ time ∷ desired ∷ id ∷ uid ∷ list ∷ (sliceVal (buffer .ptr) (length (buffer .now))) ∷ []) (Back α l δ))) where
+      (C : Calls 𝓤 H) (Λ : Loops 𝓤 H) (fm : FmC 𝓤 H (W .laws) C) (known : (α l : ℕ) (δ : GName) → ent 𝓤 (Pre α l δ) (C #calls·timers (vptr l 0 ∷ calls ∷ calling ∷ before ∷ kind ∷ held ∷ stores ∷ time ∷ desired ∷ id ∷ uid ∷ list ∷ (sliceVal (buffer .ptr) (length (buffer .now))) ∷ []) (Back α l δ))) where
     -- the record, lent at l under the name δ
     abbrev ref : ℕ → GName → RefT (Rec .Denot)
     ref l δ = record { ptr = (l, 0); name = δ; now = h }
 
-    walk : ent 𝓤 (⋆ 𝓤 H A (raw Own ∷ [])) (WpFn 𝓤 H C Λ (shape ν τ-to τ-rec τ-ans τ-calls τ-calling τ-before τ-put τ-held τ-stores τ-time τ-desired τ-id τ-uid τ-list) (rec h ∷ calls ∷ calling ∷ before ∷ put ∷ held ∷ stores ∷ time ∷ desired ∷ id ∷ uid ∷ list ∷ (sliceVal (buffer .ptr) (length (buffer .now))) ∷ []) Post)
+    walk : ent 𝓤 (⋆ 𝓤 H A (raw Own ∷ [])) (WpFn 𝓤 H C Λ (shape ν τ-to τ-rec τ-ans τ-calls τ-calling τ-before τ-kind τ-held τ-stores τ-time τ-desired τ-id τ-uid τ-list) (rec h ∷ calls ∷ calling ∷ before ∷ kind ∷ held ∷ stores ∷ time ∷ desired ∷ id ∷ uid ∷ list ∷ (sliceVal (buffer .ptr) (length (buffer .now))) ∷ []) Post)
     walk =
         qed W (raw Own ∷ []) ∵
-        enter ! C Λ (shape ν τ-to τ-rec τ-ans τ-calls τ-calling τ-before τ-put τ-held τ-stores τ-time τ-desired τ-id τ-uid τ-list) (rec h ∷ calls ∷ calling ∷ before ∷ put ∷ held ∷ stores ∷ time ∷ desired ∷ id ∷ uid ∷ list ∷ (sliceVal (buffer .ptr) (length (buffer .now))) ∷ []) _ $
+        enter ! C Λ (shape ν τ-to τ-rec τ-ans τ-calls τ-calling τ-before τ-kind τ-held τ-stores τ-time τ-desired τ-id τ-uid τ-list) (rec h ∷ calls ∷ calling ∷ before ∷ kind ∷ held ∷ stores ∷ time ∷ desired ∷ id ∷ uid ∷ list ∷ (sliceVal (buffer .ptr) (length (buffer .now))) ∷ []) _ $
         alloc1 ! (λ l0. alloc1 ! (λ l1. alloc1 ! (λ l2. alloc1 ! (λ l3. alloc1 ! (λ l4. alloc1 ! (λ l5. alloc1 ! (λ l6. alloc1 ! (λ l7. alloc1 ! (λ l8. alloc1 ! (λ l9. alloc1 ! (λ l10. alloc1 ! (λ l11. alloc1 ! (λ l12. alloc1 ! (λ l13. alloc1 ! (λ l14. alloc1 ! (λ l15. alloc1 ! (λ l16. alloc1 ! (λ l17. alloc1 ! (λ l18. alloc1 ! (λ l19. alloc0 ! $ params1 ! $ pass1 ! (init ! 36 refl (rec-typed h h-is)) $
         pass1 ! (init ! 34 refl calls-typed) $
         pass1 ! (init ! 32 refl calling-typed) $
         pass1 ! (init ! 30 refl before-typed) $
-        pass1 ! (init ! 28 refl put-typed) $
+        pass1 ! (init ! 28 refl kind-typed) $
         pass1 ! (init ! 26 refl held-typed) $
         pass1 ! (init ! 24 refl stores-typed) $
         pass1 ! (init ! 22 refl time-typed) $
@@ -149,7 +149,7 @@ module _ (Rec Ans : RattleType) (rec : Rec .Denot → Val) (ans : Ans .Denot →
         use1 W (later (some (λ (δ : GName). ‵ (MutRef (named 0) (α ∷ []) Rec .own (ref l14 δ) (vptr l14 0 ∷ [])) ⊛ ‵ (flent (α ∷ []) (Body (mem Rec) l14 0 δ))))) (lends-ref 𝓤 H A W Rec (named 0) (α ∷ []) h l14 0) $ await ! tt $ pick ! (λ δ. split ! $
         -- [the reference; the lender's part; the token; the locals; what the other arguments own]
         move ! (2 ∷ 0 ∷ 42 ∷ []) $ use3 W (raw (Pre α l14 δ)) (goes-core α l14 δ) $
-        calls-from ! fm (raw (Pre α l14 δ)) (vptr l14 0 ∷ calls ∷ calling ∷ before ∷ put ∷ held ∷ stores ∷ time ∷ desired ∷ id ∷ uid ∷ list ∷ (sliceVal (buffer .ptr) (length (buffer .now))) ∷ []) (Back α l14 δ) (known α l14 δ) (and-then ! (load ! (from ! (stop !)) (look ! 8 refl)) (and-then ! (load ! (from ! (stop !)) (look ! 35 refl)) (and-then ! (load ! (from ! (stop !)) (look ! 33 refl)) (and-then ! (load ! (from ! (stop !)) (look ! 31 refl)) (and-then ! (load ! (from ! (stop !)) (look ! 29 refl)) (and-then ! (load ! (from ! (stop !)) (look ! 27 refl)) (and-then ! (load ! (from ! (stop !)) (look ! 25 refl)) (and-then ! (load ! (from ! (stop !)) (look ! 23 refl)) (and-then ! (load ! (from ! (stop !)) (look ! 21 refl)) (and-then ! (load ! (from ! (stop !)) (look ! 19 refl)) (and-then ! (load ! (from ! (stop !)) (look ! 17 refl)) (and-then ! (load ! (from ! (stop !)) (look ! 15 refl)) (and-then ! (load ! (from ! (stop !)) (look ! 4 refl)) (no-more !)))))))))))))) (λ v.
+        calls-from ! fm (raw (Pre α l14 δ)) (vptr l14 0 ∷ calls ∷ calling ∷ before ∷ kind ∷ held ∷ stores ∷ time ∷ desired ∷ id ∷ uid ∷ list ∷ (sliceVal (buffer .ptr) (length (buffer .now))) ∷ []) (Back α l14 δ) (known α l14 δ) (and-then ! (load ! (from ! (stop !)) (look ! 8 refl)) (and-then ! (load ! (from ! (stop !)) (look ! 35 refl)) (and-then ! (load ! (from ! (stop !)) (look ! 33 refl)) (and-then ! (load ! (from ! (stop !)) (look ! 31 refl)) (and-then ! (load ! (from ! (stop !)) (look ! 29 refl)) (and-then ! (load ! (from ! (stop !)) (look ! 27 refl)) (and-then ! (load ! (from ! (stop !)) (look ! 25 refl)) (and-then ! (load ! (from ! (stop !)) (look ! 23 refl)) (and-then ! (load ! (from ! (stop !)) (look ! 21 refl)) (and-then ! (load ! (from ! (stop !)) (look ! 19 refl)) (and-then ! (load ! (from ! (stop !)) (look ! 17 refl)) (and-then ! (load ! (from ! (stop !)) (look ! 15 refl)) (and-then ! (load ! (from ! (stop !)) (look ! 4 refl)) (no-more !)))))))))))))) (λ v.
         use1 W (later (some (λ (r : Ans .Denot). ((‵ (flft (α ∷ []) fullShare) ⊛ raw Left) ⊛ ‵ (Ans .own r (v ∷ []))) ⊛ raw (Ensured α l14 δ r)))) (comes-back α l14 δ v) $ await ! tt $ pick ! (λ r. split ! $ move ! (1 ∷ []) $
         use1 W (some (λ (w : Rec .Denot). some (λ (last : List ℕ). given (Says r w last) (‵ (fres δ (Rec .coded .code w)) ⊛ raw (Last last))))) (said-of α l14 δ r) $ pick ! (λ w. pick ! (λ last. learn ! (λ e. split ! $ move ! (2 ∷ []) $ split ! $ move ! (1 ∷ 0 ∷ 2 ∷ 4 ∷ 3 ∷ []) $ peeks ! Ans (Is Ans) (shows 𝓤 H A Ans) r (v ∷ []) (λ is.
         -- [what the answer owns; the tokens; the last value; the lender's part; the buffer's last list; the locals]
@@ -166,7 +166,7 @@ module _ (Rec Ans : RattleType) (rec : Rec .Denot → Val) (ans : Ans .Denot →
 
 -- what is had at exit: nothing, but for the buffer's last list
 abbrev stayed : Stays (self.ended .signature .params) (self.ended .kept)
-stayed = (stay-dropped (plain (λ _. Rec.the-row)) yes, (stay-dropped (plain (λ _. u64)) yes, (stay-dropped (plain (λ _. bool)) yes, (stay-dropped (plain (λ _. Ans.the-row)) yes, (stay-dropped (plain (λ _. Put·.the-row)) yes, (stay-dropped (plain (λ _. usize)) yes, (stay-dropped (plain (λ _. bool)) yes, (stay-dropped (plain (λ _. u64)) yes, (stay-dropped (plain (λ _. PollInterval·.the-row)) yes, (stay-dropped (plain (λ _. u64)) yes, (stay-dropped (ArrayOf (plain (λ _. u8)) (λ _. tt) 32) yes, (stay-dropped (shrSliceOf (0 ∷ []) tt (plain (λ _. u8))) yes, (gave-slice (1 ∷ []) tt (plain (λ _. u8)), tt)))))))))))))
+stayed = (stay-dropped (plain (λ _. Rec.the-row)) yes, (stay-dropped (plain (λ _. u64)) yes, (stay-dropped (plain (λ _. bool)) yes, (stay-dropped (plain (λ _. Ans.the-row)) yes, (stay-dropped (plain (λ _. Kind·.the-row)) yes, (stay-dropped (plain (λ _. usize)) yes, (stay-dropped (plain (λ _. bool)) yes, (stay-dropped (plain (λ _. u64)) yes, (stay-dropped (plain (λ _. PollInterval·.the-row)) yes, (stay-dropped (plain (λ _. u64)) yes, (stay-dropped (ArrayOf (plain (λ _. u8)) (λ _. tt) 32) yes, (stay-dropped (shrSliceOf (0 ∷ []) tt (plain (λ _. u8))) yes, (gave-slice (1 ∷ []) tt (plain (λ _. u8)), tt)))))))))))))
 
 -- the machine values of a record, of an answer and of the two
 abbrev rec : Association → Val
@@ -185,13 +185,13 @@ made r w is g = LL.owes Out.the-type Out′.the-laws (record { answer = r; assoc
 abbrev Core : {M : Type 1} (𝓤 : URA M) (H : Heap 𝓤) (A : Atoms 𝓤) (at-mem : Memory → SProp 𝓤) (run : Routine → Fun 𝓤) → Contract 𝓤
 Core 𝓤 H A at-mem run = tripleOf 𝓤 H A core.signature (core.spec 𝓤 H A at-mem run)
 
-module _ {M : Type 1} (𝓤 : URA M) (H : Heap 𝓤) (A : Atoms 𝓤) (W : Given 𝓤 H A) (at-mem : Memory → SProp 𝓤) (run : Routine → Fun 𝓤) (κ1 κ2 : Lft) (q1 q2 : Share) (h : Association) (calls : ℕ) (calling : Bool) (before : TimerAnswer) (put : Put) (held : ℕ) (stores : Bool) (time : ℕ) (desired : PollInterval) (id : ℕ) (uid : List ℕ) (list : RefT (List ℕ)) (buffer : RefT (List ℕ))
-    (h-is : Is Rec.the-row h (rec h ∷ [])) (calls-is : Is (u64) calls (vint w64 calls ∷ [])) (calling-is : Is (bool) calling (vbool calling ∷ [])) (before-is : Is (Ans.the-row) before (EL.val Ans.the-type Ans′.the-laws before ∷ [])) (put-is : Is (Put·.the-row) put (LL.val Put·.the-type Put·′.the-laws put ∷ [])) (held-is : Is (usize) held (vint w64 held ∷ [])) (stores-is : Is (bool) stores (vbool stores ∷ [])) (time-is : Is (u64) time (vint w64 time ∷ [])) (desired-is : Is (PollInterval·.the-row) desired (LL.val PollInterval·.the-type PollInterval·′.the-laws desired ∷ [])) (id-is : Is (u64) id (vint w64 id ∷ [])) (uid-is : Is (Array u8 32) uid (only (array-vals (uint-vals w8) uid) ∷ [])) (list-is : Is (ShrSlice (named 0) κ1 u8) list (sliceVal (list .ptr) (length (list .now)) ∷ [])) (buffer-is : Is (MutSlice (named 1) κ2 u8) buffer (sliceVal (buffer .ptr) (length (buffer .now)) ∷ [])) where
-  abbrev z : ℕ × (Bool × (TimerAnswer × (Put × (ℕ × (Bool × (ℕ × (PollInterval × (ℕ × (List ℕ × (RefT (List ℕ) × (RefT (List ℕ) × Unit {0})))))))))))
-  z = (calls, (calling, (before, (put, (held, (stores, (time, (desired, (id, (uid, (list, (buffer, tt))))))))))))
+module _ {M : Type 1} (𝓤 : URA M) (H : Heap 𝓤) (A : Atoms 𝓤) (W : Given 𝓤 H A) (at-mem : Memory → SProp 𝓤) (run : Routine → Fun 𝓤) (κ1 κ2 : Lft) (q1 q2 : Share) (h : Association) (calls : ℕ) (calling : Bool) (before : TimerAnswer) (kind : Kind) (held : ℕ) (stores : Bool) (time : ℕ) (desired : PollInterval) (id : ℕ) (uid : List ℕ) (list : RefT (List ℕ)) (buffer : RefT (List ℕ))
+    (h-is : Is Rec.the-row h (rec h ∷ [])) (calls-is : Is (u64) calls (vint w64 calls ∷ [])) (calling-is : Is (bool) calling (vbool calling ∷ [])) (before-is : Is (Ans.the-row) before (EL.val Ans.the-type Ans′.the-laws before ∷ [])) (kind-is : Is (Kind·.the-row) kind (LL.val Kind·.the-type Kind·′.the-laws kind ∷ [])) (held-is : Is (usize) held (vint w64 held ∷ [])) (stores-is : Is (bool) stores (vbool stores ∷ [])) (time-is : Is (u64) time (vint w64 time ∷ [])) (desired-is : Is (PollInterval·.the-row) desired (LL.val PollInterval·.the-type PollInterval·′.the-laws desired ∷ [])) (id-is : Is (u64) id (vint w64 id ∷ [])) (uid-is : Is (Array u8 32) uid (only (array-vals (uint-vals w8) uid) ∷ [])) (list-is : Is (ShrSlice (named 0) κ1 u8) list (sliceVal (list .ptr) (length (list .now)) ∷ [])) (buffer-is : Is (MutSlice (named 1) κ2 u8) buffer (sliceVal (buffer .ptr) (length (buffer .now)) ∷ [])) where
+  abbrev z : ℕ × (Bool × (TimerAnswer × (Kind × (ℕ × (Bool × (ℕ × (PollInterval × (ℕ × (List ℕ × (RefT (List ℕ) × (RefT (List ℕ) × Unit {0})))))))))))
+  z = (calls, (calling, (before, (kind, (held, (stores, (time, (desired, (id, (uid, (list, (buffer, tt))))))))))))
 
   abbrev zv : List Val × (List Val × (List Val × (List Val × (List Val × (List Val × (List Val × (List Val × (List Val × (List Val × (List Val × (List Val × Unit {0})))))))))))
-  zv = (vint w64 calls ∷ [], (vbool calling ∷ [], (EL.val Ans.the-type Ans′.the-laws before ∷ [], (LL.val Put·.the-type Put·′.the-laws put ∷ [], (vint w64 held ∷ [], (vbool stores ∷ [], (vint w64 time ∷ [], (LL.val PollInterval·.the-type PollInterval·′.the-laws desired ∷ [], (vint w64 id ∷ [], (only (array-vals (uint-vals w8) uid) ∷ [], (sliceVal (list .ptr) (length (list .now)) ∷ [], (sliceVal (buffer .ptr) (length (buffer .now)) ∷ [], tt))))))))))))
+  zv = (vint w64 calls ∷ [], (vbool calling ∷ [], (EL.val Ans.the-type Ans′.the-laws before ∷ [], (LL.val Kind·.the-type Kind·′.the-laws kind ∷ [], (vint w64 held ∷ [], (vbool stores ∷ [], (vint w64 time ∷ [], (LL.val PollInterval·.the-type PollInterval·′.the-laws desired ∷ [], (vint w64 id ∷ [], (only (array-vals (uint-vals w8) uid) ∷ [], (sliceVal (list .ptr) (length (list .now)) ∷ [], (sliceVal (buffer .ptr) (length (buffer .now)) ∷ [], tt))))))))))))
 
   abbrev Post : Val → SProp 𝓤
   Post = walkOf 𝓤 H A self.ended stayed (self.clauses 𝓤 H A at-mem run) .post (((κ1, (κ2, tt)), (q1, (q2, tt)), tt, (h, z), (rec h ∷ [], zv)), tt)
@@ -207,14 +207,14 @@ module _ {M : Type 1} (𝓤 : URA M) (H : Heap 𝓤) (A : Atoms 𝓤) (W : Given
   lent l δ = record { ptr = (l, 0); name = δ; now = h }
 
   abbrev Own : SProp 𝓤
-  Own = mean 𝓤 H A (‵ (owns (u64 ∷ bool ∷ Ans.the-row ∷ Put·.the-row ∷ usize ∷ bool ∷ u64 ∷ PollInterval·.the-row ∷ u64 ∷ Array u8 32 ∷ ShrSlice (named 0) κ1 u8 ∷ MutSlice (named 1) κ2 u8 ∷ []) z zv) ⊛ (‵ (flft κ1 q1) ⊛ ‵ (flft κ2 q2) ⊛ ‵ ftrue))
+  Own = mean 𝓤 H A (‵ (owns (u64 ∷ bool ∷ Ans.the-row ∷ Kind·.the-row ∷ usize ∷ bool ∷ u64 ∷ PollInterval·.the-row ∷ u64 ∷ Array u8 32 ∷ ShrSlice (named 0) κ1 u8 ∷ MutSlice (named 1) κ2 u8 ∷ []) z zv) ⊛ (‵ (flft κ1 q1) ⊛ ‵ (flft κ2 q2) ⊛ ‵ ftrue))
 
   abbrev to-core : ℕ → ℕ → GName → Core 𝓤 H A at-mem run .Ghost
   to-core α l δ = (((α ∷ [], (κ1, (κ2, tt))), (fullShare, (q1, (q2, tt))), tt, (lent l δ, z), (vptr l 0 ∷ [], zv)), tt)
 
   goes-core : (α l : ℕ) (δ : GName) → ent 𝓤 (⋆ 𝓤 H A (‵ (flft (α ∷ []) fullShare) ∷ ‵ (MutRef (named 0) (α ∷ []) Rec.the-row .own (lent l δ) (vptr l 0 ∷ [])) ∷ raw Own ∷ [])) (Core 𝓤 H A at-mem run .pre (to-core α l δ))
   goes-core α l δ =
-      qed W (‵ (flft (α ∷ []) fullShare) ∷ ‵ (MutRef (named 0) (α ∷ []) Rec.the-row .own (lent l δ) (vptr l 0 ∷ [])) ∷ (‵ (owns (u64 ∷ bool ∷ Ans.the-row ∷ Put·.the-row ∷ usize ∷ bool ∷ u64 ∷ PollInterval·.the-row ∷ u64 ∷ Array u8 32 ∷ ShrSlice (named 0) κ1 u8 ∷ MutSlice (named 1) κ2 u8 ∷ []) z zv) ⊛ (‵ (flft κ1 q1) ⊛ ‵ (flft κ2 q2) ⊛ ‵ ftrue)) ∷ []) ∵
+      qed W (‵ (flft (α ∷ []) fullShare) ∷ ‵ (MutRef (named 0) (α ∷ []) Rec.the-row .own (lent l δ) (vptr l 0 ∷ [])) ∷ (‵ (owns (u64 ∷ bool ∷ Ans.the-row ∷ Kind·.the-row ∷ usize ∷ bool ∷ u64 ∷ PollInterval·.the-row ∷ u64 ∷ Array u8 32 ∷ ShrSlice (named 0) κ1 u8 ∷ MutSlice (named 1) κ2 u8 ∷ []) z zv) ⊛ (‵ (flft κ1 q1) ⊛ ‵ (flft κ2 q2) ⊛ ‵ ftrue)) ∷ []) ∵
       move ! (2 ∷ []) $ split ! $ move ! (3 ∷ 0 ∷ []) $ fjoin ! $ move ! (2 ∷ 1 ∷ []) $ join ! $ join ! $ frame ! $ done !
 
   abbrev Ensured : ℕ → ℕ → GName → TimerAnswer → SProp 𝓤
@@ -235,23 +235,23 @@ module _ {M : Type 1} (𝓤 : URA M) (H : Heap 𝓤) (A : Atoms 𝓤) (W : Given
       show ! (λ (last : List ℕ). guard 𝓤 ((Unit {0}) × (length last ≡ length (buffer .now))) (mean 𝓤 H A (‵ (fres δ (Rec.the-row .coded .code (w .0))) ⊛ raw (Last last)))) (w .1 .1 .1 .1 .1 .1 .1 .1 .1 .1 .1 .1 .0) $ check ! (e, long) $ move ! (1 ∷ 0 ∷ []) $ frame ! $ done !)))
 
   module _ (C : Calls 𝓤 H) (Λ : Loops 𝓤 H) (fm : FmC 𝓤 H (W .laws) C) (known : Triple 𝓤 (C #calls·timers) (Core 𝓤 H A at-mem run)) where
-    walk-here : ent 𝓤 (onEntry 𝓤 H A self.signature (κ1, (κ2, tt)) (q1, (q2, tt)) (h, z) (rec h ∷ [], zv)) (WpFn 𝓤 H C Λ code.function (rec h ∷ vint w64 calls ∷ vbool calling ∷ EL.val Ans.the-type Ans′.the-laws before ∷ LL.val Put·.the-type Put·′.the-laws put ∷ vint w64 held ∷ vbool stores ∷ vint w64 time ∷ LL.val PollInterval·.the-type PollInterval·′.the-laws desired ∷ vint w64 id ∷ only (array-vals (uint-vals w8) uid) ∷ sliceVal (list .ptr) (length (list .now)) ∷ sliceVal (buffer .ptr) (length (buffer .now)) ∷ []) Post)
+    walk-here : ent 𝓤 (onEntry 𝓤 H A self.signature (κ1, (κ2, tt)) (q1, (q2, tt)) (h, z) (rec h ∷ [], zv)) (WpFn 𝓤 H C Λ code.function (rec h ∷ vint w64 calls ∷ vbool calling ∷ EL.val Ans.the-type Ans′.the-laws before ∷ LL.val Kind·.the-type Kind·′.the-laws kind ∷ vint w64 held ∷ vbool stores ∷ vint w64 time ∷ LL.val PollInterval·.the-type PollInterval·′.the-laws desired ∷ vint w64 id ∷ only (array-vals (uint-vals w8) uid) ∷ sliceVal (list .ptr) (length (list .now)) ∷ sliceVal (buffer .ptr) (length (buffer .now)) ∷ []) Post)
     walk-here =
-        qed W ((‵ (flft κ1 q1) ⊛ ‵ (flft κ2 q2) ⊛ ‵ ftrue) ∷ ‵ (owns (Rec.the-row ∷ u64 ∷ bool ∷ Ans.the-row ∷ Put·.the-row ∷ usize ∷ bool ∷ u64 ∷ PollInterval·.the-row ∷ u64 ∷ Array u8 32 ∷ ShrSlice (named 0) κ1 u8 ∷ MutSlice (named 1) κ2 u8 ∷ []) (h, z) (rec h ∷ [], zv)) ∷ []) ∵ move ! (1 ∷ []) $ fsplit ! $ drop ! $ join ! $
-        by ! (walk Rec.the-row Ans.the-row rec ans (99 ∷ 97 ∷ 108 ∷ 108 ∷ 115 ∷ 58 ∷ 58 ∷ 84 ∷ 105 ∷ 109 ∷ 101 ∷ 114 ∷ 115 ∷ 79 ∷ 117 ∷ 116 ∷ []) (tyNamed (97 ∷ 115 ∷ 115 ∷ 111 ∷ 99 ∷ 105 ∷ 97 ∷ 116 ∷ 105 ∷ 111 ∷ 110 ∷ 58 ∷ 58 ∷ 65 ∷ 115 ∷ 115 ∷ 111 ∷ 99 ∷ 105 ∷ 97 ∷ 116 ∷ 105 ∷ 111 ∷ 110 ∷ [], [])) Rec′.mir Ans′.mir (tyInt w64) tyBool Ans′.mir Put·′.mir (tyInt w64) tyBool (tyInt w64) PollInterval·′.mir (tyInt w64) (tyArray (tyInt w8) 32) (tyStruct (38 ∷ 91 ∷ 93 ∷ []) (tcons (tyRef (named 0) imm (tyInt w8)) (tcons (tyInt w64) tnil))) refl
+        qed W ((‵ (flft κ1 q1) ⊛ ‵ (flft κ2 q2) ⊛ ‵ ftrue) ∷ ‵ (owns (Rec.the-row ∷ u64 ∷ bool ∷ Ans.the-row ∷ Kind·.the-row ∷ usize ∷ bool ∷ u64 ∷ PollInterval·.the-row ∷ u64 ∷ Array u8 32 ∷ ShrSlice (named 0) κ1 u8 ∷ MutSlice (named 1) κ2 u8 ∷ []) (h, z) (rec h ∷ [], zv)) ∷ []) ∵ move ! (1 ∷ []) $ fsplit ! $ drop ! $ join ! $
+        by ! (walk Rec.the-row Ans.the-row rec ans (99 ∷ 97 ∷ 108 ∷ 108 ∷ 115 ∷ 58 ∷ 58 ∷ 84 ∷ 105 ∷ 109 ∷ 101 ∷ 114 ∷ 115 ∷ 79 ∷ 117 ∷ 116 ∷ []) (tyNamed (97 ∷ 115 ∷ 115 ∷ 111 ∷ 99 ∷ 105 ∷ 97 ∷ 116 ∷ 105 ∷ 111 ∷ 110 ∷ 58 ∷ 58 ∷ 65 ∷ 115 ∷ 115 ∷ 111 ∷ 99 ∷ 105 ∷ 97 ∷ 116 ∷ 105 ∷ 111 ∷ 110 ∷ [], [])) Rec′.mir Ans′.mir (tyInt w64) tyBool Ans′.mir Kind·′.mir (tyInt w64) tyBool (tyInt w64) PollInterval·′.mir (tyInt w64) (tyArray (tyInt w8) 32) (tyStruct (38 ∷ 91 ∷ 93 ∷ []) (tcons (tyRef (named 0) imm (tyInt w8)) (tcons (tyInt w64) tnil))) refl
         (LL.tells Rec.the-type Rec′.the-laws) (EL.tells Ans.the-type Ans′.the-laws)
         (λ y g. LL.lawful Rec.the-type Rec′.the-laws 𝓤 H A W .typed y _ g .0) (λ y v g. EL.lawful Ans.the-type Ans′.the-laws 𝓤 H A W tt .typed y _ g .0) (λ r w is g. LL.lawful Out.the-type Out′.the-laws 𝓤 H A W .typed (record { answer = r; association = w }) _ (made r w is g) .0)
-        𝓤 H A W (LL.makes Rec.the-type Rec′.the-plain 𝓤 H A) h (vint w64 calls) (vbool calling) (EL.val Ans.the-type Ans′.the-laws before) (LL.val Put·.the-type Put·′.the-laws put) (vint w64 held) (vbool stores) (vint w64 time) (LL.val PollInterval·.the-type PollInterval·′.the-laws desired) (vint w64 id) (only (array-vals (uint-vals w8) uid)) (sliceVal (list .ptr) (length (list .now))) buffer h-is
-        (uint-lawful 𝓤 H A W w64 .typed calls _ calls-is .0) (bool-lawful 𝓤 H A W .typed calling _ calling-is .0) (EL.lawful Ans.the-type Ans′.the-laws 𝓤 H A W tt .typed before _ before-is .0) (LL.lawful Put·.the-type Put·′.the-laws 𝓤 H A W .typed put _ put-is .0) (uint-lawful 𝓤 H A W w64 .typed held _ held-is .0) (bool-lawful 𝓤 H A W .typed stores _ stores-is .0) (uint-lawful 𝓤 H A W w64 .typed time _ time-is .0) (LL.lawful PollInterval·.the-type PollInterval·′.the-laws 𝓤 H A W .typed desired _ desired-is .0) (uint-lawful 𝓤 H A W w64 .typed id _ id-is .0) (array-lawful 𝓤 H A W u8 (uint-lawful 𝓤 H A W w8) 32 .typed uid _ uid-is .0) (shr-slice-lawful 𝓤 H A W (named 0) κ1 u8 .typed list _ list-is .0) (mut-slice-lawful 𝓤 H A W (named 1) κ2 u8 .typed buffer _ buffer-is .0)
+        𝓤 H A W (LL.makes Rec.the-type Rec′.the-plain 𝓤 H A) h (vint w64 calls) (vbool calling) (EL.val Ans.the-type Ans′.the-laws before) (LL.val Kind·.the-type Kind·′.the-laws kind) (vint w64 held) (vbool stores) (vint w64 time) (LL.val PollInterval·.the-type PollInterval·′.the-laws desired) (vint w64 id) (only (array-vals (uint-vals w8) uid)) (sliceVal (list .ptr) (length (list .now))) buffer h-is
+        (uint-lawful 𝓤 H A W w64 .typed calls _ calls-is .0) (bool-lawful 𝓤 H A W .typed calling _ calling-is .0) (EL.lawful Ans.the-type Ans′.the-laws 𝓤 H A W tt .typed before _ before-is .0) (LL.lawful Kind·.the-type Kind·′.the-laws 𝓤 H A W .typed kind _ kind-is .0) (uint-lawful 𝓤 H A W w64 .typed held _ held-is .0) (bool-lawful 𝓤 H A W .typed stores _ stores-is .0) (uint-lawful 𝓤 H A W w64 .typed time _ time-is .0) (LL.lawful PollInterval·.the-type PollInterval·′.the-laws 𝓤 H A W .typed desired _ desired-is .0) (uint-lawful 𝓤 H A W w64 .typed id _ id-is .0) (array-lawful 𝓤 H A W u8 (uint-lawful 𝓤 H A W w8) 32 .typed uid _ uid-is .0) (shr-slice-lawful 𝓤 H A W (named 0) κ1 u8 .typed list _ list-is .0) (mut-slice-lawful 𝓤 H A W (named 1) κ2 u8 .typed buffer _ buffer-is .0)
         Own (mean 𝓤 H A (‵ (flft κ1 q1) ⊛ ‵ (flft κ2 q2) ⊛ ‵ ftrue)) Last (λ α l δ. Core 𝓤 H A at-mem run .pre (to-core α l δ)) (λ α l δ. Core 𝓤 H A at-mem run .post (to-core α l δ)) Post Ensured (λ r w last. (Unit {0}) × (length last ≡ length (buffer .now))) goes-core comes-back said-of exits C Λ fm (λ α l δ. known (to-core α l δ)))
 
 module _ {M : Type 1} (𝓤 : URA M) (H : Heap 𝓤) (A : Atoms 𝓤) (W : Given 𝓤 H A) (at-mem : Memory → SProp 𝓤) (run : Routine → Fun 𝓤) where
   walks : (C : Calls 𝓤 H) (Λ : Loops 𝓤 H) → FmC 𝓤 H (W .laws) C → Triple 𝓤 (C #calls·timers) (Core 𝓤 H A at-mem run) → Walks 𝓤 H A self.ended stayed (WpFn 𝓤 H C Λ code.function) (self.clauses 𝓤 H A at-mem run)
-  walks C Λ fm known = walked 𝓤 H A self.ended stayed (self.clauses 𝓤 H A at-mem run) (WpFn 𝓤 H C Λ code.function) (λ κs. (LL.vals Rec.the-type Rec′.the-laws, (uint-vals w64, (bool-vals, (EL.vals Ans.the-type Ans′.the-laws, (LL.vals Put·.the-type Put·′.the-laws, (uint-vals w64, (bool-vals, (uint-vals w64, (LL.vals PollInterval·.the-type PollInterval·′.the-laws, (uint-vals w64, (array-vals (uint-vals w8), (slice-vals, (slice-vals, tt)))))))))))))) (λ κs. (LL.tells Rec.the-type Rec′.the-laws, (uint-tells w64, (bool-tells, (EL.tells Ans.the-type Ans′.the-laws, (LL.tells Put·.the-type Put·′.the-laws, (uint-tells w64, (bool-tells, (uint-tells w64, (LL.tells PollInterval·.the-type PollInterval·′.the-laws, (uint-tells w64, (array-tells u8 (uint-vals w8) (uint-tells w8) 32, (shr-slice-tells (named 0) (κs .0) u8, (mut-slice-tells (named 1) (κs .1 .0) u8, tt))))))))))))))
+  walks C Λ fm known = walked 𝓤 H A self.ended stayed (self.clauses 𝓤 H A at-mem run) (WpFn 𝓤 H C Λ code.function) (λ κs. (LL.vals Rec.the-type Rec′.the-laws, (uint-vals w64, (bool-vals, (EL.vals Ans.the-type Ans′.the-laws, (LL.vals Kind·.the-type Kind·′.the-laws, (uint-vals w64, (bool-vals, (uint-vals w64, (LL.vals PollInterval·.the-type PollInterval·′.the-laws, (uint-vals w64, (array-vals (uint-vals w8), (slice-vals, (slice-vals, tt)))))))))))))) (λ κs. (LL.tells Rec.the-type Rec′.the-laws, (uint-tells w64, (bool-tells, (EL.tells Ans.the-type Ans′.the-laws, (LL.tells Kind·.the-type Kind·′.the-laws, (uint-tells w64, (bool-tells, (uint-tells w64, (LL.tells PollInterval·.the-type PollInterval·′.the-laws, (uint-tells w64, (array-tells u8 (uint-vals w8) (uint-tells w8) 32, (shr-slice-tells (named 0) (κs .0) u8, (mut-slice-tells (named 1) (κs .1 .0) u8, tt))))))))))))))
       (λ κs qs bounds a g are. via 𝓤 _ (fst∗ 𝓤 _ (emp 𝓤)) (walk-here 𝓤 H A W at-mem run (κs .0) (κs .1 .0) (qs .0) (qs .1 .0) (a .0) (a .1 .0) (a .1 .1 .0) (a .1 .1 .1 .0) (a .1 .1 .1 .1 .0) (a .1 .1 .1 .1 .1 .0) (a .1 .1 .1 .1 .1 .1 .0) (a .1 .1 .1 .1 .1 .1 .1 .0) (a .1 .1 .1 .1 .1 .1 .1 .1 .0) (a .1 .1 .1 .1 .1 .1 .1 .1 .1 .0) (a .1 .1 .1 .1 .1 .1 .1 .1 .1 .1 .0) (a .1 .1 .1 .1 .1 .1 .1 .1 .1 .1 .1 .0) (a .1 .1 .1 .1 .1 .1 .1 .1 .1 .1 .1 .1 .0) (are .0) (are .1 .0) (are .1 .1 .0) (are .1 .1 .1 .0) (are .1 .1 .1 .1 .0) (are .1 .1 .1 .1 .1 .0) (are .1 .1 .1 .1 .1 .1 .0) (are .1 .1 .1 .1 .1 .1 .1 .0) (are .1 .1 .1 .1 .1 .1 .1 .1 .0) (are .1 .1 .1 .1 .1 .1 .1 .1 .1 .0) (are .1 .1 .1 .1 .1 .1 .1 .1 .1 .1 .0) (are .1 .1 .1 .1 .1 .1 .1 .1 .1 .1 .1 .0) (are .1 .1 .1 .1 .1 .1 .1 .1 .1 .1 .1 .1 .0) C Λ fm known))
 
   goes : AllGo 𝓤 H A W 2 (self.signature .params) (self.ended .kept) stayed
-  goes = (goes-dropped 𝓤 H A W 2 (plain (λ _. Rec.the-row)) yes (λ κs x f. refl), (goes-dropped 𝓤 H A W 2 (plain (λ _. u64)) yes (λ κs x f. refl), (goes-dropped 𝓤 H A W 2 (plain (λ _. bool)) yes (λ κs x f. refl), (goes-dropped 𝓤 H A W 2 (plain (λ _. Ans.the-row)) yes (λ κs x f. refl), (goes-dropped 𝓤 H A W 2 (plain (λ _. Put·.the-row)) yes (λ κs x f. refl), (goes-dropped 𝓤 H A W 2 (plain (λ _. usize)) yes (λ κs x f. refl), (goes-dropped 𝓤 H A W 2 (plain (λ _. bool)) yes (λ κs x f. refl), (goes-dropped 𝓤 H A W 2 (plain (λ _. u64)) yes (λ κs x f. refl), (goes-dropped 𝓤 H A W 2 (plain (λ _. PollInterval·.the-row)) yes (λ κs x f. refl), (goes-dropped 𝓤 H A W 2 (plain (λ _. u64)) yes (λ κs x f. refl), (goes-dropped 𝓤 H A W 2 (ArrayOf (plain (λ _. u8)) (λ _. tt) 32) yes (λ κs x f. refl), (goes-dropped 𝓤 H A W 2 (shrSliceOf (0 ∷ []) tt (plain (λ _. u8))) yes (λ κs x f. refl), (goes-gave-slice 𝓤 H A W 2 1 tt (plain (λ _. u8)), tt)))))))))))))
+  goes = (goes-dropped 𝓤 H A W 2 (plain (λ _. Rec.the-row)) yes (λ κs x f. refl), (goes-dropped 𝓤 H A W 2 (plain (λ _. u64)) yes (λ κs x f. refl), (goes-dropped 𝓤 H A W 2 (plain (λ _. bool)) yes (λ κs x f. refl), (goes-dropped 𝓤 H A W 2 (plain (λ _. Ans.the-row)) yes (λ κs x f. refl), (goes-dropped 𝓤 H A W 2 (plain (λ _. Kind·.the-row)) yes (λ κs x f. refl), (goes-dropped 𝓤 H A W 2 (plain (λ _. usize)) yes (λ κs x f. refl), (goes-dropped 𝓤 H A W 2 (plain (λ _. bool)) yes (λ κs x f. refl), (goes-dropped 𝓤 H A W 2 (plain (λ _. u64)) yes (λ κs x f. refl), (goes-dropped 𝓤 H A W 2 (plain (λ _. PollInterval·.the-row)) yes (λ κs x f. refl), (goes-dropped 𝓤 H A W 2 (plain (λ _. u64)) yes (λ κs x f. refl), (goes-dropped 𝓤 H A W 2 (ArrayOf (plain (λ _. u8)) (λ _. tt) 32) yes (λ κs x f. refl), (goes-dropped 𝓤 H A W 2 (shrSliceOf (0 ∷ []) tt (plain (λ _. u8))) yes (λ κs x f. refl), (goes-gave-slice 𝓤 H A W 2 1 tt (plain (λ _. u8)), tt)))))))))))))
 
 meets : {M : Type 1} (𝓤 : URA M) (H : Heap 𝓤) (A : Atoms 𝓤) → Given 𝓤 H A → (at-mem : Memory → SProp 𝓤) (run : Routine → Fun 𝓤) (𝓣 : Tables 𝓤 H) → Triple 𝓤 (𝓣 .C #calls·timers) (Core 𝓤 H A at-mem run)
     → Meets 𝓤 H A self.signature (WpFn 𝓤 H (𝓣 .C) (𝓣 .Λ) code.function) (self.spec 𝓤 H A at-mem run)
