@@ -303,6 +303,9 @@ def association(log, server, packets, midnight):
         log.say('NTS: the cookies are those that the requests of this capture carried; new ones come encrypted in the replies, and stand in list= of a reply in time')
         log.say('NTS: decrypted bytes (plain=) are left out, since a capture has none; that each 0404 field deciphers is taken as given')
     log.record = log.rules.Record()
+    if log.rules.answer(log.rules.Record(), new())[1].split(' ')[1] != '0' and start != 'v4':
+        log.say('the requests are of an association that starts as %s, which the rules refuse; v4 stands here instead' % start)
+        start = 'v4'
     log.ask(new())
     given, asked = min(8, len(cookies)), None
     for asks, p in packets:

@@ -8,11 +8,13 @@ import human
 import meanings
 import story
 
+MAKES = ('new', 'metered', 'load')  # the commands that make an association
 LINES = 400      # lines of a log that its list on the page has
 SPACING = 15     # per cent of a strip's width between two times of its axis
 BREAK = 7        # a break's width, per cent of what is drawn without breaks
 NEAR = 1.3       # marks of a row that are nearer than this, in per cent, stand side by side
 BESIDE = 13      # pixels between them
+NARROW = 380     # pixels of a strip on a narrow screen
 WORDS = dict(good='measured', late='too late, or nothing was asked', foreign='answers something else', broken='not a usable reply', kiss='the server declines',
              stop='the association gives up', caller='the call itself was wrong', quiet='other')
 # Each kind has a shape of its own, so that they can be told apart without colour.
@@ -33,7 +35,7 @@ class Lane:
 
     def __init__(self):
         self.marks, self.windows, self.reach, self.accepted = [], [], [], []
-        self.start = self.last = None
+        self.last = None
         self.up = self.at_up = self.offset = self.wall = self.reason = self.asked = None
 
     def end(self):
@@ -45,7 +47,7 @@ class Box:
     def __init__(self, name, path):
         self.name, self.path = name, path
         self.steps = story.told(path)
-        if not any(step.head in ('new', 'metered', 'load') and step.good() for step in self.steps):
+        if not any(step.head in MAKES and step.good() for step in self.steps):
             ends.die('%s has no association: no `new` in it was answered 0, so there is nothing to draw' % path)
         self.lanes = []
         self.read()
@@ -58,23 +60,20 @@ class Box:
         lane = Lane()
         self.lanes.append(lane)
         for step, then in zip(self.steps, later):
-            if step.head == 'new' and lane.last is not None and then is not None and then < lane.last:
+            if step.head in MAKES and lane.last is not None and then is not None and then < lane.last:
                 lane = Lane()
                 self.lanes.append(lane)
-            now = step.now if step.now is not None else lane.last if step.head != 'new' or lane.last is None and then is None else then
-            if now is None:
-                now = then if then is not None else 0
-            self.take(lane, step, now)
+            times = (step.now, then, lane.last) if step.head in MAKES else (step.now, lane.last, then)
+            self.take(lane, step, next((t for t in times if t is not None), 0))
 
     def take(self, lane, step, now):
-        lane.start = now if lane.start is None else min(lane.start, now)
         lane.last = now
         says = 'line %d, %s: %s' % (step.line, human.clock(now), story.sentence(step))
         wall = story.wall_time(step)
         says += '; wall clock ' + wall if wall else ''
         if step.error:
             lane.marks.append(Mark('caller', now, 'reply', says))
-        elif step.head == 'new':
+        elif step.head in MAKES:
             lane.up = lane.asked = lane.offset = None
             lane.marks.append(Mark('made' if step.good() else 'caller', now, 'made', says))
         elif step.head == 'timer' and step.number == 20:
@@ -92,7 +91,7 @@ class Box:
                 lane.marks.append(Mark('accepted', now, 'reply', says))
         elif step.number is not None and not step.good():
             lane.marks.append(Mark(step.kind, now, 'poll' if step.head == 'timer' else 'reply', says))
-        if (step.kind == 'stop' or step.head == 'new') and lane.accepted and lane.accepted[-1][1] is None and lane.accepted[-1][0] < now:
+        if (step.kind == 'stop' or step.head in MAKES) and lane.accepted and lane.accepted[-1][1] is None and lane.accepted[-1][0] < now:
             lane.accepted[-1][1] = now
             lane.up = None
         if step.kind == 'stop':
@@ -199,15 +198,19 @@ LANE = 74
 
 
 def side_by_side(marks, axis):
-    """the marks with their places, and how many pixels each stands beside its place, so that none covers another of its row"""
-    last, many = {}, {}
+    """the marks with their places, and how many pixels each stands beside its place, so that none covers another of its row and none leaves a narrow strip"""
+    groups, open_ = [], {}
     for mark in marks:
         where = axis.at(mark.at)
-        near = mark.row in last and last[mark.row] <= where < last[mark.row] + NEAR * (many[mark.row] + 1)
-        many[mark.row] = many[mark.row] + 1 if near else 0
-        if not near:
-            last[mark.row] = where
-        yield mark, last[mark.row] if near else where, many[mark.row] * BESIDE
+        group = open_.get(mark.row)
+        if group is None or not group[0] <= where < group[0] + NEAR * len(group[1]):
+            group = open_[mark.row] = (where, [])
+            groups.append(group)
+        group[1].append(mark)
+    for where, near in groups:
+        back = max(0, BESIDE * len(near) - (100 - where) / 100 * NARROW)
+        for k, mark in enumerate(near):
+            yield mark, where, round(BESIDE * k - back)
 
 
 def strip_svg(box, axis):
@@ -258,7 +261,7 @@ body{margin:0;padding:12px 16px 90px;background:var(--paper);color:var(--ink);fo
 h1{font-size:1.35em;margin:.2em 0}h2{font-size:1.05em;margin:1.2em 0 .3em}h3{font-size:1em;margin:0}p{margin:.3em 0}
 .soft{color:var(--soft)}a{color:inherit}
 table{border-collapse:collapse;width:100%}th,td{text-align:left;padding:3px 10px 3px 0;border-bottom:1px solid var(--rule);vertical-align:top}
-th{font-weight:600;color:var(--soft);font-size:.88em}td.n{white-space:nowrap;font-variant-numeric:tabular-nums}td.name{font-weight:600;overflow-wrap:anywhere}
+th{font-weight:600;color:var(--soft);font-size:.88em}td.n{white-space:nowrap;font-variant-numeric:tabular-nums}td.name{font-weight:600;overflow-wrap:anywhere;min-width:9.5em}
 .yes{color:var(--good);font-weight:600;white-space:nowrap}.no{color:var(--stop);font-weight:600;white-space:nowrap}
 .legend{display:flex;flex-wrap:wrap;gap:2px 16px;margin:.4em 0;padding:0;list-style:none;font-size:.88em}.legend svg{vertical-align:middle;margin-right:5px}
 section.box{border-top:1px solid var(--rule);padding:8px 0 4px;break-inside:avoid}
@@ -276,7 +279,9 @@ svg.strip:focus{outline:2px solid var(--poll);outline-offset:1px}
 .m:hover .hit,.m.at .hit{fill:var(--ink);fill-opacity:.18}.m:hover .window,.m.at .window{stroke:var(--ink)}
 details{font-size:.86em}summary{color:var(--soft);cursor:pointer}details ol{margin:.2em 0;padding:0;list-style:none;overflow-wrap:anywhere}
 #say{position:fixed;left:0;right:0;bottom:0;min-height:46px;padding:8px 16px;background:var(--panel);border-top:1px solid var(--rule);z-index:3;overflow-wrap:anywhere}
-@media (max-width:560px){body{padding:8px 8px 100px;font-size:14px}th,td{padding-right:6px}table{font-size:.92em}}
+@media (max-width:560px){body{padding:8px 8px 100px;font-size:14px}table,tbody{display:block}thead{position:absolute;left:-9999px}
+tr{display:grid;grid-template-columns:minmax(0,1fr) auto;gap:0 10px;border-bottom:1px solid var(--rule);padding:4px 0}td{border:0;padding:0}td:empty{display:none}
+td:nth-child(2),td:nth-child(4){text-align:right}td:nth-child(5){grid-column:1/-1}}
 @media print{:root{--ink:#000;--soft:#444;--paper:#fff;--panel:#fff;--rule:#999;--good:#007a5a;--late:#a86500;--foreign:#a3387f;--broken:#c2410c;--kiss:#0067a3;--stop:#b3001b;
 --caller:#b3001b;--reach:#666;--window:#cfe2f1;--poll:#1f5f99;--up:#e2f5ec}body{padding:0;font-size:10pt}#say,details,.how{display:none}.sticky{position:static}
 *{-webkit-print-color-adjust:exact;print-color-adjust:exact}svg.strip{border:1px solid #999}tr{break-inside:avoid}thead{display:table-header-group}}

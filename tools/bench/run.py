@@ -64,7 +64,7 @@ class Replay:
         self.long = False                 # the line under way is too long, and is passed on as it comes
         self.first = True
         self.windows = False              # the first line ends with a carriage return, as Windows writes lines: so do the others
-        self.send = b''
+        self.send = bytearray()           # what the program has not taken yet
         self.got = b''
 
     # -- what goes in
@@ -139,7 +139,7 @@ class Replay:
         reading, unread = True, None
         try:
             while True:
-                wants = [drill.stdout] + ([source] if reading and len(self.send) < 2**20 else [])
+                wants = [drill.stdout] + ([source] if reading and len(self.send) < 2**18 else [])
                 readable, writable, _ = select.select(wants, [drill.stdin] if self.send else [], [])
                 if drill.stdout in readable:
                     octets = os.read(drill.stdout.fileno(), 65536)
@@ -148,11 +148,12 @@ class Replay:
                     self.answers(octets)
                 if writable:
                     try:
-                        self.send = self.send[os.write(drill.stdin.fileno(), self.send):]
+                        del self.send[:os.write(drill.stdin.fileno(), self.send)]
                     except BlockingIOError:
                         pass
                     except BrokenPipeError:
-                        self.send, reading = b'', False
+                        self.send.clear()
+                        reading = False
                 if source in readable:
                     try:
                         octets = os.read(source, 65536)
