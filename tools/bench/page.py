@@ -14,7 +14,7 @@ SPACING = 15     # per cent of a strip's width between two times of its axis
 BREAK = 7        # a break's width, per cent of what is drawn without breaks
 NEAR = 1.3       # marks of a row that are nearer than this, in per cent, stand side by side
 BESIDE = 13      # pixels between them
-NARROW = 380     # pixels of a strip on a narrow screen
+SPREAD = 90      # per cent of a strip's width that its times take; the rest is room for marks that stand side by side at its end
 WORDS = dict(good='measured', late='too late, or nothing was asked', foreign='answers something else', broken='not a usable reply', kiss='the server declines',
              stop='the association gives up', caller='the call itself was wrong', quiet='other')
 # Each kind has a shape of its own, so that they can be told apart without colour.
@@ -157,16 +157,16 @@ class Axis:
         for a, b, from_ in self.parts:
             if t <= b:
                 if t >= a:
-                    return 1 + 97 * (from_ + t - a) / self.whole
+                    return 1 + SPREAD * (from_ + t - a) / self.whole
                 break
         for a, b, (from_, width) in self.breaks:
             if a <= t <= b:
-                return 1 + 97 * (from_ + width * (t - a) / (b - a)) / self.whole
-        return 1 if t < self.low else 98
+                return 1 + SPREAD * (from_ + width * (t - a) / (b - a)) / self.whole
+        return 1 if t < self.low else 1 + SPREAD
 
     def ticks(self):
         """times to write, none too near to another"""
-        share = self.whole * SPACING / 97
+        share = self.whole * SPACING / SPREAD
         steps = [s * 10**9 for s in (0.001, 0.01, 0.1, 1, 5, 10, 30, 60, 300, 600, 1800, 3600, 7200, 14400, 43200, 86400, 864000)]
         step = int(next((s for s in steps if s >= share), steps[-1]))
         out = []
@@ -198,7 +198,7 @@ LANE = 74
 
 
 def side_by_side(marks, axis):
-    """the marks with their places, and how many pixels each stands beside its place, so that none covers another of its row and none leaves a narrow strip"""
+    """the marks with their places, and how many pixels each stands beside its place, so that none covers another of its row"""
     groups, open_ = [], {}
     for mark in marks:
         where = axis.at(mark.at)
@@ -208,9 +208,8 @@ def side_by_side(marks, axis):
             groups.append(group)
         group[1].append(mark)
     for where, near in groups:
-        back = max(0, BESIDE * len(near) - (100 - where) / 100 * NARROW)
         for k, mark in enumerate(near):
-            yield mark, where, round(BESIDE * k - back)
+            yield mark, where, BESIDE * k
 
 
 def strip_svg(box, axis):
