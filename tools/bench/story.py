@@ -1,0 +1,208 @@
+"""A log with its answers, told: what each line asked, what the proved program answered, and how the record stood before and after. The record is the program's own
+word too: behind each line of the log stands a `show`, which changes nothing.
+
+A command, a number or a key of the record that this page does not know is passed on as it stands, so that a new one is readable before it has words here."""
+import subprocess
+
+import ends
+import human
+import meanings
+import program
+
+KIND_ERROR = 'caller'
+# How an answer's first word is told: where the number is good, and where it is not.
+TOLD = {'new': ('association made', 'association refused'), 'timer': ('poll sent', 'no poll'), 'reply': ('reply measured', 'reply refused'),
+        'reply5': ('reply measured', 'reply refused'), 'accept': ('source accepted', 'source not accepted'), 'collect': ('cookies collected', 'cookies not collected'),
+        'request': ('request written', 'request refused')}
+REPLIES = ('reply', 'reply5')
+
+
+class Step:
+    """a line that was asked, and its answer"""
+
+    def __init__(self, line, text, answer, before, after):
+        self.line, self.text, self.answer, self.before, self.after = line, text, answer, before, after
+        words = human.translated(text).split(' ')
+        self.head, self.given = words[0], dict(w.split('=', 1) for w in words[1:] if '=' in w)
+        said = answer.split(' ')
+        self.error = said[0] == 'error'
+        self.number = int(said[1]) if len(said) > 1 and said[1].isdigit() and not self.error else None
+        self.gave = dict(w.split('=', 1) for w in said[1:] if '=' in w)
+        self.row = meanings.row(self.head, self.number) if self.number is not None else None
+        self.kind = KIND_ERROR if self.error else self.row.kind if self.row else 'quiet'
+        now = self.given.get('now', '')
+        self.now = int(now) if now.isdigit() and not self.error else None
+
+    def good(self):
+        return self.kind == 'good'
+
+
+def record(answer):
+    return dict(w.split('=', 1) for w in answer.split(' ')[1:] if '=' in w)
+
+
+def told(name):
+    """the steps of a log"""
+    octets = ends.contents(name)
+    if octets[:2] in (b'\xff\xfe', b'\xfe\xff'):
+        ends.die('%s begins with the byte order mark (BOM) of UTF-16: save it as plain text (ASCII or UTF-8)' % name)
+    asked = [(n, text) for n, text in enumerate(human.lines_of(octets), 1) if text and not text.startswith('#')]
+    if not asked:
+        ends.die('%s has no command in it: is it a log of the drill?' % name)
+    sent = 'show\n' + ''.join(human.translated(text) + '\nshow\n' for _, text in asked)
+    run = subprocess.run(program.drill(), input=sent.encode('latin-1'), stdout=subprocess.PIPE, stderr=subprocess.PIPE)
+    said = run.stdout.decode('latin-1').split('\n')[:-1]
+    if run.returncode not in (ends.ALL_ANSWERED, ends.A_LINE_ERRED) or len(said) != 2 * len(asked) + 1:
+        ends.die('the program ended with %s and answered %d of the %d lines of %s' % (ends.wait_status(run.returncode), len(said) // 2, len(asked), name))
+    return [Step(n, text, said[2 * k + 1], record(said[2 * k]), record(said[2 * k + 2])) for k, (n, text) in enumerate(asked)]
+
+
+# ---- the record in words
+
+def bits(value):
+    return format(int(value), '08b')
+
+
+def every(exponent):
+    n = int(exponent)
+    return human.span(2**n * 10**9) if n >= 0 else '1/%d s' % 2**-n
+
+
+def pending(value):
+    if value == '-':
+        return 'nothing'
+    ident, _, deadline = value.split('/')
+    return '%s until %s' % (ident, human.clock(int(deadline)))
+
+
+# A key of `show`: its words and how its value is written. A key that is not here is shown as it stands.
+RECORD = {'reach': ('reach', bits), 'tries': ('tries', str), 'version': ('version', str), 'last': ('last poll', every), 'remote': ('remote minimum', every),
+          'pending': ('awaited', pending), 'denial': ('denial noted', str), 'stratum': ('stratum', str), 'refid': ('reference', human.address),
+          'read': ('reading place', str), 'held': ('cookies held', str), 'lens': ('cookie lengths', str), 'answered': ('last poll answered', str),
+          'unanswered': ('unanswered polls', str), 'capacity': ('capacity', str)}
+
+
+def field(key, value):
+    words, how = RECORD.get(key, (key, str))
+    try:
+        return words, how(value)
+    except ValueError:
+        return words, value
+
+
+def changes(step):
+    """what the line changed in the record, and nothing else"""
+    out = []
+    for key, value in step.after.items():
+        if step.before.get(key) != value:
+            words, now = field(key, value)
+            was = field(key, step.before[key])[1] if key in step.before else '?'
+            out.append('%s %s → %s' % (words, was, now))
+    return out
+
+
+# ---- why
+
+def octets(step):
+    try:
+        return bytes.fromhex(step.given.get('packet', ''))
+    except ValueError:
+        return b''
+
+
+def why_not_awaited(step):
+    awaited = step.before.get('pending', '-')
+    if awaited != '-':
+        return 'the request expired at %s' % human.clock(int(awaited.split('/')[2]))
+    if step.before.get('answered') == 'yes':
+        return 'no request is pending: the last one was answered already'
+    return 'no request is pending'
+
+
+def why_version(step):
+    expects = {'v4': '3 or 4', 'upgrading': '4', 'upgraded': '5', 'v5': '5'}.get(step.before.get('version', '').split(':')[0], 'another')
+    version = '5' if step.head == 'reply5' else str(octets(step)[0] >> 3 & 7)
+    return 'it is of version %s, and %s is expected' % (version, expects)
+
+
+def why_foreign(step):
+    wanted = step.before['pending'].split('/')[0]
+    found = step.given.get('cookie') if step.head == 'reply5' else octets(step)[24:32].hex()
+    return 'it answers %s, and %s was asked' % (found, wanted) if found != wanted else 'its unique identifier is not that of the request'
+
+
+def why_undecodable(step):
+    packet = octets(step)
+    if len(packet) < 48:
+        return 'it has %d bytes, and a packet has 48 or more' % len(packet)
+    if packet[0] >> 3 & 7 not in (3, 4):
+        return 'it is of version %d, and 3 and 4 can be read' % (packet[0] >> 3 & 7)
+    return 'its extension fields, or its authenticated end (auth=%s), cannot be' % step.given.get('auth', '48')
+
+
+WHY = {('reply', 1): why_undecodable,
+       ('reply', 2): why_version, ('reply', 3): why_not_awaited, ('reply', 4): why_foreign, ('reply', 14): why_not_awaited,
+       ('reply', 10): lambda s: 'its stratum is %d' % octets(s)[1] if s.head == 'reply' else 'its stratum is %s' % s.given['stratum'],
+       ('accept', 40): lambda s: 'its stratum is %s, ours is %s' % (s.before['stratum'], s.given['stratum'])
+       + ('; nothing was measured yet' if s.before['stratum'] == '16' else '')}
+
+
+def why(step):
+    """the reason in plain words: from the log's own values where that says more than the number's sentence"""
+    special = WHY.get(('reply' if step.head in REPLIES else step.head, step.number))
+    if special:
+        try:
+            return special(step)
+        except (KeyError, IndexError, ValueError):
+            pass
+    return step.row.says
+
+
+def measured(step):
+    g = step.gave
+    return 'offset %s, delay %s, stratum %s' % (human.milliseconds(int(g['offset']), sign=True), human.milliseconds(int(g['delay'])), g['stratum'])
+
+
+def made(step):
+    g = step.given
+    return ('polls every %s to %s, gives up after %s unanswered tries, waits %s for a reply; version %s, %s NTS, source %s'
+            % (every(g['min']), every(g['max']), g['startup'], human.span(int(g['window'])), g['start'], 'with' if g['nts'] == 'yes' else 'no', human.address(g['source'])))
+
+
+def sent(step):
+    until = step.after.get('pending', '-')
+    return '%s, the next in %s%s' % (step.gave['send'], every(step.gave['poll']), '' if until == '-' else ', a reply is awaited until ' + human.clock(int(until.split('/')[2])))
+
+
+GOOD = {'new': made, 'timer': sent, 'reply': measured, 'reply5': measured}
+
+
+def rest(step):
+    """the values of an answer that have no words here"""
+    return ' '.join(w if len(w) < 100 else w[:97] + '..' for w in step.answer.split(' ')[2:])
+
+
+def sentence(step):
+    """a step in plain words, without its time"""
+    if step.error:
+        import run
+        return 'error: ' + run.fault(step.text, step.answer.split(' ', 2)[-1])
+    if step.answer.startswith('record '):
+        return 'the record: ' + ', '.join('%s %s' % field(k, v) for k, v in step.gave.items())
+    if step.number is None or step.head not in TOLD and not step.row.says:
+        return step.answer if len(step.answer) < 200 else step.answer[:197] + '..'
+    good, bad = TOLD.get(step.head, (step.head, step.head + ' refused'))
+    head = '%s (%d)' % (good if step.good() else 'stop, ' + step.row.short if step.kind == 'stop' else bad, step.number)
+    if not step.good():
+        return '%s: %s' % (head, why(step) or rest(step))
+    try:
+        more = GOOD[step.head](step) if step.head in GOOD else rest(step)
+    except (KeyError, ValueError):
+        more = rest(step)
+    return '%s%s' % (head, ': ' + more if more else '')
+
+
+def wall_time(step):
+    """the box's own wall clock, where the line gives it"""
+    t4 = step.given.get('t4', '')
+    return human.wall(int(t4)) if t4.isdigit() and not step.error and int(t4) < human.ERA else None
