@@ -5,11 +5,12 @@ use crate::state::*;
 use ntp_proto::tls_utils::identifier_of;
 
 /// Document 01 over the crate, by the name that a log's reasons carry.
-pub const REASONS: [(&str, &str); 4] = [
+pub const REASONS: [(&str, &str); 5] = [
     ("field-under-16", "a V4 field of length 4, 8 or 12: broken by rule 7 (RFC 7822), read by the crate"),
     ("placeholder-not-zero", "a 0304 field whose body is not all zero: rule 7 looks at no body, the crate refuses it"),
     ("0404-decrypted", "a 0404 field among the decrypted ones: rule 7 looks at no type, the crate refuses it"),
     ("rate-at-127", "RATE at the remote minimum 127: rule 11's sum never wraps, the crate's wraps to -128"),
+    ("rate-falls", "RATE above the limit and the last poll: the remote minimum stays (document 02, No. 7), the crate's falls"),
 ];
 
 pub struct Step {
@@ -70,7 +71,7 @@ impl Both {
             .is_none_or(|d| !d.decoded || d.v5.is_some() || rules::collect(&d.plain).is_some_and(|list| list == d.cookies));
         let mut step = Step { of_crate, of_rules, drawn, reason: None, failed: !collected, left_out };
         if step.of_crate != step.of_rules {
-            step.reason = listed(op, &step, before.as_ref());
+            step.reason = listed(op, &step, before.as_ref(), rules.max);
             step.failed |= step.reason.is_none();
         }
         match step.reason {
@@ -82,7 +83,7 @@ impl Both {
 }
 
 /// The listed reason for a step where crate and rules differ, recognised by its cause and by its effect.
-fn listed(op: &Op, step: &Step, before: Option<&State>) -> Option<&'static str> {
+fn listed(op: &Op, step: &Step, before: Option<&State>, max: i8) -> Option<&'static str> {
     let (Op::Reply { packet, .. }, Some(d), Some(before)) = (op, &step.drawn, before) else { return None };
     let ((of_crate, after_crate), (of_rules, after_rules)) = (&step.of_crate, &step.of_rules);
     let refused = of_crate.number == 1 && after_crate == before;
@@ -110,12 +111,14 @@ fn listed(op: &Op, step: &Step, before: Option<&State>) -> Option<&'static str> 
     {
         return Some(REASONS[2].0);
     }
-    if of_crate.number == 5
-        && of_rules.number == 5
-        && before.remote == 127
-        && (State { remote: after_rules.remote, ..after_crate.clone() }) == *after_rules
-    {
-        return Some(REASONS[3].0);
+    let kept = after_rules.remote == before.remote && (State { remote: before.remote, ..after_crate.clone() }) == *after_rules;
+    if of_crate.number == 5 && of_rules.number == 5 && before.remote > before.last && kept {
+        if before.remote == 127 && after_crate.remote == before.last {
+            return Some(REASONS[3].0);
+        }
+        if before.remote > max && after_crate.remote == max.max(before.last) {
+            return Some(REASONS[4].0);
+        }
     }
     None
 }
