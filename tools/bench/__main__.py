@@ -1,6 +1,7 @@
 """drill: what ./drill does with its options. The answers are the proved program's; everything around them is these scripts'."""
 import _signal  # Ctrl-C ends this by the signal and without a traceback, from the first moment on: `signal` itself takes a while to load
 _signal.signal(_signal.SIGINT, _signal.SIG_DFL)
+_signal.pthread_sigmask(_signal.SIG_UNBLOCK, [_signal.SIGINT])  # ./drill held it back
 import os  # noqa: E402
 import sys  # noqa: E402
 
@@ -93,7 +94,7 @@ def main(args):
         import program
         name = one(options(args, ())[1], word)
         strike = os.path.join(program.ROOT, 'tools', 'strike')
-        _signal.signal(_signal.SIGINT, _signal.SIG_IGN)  # until strike has said what Ctrl-C is to do
+        _signal.pthread_sigmask(_signal.SIG_BLOCK, [_signal.SIGINT])  # until strike has said what Ctrl-C is to do
         os.execv(sys.executable, [sys.executable, strike, name])
     if word == '--explain':
         import explain

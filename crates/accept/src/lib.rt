@@ -62,14 +62,22 @@ fn is_present(bloom: Bloom) -> bool
 fn is_ours(stratum: u8, id: u32, local: &[u32]) -> bool
     ensures { λ r. ⌜ r ≡ isOurs stratum id (now (local .entry)) ⌝ }
 {
-    if stratum != 1 { is_among(id, local) } else { false }
+    if stratum != 1 {
+        is_among(id, local)
+    } else {
+        false
+    }
 }
 
 // Whether the source says that it gets its time from us; below stratum 2 what it reports is a name and no address.
 fn served_by_us(stratum: u8, refid: u32, local: &[u32]) -> bool
     ensures { λ r. ⌜ r ≡ servedByUs stratum refid (now (local .entry)) ⌝ }
 {
-    if 2 <= stratum { is_among(refid, local) } else { false }
+    if 2 <= stratum {
+        is_among(refid, local)
+    } else {
+        false
+    }
 }
 
 // Whether our own time would come back to us.

@@ -124,7 +124,8 @@ table =
     ∷ plain-reply (Upgrading 1) V4
     ∷ plain-reply (Upgrading 0) V4
     ∷ rated (pos 4) (pos 10) (pos 6) (pos 6)
-    ∷ rated (pos 12) (pos 10) (pos 4) (pos 10)
+    -- RULES, No. 7, changes this one from 10 to 12
+    ∷ rated (pos 12) (pos 10) (pos 4) (pos 12)
     ∷ measured (2 ^ 64 - 4) 2 4 6 (pos 8) (pos 2) 1
     ∷ halved (negsuc 2) (negsuc 0)
     ∷ differ (2 ^ 63) 0 (negsuc (2 ^ 63 - 1))

@@ -1,13 +1,20 @@
 -- What a reply leaves: on 1, 2, 3, 4, 32 and 33 the record; on 7 to 11 all but the version; on all but 0 the pending request, which 0 clears; always the settings.
+-- And the poll values: the last one stays, and the remote minimum never falls; on all but 0 and 5 it stays too.
 -- Assumes nothing.
-use mathlib.Core.Path.{_≡_, refl}
-use mathlib.Core.Bool.{Bool, _&&_, _||_, cond}
+use mathlib.Core.Path.{_≡_, refl, sym, ap, _∙_}
+use mathlib.Core.Bool.{Bool, false, _&&_, _||_, cond}
 use Prim.Native.Nat.{ℕ}
 use lib.Dec.{T, leb, eqb}
+use lib.Signed.{_≤ℤ_, ≤ℤ-refl}
+use Rattle.words.proofs.Tests.{unless}
+use Rattle.time_types.specs.Poll.{interval, afterRate}
+use Rattle.time_types.proofs.Rate.{rate-keeps}
 use Rattle.association.specs.declared.Association.{Association}
+use Rattle.association.specs.declared.Polls.{Polls}
 use Rattle.association.specs.Record.{noPending, withState}
 use Rattle.incoming.specs.declared.ReplyRead.{ReplyRead}
 use Rattle.reply_clauses.specs.After.{Arrival, stepped, afterRateKiss, afterDenial, afterMeasured}
+use Rattle.reply_clauses.proofs.Remote.{raised-keeps}
 use Rattle.reply.specs.declared.ReplyOut.{ReplyOut}
 use Rattle.reply.specs.Numbers.{Given, not-whole, undecodable, broken-list, unexpected-version, no-live-request, no-match, rate, denied, denied-nts, ntsn, other-kiss, bad-stratum, not-server, measured}
 
@@ -35,3 +42,36 @@ module _ (a : Association) (read : ReplyRead) (t : Arrival) where
   heard (bad-stratum {r} k e) = record { settings = refl; request = refl; same = absurd; version = λ _. (r .upgrade, refl) }
   heard (not-server {r} s e) = record { settings = refl; request = refl; same = absurd; version = λ _. (r .upgrade, refl) }
   heard (measured s e) = record { settings = refl; request = refl; same = absurd; version = absurd }
+
+-- ---- the poll values
+
+-- what a reply that gives the number n makes of them
+pub record Paced (a : Association) (n : ℕ) (o : ReplyOut) : Type 0 where
+  pub last : o .association .state .polls .last ≡ a .state .polls .last
+  -- a 5 moves the remote minimum by the rule of RATE, and a 0 may raise it to the poll of a V5 reply
+  pub remote : (n ≡ 0 → ⊥) → o .association .state .polls .remote ≡
+      cond (eqb n 5) (interval (afterRate (a .state .polls .remote .0) (a .settings .max .0) (a .state .polls .last .0))) (a .state .polls .remote)
+  pub least : a .state .polls .remote .0 ≤ℤ o .association .state .polls .remote .0
+
+unmoved : {a : Association} {n : ℕ} {o : ReplyOut} → eqb n 5 ≡ false → o .association .state .polls ≡ a .state .polls → Paced a n o
+unmoved {a} e p =
+    let same = ap (λ (x : Polls). x .remote) p in
+    record { last = ap (λ (x : Polls). x .last) p; remote = λ _. same ∙ sym (unless _ _ e); least = rw same (≤ℤ-refl (a .state .polls .remote .0)) }
+
+module _ (a : Association) (read : ReplyRead) (t : Arrival) where
+  pub paced : {n : ℕ} {o : ReplyOut} → Given a read t n o → Paced a n o
+  unfolding stepped afterRateKiss afterDenial afterMeasured
+  paced (not-whole e) = unmoved refl refl
+  paced (undecodable w e) = unmoved refl refl
+  paced (broken-list d e) = unmoved refl refl
+  paced (unexpected-version l e) = unmoved refl refl
+  paced (no-live-request x e) = unmoved refl refl
+  paced (no-match i e) = unmoved refl refl
+  paced (rate m e) = record { last = refl; remote = λ _. refl; least = rate-keeps (a .state .polls .remote .0) (a .settings .max .0) (a .state .polls .last .0) }
+  paced (denied u e f) = unmoved refl refl
+  paced (denied-nts u e f) = unmoved refl refl
+  paced (ntsn v e) = unmoved refl refl
+  paced (other-kiss w e) = unmoved refl refl
+  paced (bad-stratum k e) = unmoved refl refl
+  paced (not-server s e) = unmoved refl refl
+  paced (measured {r} s e) = record { last = refl; remote = λ u. absurd (u refl); least = raised-keeps (a .state .polls .remote) r }

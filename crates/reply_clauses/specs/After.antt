@@ -55,7 +55,7 @@ stepped s upgrade =
       request = s .request;
     }
 
--- 5: RATE: remote minimum becomes max(min(it + 1, max), last poll)
+-- 5: RATE: remote minimum becomes the largest of the old one, min(old + 1, max) and the last poll (RULES, No. 7)
 unfoldable pub afterRateKiss : Settings → State → State
 afterRateKiss g s =
     record {

@@ -5,12 +5,13 @@ use crate::state::*;
 use ntp_proto::tls_utils::identifier_of;
 
 /// RULES over the crate, by the name that a log's reasons carry.
-pub const REASONS: [(&str, &str); 5] = [
+pub const REASONS: [(&str, &str); 6] = [
     ("field-under-16", "a V4 field of length 4, 8 or 12: broken by part 7 (RFC 7822), read by the crate"),
     ("placeholder-not-zero", "a 0304 field whose body is not all zero: part 7 looks at no body, the crate refuses it"),
     ("0404-decrypted", "a 0404 field among the decrypted ones: part 7 looks at no type, the crate refuses it"),
     ("rate-at-127", "RATE at the remote minimum 127: part 11's sum never wraps, the crate's wraps to -128"),
     ("served-by-us", "a source of stratum 2 or more that reports one of our identifiers: 41 by No. 2, no loop to the crate"),
+    ("rate-falls", "RATE above the limit and the last poll: the remote minimum stays (No. 7), the crate's falls"),
 ];
 
 pub struct Step {
@@ -72,7 +73,7 @@ impl Both {
         let mut step = Step { of_crate, of_rules, drawn, reason: None, failed: !collected, left_out };
         if step.of_crate != step.of_rules {
             step.reason = before.as_ref().and_then(|before| match op {
-                Op::Reply { packet, .. } => listed_reply(packet, &step, before),
+                Op::Reply { packet, .. } => listed_reply(packet, &step, before, rules.max),
                 Op::Accept { stratum, local, bloom } => {
                     let local: Vec<u32> = local.iter().map(|ip| identifier_of(*ip)).collect();
                     listed_accept(*stratum, &local, *bloom, rules.source, &step, before)
@@ -90,7 +91,7 @@ impl Both {
 }
 
 /// The listed reason for a reply on which crate and rules differ, recognised by its cause and by its effect.
-fn listed_reply(packet: &[u8], step: &Step, before: &State) -> Option<&'static str> {
+fn listed_reply(packet: &[u8], step: &Step, before: &State, max: i8) -> Option<&'static str> {
     let d = step.drawn.as_ref()?;
     let ((of_crate, after_crate), (of_rules, after_rules)) = (&step.of_crate, &step.of_rules);
     let refused = of_crate.number == 1 && after_crate == before;
@@ -118,12 +119,14 @@ fn listed_reply(packet: &[u8], step: &Step, before: &State) -> Option<&'static s
     {
         return Some(REASONS[2].0);
     }
-    if of_crate.number == 5
-        && of_rules.number == 5
-        && before.remote == 127
-        && (State { remote: after_rules.remote, ..after_crate.clone() }) == *after_rules
-    {
-        return Some(REASONS[3].0);
+    let kept = after_rules.remote == before.remote && (State { remote: before.remote, ..after_crate.clone() }) == *after_rules;
+    if of_crate.number == 5 && of_rules.number == 5 && before.remote > before.last && kept {
+        if before.remote == 127 && after_crate.remote == before.last {
+            return Some(REASONS[3].0);
+        }
+        if before.remote > max && after_crate.remote == max.max(before.last) {
+            return Some(REASONS[5].0);
+        }
     }
     None
 }

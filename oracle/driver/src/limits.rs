@@ -245,10 +245,10 @@ impl Cases<'_> {
             field(&mut p, ty, &[], 0);
             self.asked(&format!("an empty decrypted field of type {ty:04x}"), nts(eight()), sealed(V4, &p));
         }
-        for remote in [126, 127] {
-            self.begin(&format!("limits 4 to 10, remote {remote}, last 4, RATE"), plain());
+        for (remote, last) in [(10, 4), (11, 4), (12, 4), (12, 11), (12, 12), (126, 4), (127, 4)] {
+            self.begin(&format!("limits 4 to 10, remote {remote}, last {last}, RATE"), plain());
             self.timer();
-            self.poke(&[("remote", remote), ("last", 4)]);
+            self.poke(&[("remote", remote), ("last", last)]);
             self.reply(V4.kiss(b"RATE").bytes());
         }
         let (a, b) = (Ipv4Addr::new(10, 0, 0, 1), Ipv4Addr::new(10, 0, 0, 2));

@@ -223,7 +223,8 @@ impl Rules {
             other => other,
         };
         if rate {
-            s.remote = (s.remote as i32 + 1).min(self.max as i32).max(s.last as i32) as i8;
+            let more = (s.remote as i32 + 1).min(self.max as i32) as i8;
+            s.remote = s.remote.max(more).max(s.last);
             return number(5);
         }
         if deny || rstr {

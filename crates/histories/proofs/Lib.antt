@@ -1,0 +1,3 @@
+-- What holds along any log.
+pub mod Along
+pub mod Rate

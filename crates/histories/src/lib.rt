@@ -1,0 +1,1 @@
+// What holds along any log of timers and replies. Definitions and theorems only, no code.
