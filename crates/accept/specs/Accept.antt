@@ -5,8 +5,12 @@ use mathlib.Core.List.{List, [], _∷_}
 use Prim.Native.Nat.{ℕ}
 use lib.Dec.{leb, eqb}
 use Rattle.reach.specs.Register.{reachableOf}
+use Rattle.cookiestash.specs.declared.Seen.{Seen}
+use Rattle.cookiestash.specs.Whole.{seenOf}
+use Rattle.association.specs.declared.Settings.{Settings}
+use Rattle.association.specs.declared.State.{State}
 use Rattle.association.specs.declared.Association.{Association}
-use Rattle.association.specs.Record.{wholeOf}
+use Rattle.association.specs.Record.{wholeSeen}
 use Rattle.accept.specs.declared.Bloom.{Bloom}
 use Rattle.accept.specs.declared.Bloom.the-variants.{NoFilter, Absent, Present}
 use Rattle.accept.specs.declared.AcceptAnswer.{AcceptAnswer}
@@ -35,10 +39,13 @@ abbrev pub loops : ℕ → ℕ → List ℕ → Bloom → Bool
 loops stratum id local bloom = (not (eqb stratum 1) && among id local) || isPresent bloom
 
 -- 40 if stratum ≥ local stratum; 41 for a loop; 42 if reach is 0
-unfoldable pub acceptOf : Association → ℕ → List ℕ → Bloom → AcceptAnswer
-acceptOf a stratum local bloom =
-    cond (wholeOf a)
-    (cond (leb stratum (a .state .source .stratum)) Stratum
-    (cond (loops (a .state .source .stratum) (a .settings .source .0) local bloom) Loop
-    (cond (reachableOf (a .state .effort .reach)) Accepted Unreachable)))
+unfoldable pub acceptSeen : Settings → State → Seen → ℕ → List ℕ → Bloom → AcceptAnswer
+acceptSeen g s v stratum local bloom =
+    cond (wholeSeen g v (s .request))
+    (cond (leb stratum (s .source .stratum)) Stratum
+    (cond (loops (s .source .stratum) (g .source .0) local bloom) Loop
+    (cond (reachableOf (s .effort .reach)) Accepted Unreachable)))
     NotWhole
+
+abbrev pub acceptOf : Association → ℕ → List ℕ → Bloom → AcceptAnswer
+acceptOf a stratum local bloom = acceptSeen (a .settings) (a .state) (seenOf 8 (a .stash)) stratum local bloom
