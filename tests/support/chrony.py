@@ -79,3 +79,7 @@ class Chronyd:
                 self.process.kill()
                 self.process.wait()
         self.log.close()
+
+
+if __name__ == '__main__':
+    print(lacks())

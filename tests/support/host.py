@@ -10,7 +10,8 @@ ROOT = os.path.dirname(os.path.dirname(os.path.dirname(os.path.abspath(__file__)
 NATIVE = platform.machine() == 'x86_64'
 TARGET = 'x86_64-unknown-linux-gnu'
 SYSROOT = '/usr/x86_64-linux-gnu'
-UNPACKED = os.path.join(ROOT, 'target', 'rust-x86-64')
+BUILT = os.environ.get('RECKONSTILE_TARGET') or os.path.join(ROOT, 'target')  # tests/all works in a copy, which has nothing built
+UNPACKED = os.path.join(BUILT, 'rust-x86-64')
 
 
 class Lacks(Exception):
@@ -76,7 +77,7 @@ def library(make=True):
         if not archive(named):
             raise Lacks('there is no library at %s, which RECKONSTILE_LIB names' % named)
         return os.path.abspath(archive(named))
-    folder = os.path.join(ROOT, 'target', 'staticlib')
+    folder = os.path.join(BUILT, 'staticlib')
     found = archive(folder)
     if found and os.path.getmtime(found) >= newest_source():
         return found
@@ -136,7 +137,7 @@ def rust():
         beside = os.path.join(os.path.dirname(rustc), 'rustdoc')
         if os.access(beside, os.X_OK):
             environment.setdefault('RUSTDOC', beside)
-    environment.setdefault('CARGO_TARGET_DIR', os.path.join(ROOT, 'target', 'rust'))
+    environment.setdefault('CARGO_TARGET_DIR', os.path.join(BUILT, 'rust'))
     nettle = os.path.join(UNPACKED, 'nettle', 'usr', 'lib', 'x86_64-linux-gnu')
     if not NATIVE:
         environment['CARGO_TARGET_X86_64_UNKNOWN_LINUX_GNU_LINKER'] = cc()
@@ -144,6 +145,15 @@ def rust():
         if os.path.isdir(nettle):
             environment.setdefault('NETTLE_LIB', nettle)
     return environment
+
+
+def needs():
+    """the C functions that the library leaves to the program that links it"""
+    named = subprocess.run([cc(), '-print-prog-name=nm'], stdout=subprocess.PIPE).stdout.decode().strip()
+    said = subprocess.run([named, library()], stdout=subprocess.PIPE, stderr=subprocess.DEVNULL).stdout.decode().splitlines()
+    lines = [line.split() for line in said]
+    given = {words[2] for words in lines if len(words) == 3}
+    return sorted({words[1] for words in lines if len(words) == 2 and words[0] == 'U'} - given)
 
 
 def cargo(arguments, **more):
@@ -164,3 +174,11 @@ def rust_example(name, features=()):
     if done.returncode:
         raise RuntimeError('%s\n%s' % (' '.join(command), done.stdout.decode('utf-8', 'replace').strip()))
     return emulated() + [os.path.join(environment['CARGO_TARGET_DIR'], TARGET, 'release', 'examples', name)]
+
+
+if __name__ == '__main__':
+    # Says what is missing to build and run what links the library, and nothing where all is there.
+    try:
+        cc(), cxx(), library(make=False), rust(), emulated()
+    except Lacks as lack:
+        print(lack)
