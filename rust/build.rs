@@ -25,7 +25,10 @@ fn library(path: &Path) -> Option<PathBuf> {
 
 fn make(root: &Path) {
     if !root.join("crates.txt").is_file() {
-        stop(&format!("RECKONSTILE_LIB is not set and {} is not the repository: set RECKONSTILE_LIB to the folder of libembed.a", root.display()));
+        stop(&format!(
+            "RECKONSTILE_LIB is not set and {} is not the repository: set RECKONSTILE_LIB to the folder of libembed.a",
+            root.display()
+        ));
     }
     match Command::new("rt").args(["staticlib", "embed"]).current_dir(root).output() {
         Err(_) => stop("there is no library at target/staticlib, and Rattle's command rt, which makes it, is not on the PATH: install the toolchain that README.md names, or set RECKONSTILE_LIB"),
@@ -47,7 +50,9 @@ fn main() {
     }
     let root = PathBuf::from(variable("CARGO_MANIFEST_DIR")).join("..");
     let found = match std::env::var_os("RECKONSTILE_LIB") {
-        Some(named) => library(Path::new(&named)).unwrap_or_else(|| stop(&format!("there is no library at {}, which RECKONSTILE_LIB names", Path::new(&named).display()))),
+        Some(named) => library(Path::new(&named)).unwrap_or_else(|| {
+            stop(&format!("there is no library at {}, which RECKONSTILE_LIB names", Path::new(&named).display()))
+        }),
         None => {
             let folder = root.join("target/staticlib");
             if library(&folder).is_none() {

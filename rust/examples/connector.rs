@@ -9,8 +9,8 @@
 //!
 //! Without NTS there is nothing here but the standard library.
 use reckonstile::{
-    Action, Association, Bloom, Measurement, NtpInstant, NtpTimestamp, Packet, Poll, PollInterval, PollIntervalLimits, ReferenceId, ReplyRefused, SendKind, Settings,
-    Times, COOKIE_BYTES, REQUEST_BYTES,
+    Action, Association, Bloom, Measurement, NtpInstant, NtpTimestamp, Packet, Poll, PollInterval, PollIntervalLimits,
+    ReferenceId, ReplyRefused, SendKind, Settings, Times, COOKIE_BYTES, REQUEST_BYTES,
 };
 use std::error::Error;
 use std::fs::File;
@@ -35,7 +35,8 @@ struct Options {
 fn options() -> Result<Options, Box<dyn Error>> {
     let usage = "usage: connector SERVER[:PORT] [--polls N] [--desired EXPONENT] [--log FILE] [--nts KEYS]";
     let mut given = std::env::args().skip(1);
-    let mut found = Options { server: given.next().ok_or(usage)?, polls: None, desired: PollInterval::new(6), log: None, keys: None };
+    let mut found =
+        Options { server: given.next().ok_or(usage)?, polls: None, desired: PollInterval::new(6), log: None, keys: None };
     if !found.server.contains(':') {
         found.server.push_str(":123");
     }
@@ -105,7 +106,10 @@ impl<'a> Link<'a> {
         let list = nts.as_ref().map(Nts::list).unwrap_or_default();
         let settings = Settings {
             // The crate's limits, but for a poll interval below the usual ones where one is asked for.
-            poll_interval_limits: PollIntervalLimits { min: PollInterval::new(options.desired.as_log().clamp(0, 4)), ..PollIntervalLimits::default() },
+            poll_interval_limits: PollIntervalLimits {
+                min: PollInterval::new(options.desired.as_log().clamp(0, 4)),
+                ..PollIntervalLimits::default()
+            },
             nts: nts.is_some(),
             source: ReferenceId::from(ip),
             ..Settings::default()
@@ -134,7 +138,13 @@ impl<'a> Link<'a> {
         let (id, uid) = (u64::from_be_bytes(random()?), random::<32>()?);
         let mut buffer = [0; COOKIE_BYTES];
         let time = uptime(start);
-        let call = format!("timer now={} desired={} id={id:016x} uid={} room={}", time.as_nanos(), desired.as_log(), hex(&uid), buffer.len());
+        let call = format!(
+            "timer now={} desired={} id={id:016x} uid={} room={}",
+            time.as_nanos(),
+            desired.as_log(),
+            hex(&uid),
+            buffer.len()
+        );
         match self.association.timer(time, desired, id, uid, &mut buffer) {
             Ok(poll) => {
                 let mut packet = vec![0; REQUEST_BYTES];
@@ -206,14 +216,20 @@ impl<'a> Link<'a> {
 
     /// Whether the source may be used; asked after each poll and each measured reply.
     fn accept(&mut self) -> Result<(), Box<dyn Error>> {
-        let number = self.association.accept(LOCAL_STRATUM, &[], Bloom::NoFilter).map_or_else(|refused| refused.number(), |()| 0);
+        let number =
+            self.association.accept(LOCAL_STRATUM, &[], Bloom::NoFilter).map_or_else(|refused| refused.number(), |()| 0);
         Ok(self.log.write(&format!("accept stratum={LOCAL_STRATUM}"), &format!("accept {number}"))?)
     }
 }
 
 /// Where the clock steering would take the measurement: `offset` is what our clock lacks, `delay` how far off it may be twice over.
 fn steer(m: &Measurement) {
-    println!("measured: our clock lacks {:+.6} s, round trip {:.6} s, stratum {}", m.offset.to_seconds(), m.delay.to_seconds(), m.stratum);
+    println!(
+        "measured: our clock lacks {:+.6} s, round trip {:.6} s, stratum {}",
+        m.offset.to_seconds(),
+        m.delay.to_seconds(),
+        m.stratum
+    );
 }
 
 /// A wait stretched by a random factor from 1.01 to 1.05, so that polls are hard to foretell.

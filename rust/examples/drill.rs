@@ -2,8 +2,9 @@
 //! logs without bad lines from standard input and answers a line at a time. What the drill does not show is looked at here: a refusal leaves record and buffer as they
 //! were, and nothing is written past what is handed out; else the answer ends with `CHANGED`.
 use reckonstile::{
-    collect, write_request, Association, Bloom, DecodedReply, Kisses, Measurement, NtpDuration, NtpInstant, NtpLeapIndicator, NtpTimestamp, Packet, PollInterval,
-    PollIntervalLimits, ProtocolVersion, Record, ReferenceId, SendKind, Settings, Times, Uid,
+    collect, write_request, Association, Bloom, DecodedReply, Kisses, Measurement, NtpDuration, NtpInstant, NtpLeapIndicator,
+    NtpTimestamp, Packet, PollInterval, PollIntervalLimits, ProtocolVersion, Record, ReferenceId, SendKind, Settings, Times,
+    Uid,
 };
 use std::collections::HashMap;
 use std::fmt::Write as _;
@@ -132,7 +133,10 @@ impl Drill {
             upgrading => ProtocolVersion::V4UpgradingToV5 { tries_left: number(&upgrading["upgrading:".len()..]) },
         };
         let settings = Settings {
-            poll_interval_limits: PollIntervalLimits { min: PollInterval::new(p.number("min")), max: PollInterval::new(p.number("max")) },
+            poll_interval_limits: PollIntervalLimits {
+                min: PollInterval::new(p.number("min")),
+                max: PollInterval::new(p.number("max")),
+            },
             startup_tries: p.number("startup"),
             poll_window: Duration::from_nanos(p.number("window")),
             upgrade_mark: p.bits("mark"),
@@ -155,11 +159,23 @@ impl Drill {
     fn timer(&mut self, p: &Pairs) -> String {
         let before = *self.a.record();
         let mut buffer = vec![FILL; number(p.or("room", "1024"))];
-        let said = self.a.timer(NtpInstant::from_nanos(p.number("now")), PollInterval::new(p.number("desired")), p.bits("id"), p.uid(), &mut buffer);
+        let said = self.a.timer(
+            NtpInstant::from_nanos(p.number("now")),
+            PollInterval::new(p.number("desired")),
+            p.bits("id"),
+            p.uid(),
+            &mut buffer,
+        );
         match said {
             Ok(poll) => {
                 let len = poll.cookie.len();
-                let line = format!("timer 20 send={} poll={} cookie={} asked={}", kind_name(poll.kind), poll.poll.as_log(), hex(poll.cookie), poll.asked);
+                let line = format!(
+                    "timer 20 send={} poll={} cookie={} asked={}",
+                    kind_name(poll.kind),
+                    poll.poll.as_log(),
+                    hex(poll.cookie),
+                    poll.asked
+                );
                 line + kept(filled(&buffer[len..]))
             }
             Err(refused) => {
@@ -266,7 +282,16 @@ impl Drill {
     fn request(p: &Pairs) -> String {
         let mut out = vec![FILL; number(p.or("room", "6144"))];
         let poll = PollInterval::new(p.number("poll"));
-        let said = write_request(kind_of(p.text("kind")), poll, p.bits("id"), p.bits("mark"), p.uid(), &p.bytes("cookie"), number(p.or("asked", "0")), &mut out);
+        let said = write_request(
+            kind_of(p.text("kind")),
+            poll,
+            p.bits("id"),
+            p.bits("mark"),
+            p.uid(),
+            &p.bytes("cookie"),
+            number(p.or("asked", "0")),
+            &mut out,
+        );
         match said {
             Ok(n) => format!("request 0 len={n} packet={}{}", hex(&out[..n]), kept(filled(&out[n..]))),
             Err(refused) => format!("request {}{}", refused.number(), kept(filled(&out))),
@@ -281,7 +306,8 @@ impl Drill {
             2 => "upgraded".into(),
             _ => String::from("v5"),
         };
-        let pending = if state.present == 1 { format!("{:016x}/{}/{}", state.id, hex(&state.uid), state.deadline) } else { "-".into() };
+        let pending =
+            if state.present == 1 { format!("{:016x}/{}/{}", state.id, hex(&state.uid), state.deadline) } else { "-".into() };
         let lens: Vec<String> = stash.slots.iter().map(|slot| slot.len.to_string()).collect();
         format!(
             "record reach={} tries={} version={version} last={} remote={} pending={pending} denial={} stratum={} refid={:08x} read={} held={} lens={}",

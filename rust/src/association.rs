@@ -1,5 +1,8 @@
 //! The association and its calls.
-use crate::answers::{AcceptRefused, CollectRefused, Measurement, NewRefused, NtpLeapIndicator, Poll, ReplyRefused, RequestRefused, SendKind, TimerRefused};
+use crate::answers::{
+    AcceptRefused, CollectRefused, Measurement, NewRefused, NtpLeapIndicator, Poll, ReplyRefused, RequestRefused, SendKind,
+    TimerRefused,
+};
 use crate::ffi::{self, Record};
 use crate::time::{NtpDuration, NtpInstant, NtpTimestamp, PollInterval, PollIntervalLimits};
 use core::fmt;
@@ -336,7 +339,11 @@ pub struct Association {
 impl fmt::Debug for Association {
     fn fmt(&self, f: &mut fmt::Formatter<'_>) -> fmt::Result {
         let cookies = self.record.stash.held;
-        f.debug_struct("Association").field("settings", &self.record.settings).field("cookies", &cookies).field("state", &self.record.state).finish()
+        f.debug_struct("Association")
+            .field("settings", &self.record.settings)
+            .field("cookies", &cookies)
+            .field("state", &self.record.state)
+            .finish()
     }
 }
 
@@ -360,10 +367,22 @@ impl Association {
     ///
     /// # Errors
     /// [`TimerRefused`]: 21 to 24, 31, 32; its `action` says what to do.
-    pub fn timer<'b>(&mut self, time: NtpInstant, desired: PollInterval, id: u64, uid: [u8; 32], buffer: &'b mut [u8]) -> Result<Poll<'b>, TimerRefused> {
+    pub fn timer<'b>(
+        &mut self,
+        time: NtpInstant,
+        desired: PollInterval,
+        id: u64,
+        uid: [u8; 32],
+        buffer: &'b mut [u8],
+    ) -> Result<Poll<'b>, TimerRefused> {
         let said = ffi::timer(&mut self.record, time.as_nanos(), desired.as_log(), id, uid, buffer);
         match (said.number, SendKind::from_code(said.kind), buffer.get(..said.length)) {
-            (20, Some(kind), Some(cookie)) => Ok(Poll { kind, poll: PollInterval::new(said.poll), cookie, asked: u8::try_from(said.asked).unwrap_or(u8::MAX) }),
+            (20, Some(kind), Some(cookie)) => Ok(Poll {
+                kind,
+                poll: PollInterval::new(said.poll),
+                cookie,
+                asked: u8::try_from(said.asked).unwrap_or(u8::MAX),
+            }),
             (number, _, _) => Err(TimerRefused::from_number(number)),
         }
     }
@@ -413,7 +432,14 @@ impl Association {
     /// assert_eq!(a.reply_decoded(&d, &[], times), Err(ReplyRefused::NoLiveRequest));
     /// ```
     pub fn reply_decoded(&mut self, reply: &DecodedReply, list: &[u8], times: Times) -> Result<Measurement, ReplyRefused> {
-        measured(&ffi::reply_decoded(&mut self.record, reply.numbers(), list, times.t1.to_bits(), times.t4.to_bits(), times.time.as_nanos()))
+        measured(&ffi::reply_decoded(
+            &mut self.record,
+            reply.numbers(),
+            list,
+            times.t1.to_bits(),
+            times.t4.to_bits(),
+            times.time.as_nanos(),
+        ))
     }
 
     /// Whether the source may be used (0), given our own stratum, our own identifiers and the Bloom filter's word. Ask after each 20 and after each measured reply.

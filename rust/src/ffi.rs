@@ -104,7 +104,21 @@ impl Record {
     pub const BLANK: Record = Record {
         settings: Settings { window: 0, upgrademark: 0, source: 0, start: 0, nts: 0, left: 0, startup: 0, min: 0, max: 0 },
         stash: Stash { slots: [Slot { bytes: [0; 724], len: 0 }; 8], read: 0, held: 0 },
-        state: State { reach: 0, tries: 0, last: 0, remote: 0, refid: 0, version: 0, left: 0, stratum: 0, denial: 0, present: 0, id: 0, deadline: 0, uid: [0; 32] },
+        state: State {
+            reach: 0,
+            tries: 0,
+            last: 0,
+            remote: 0,
+            refid: 0,
+            version: 0,
+            left: 0,
+            stratum: 0,
+            denial: 0,
+            present: 0,
+            id: 0,
+            deadline: 0,
+            uid: [0; 32],
+        },
     };
 }
 
@@ -175,8 +189,18 @@ pub(crate) struct Written {
 const _: () = {
     assert!(size_of::<Settings>() == 32 && offset_of!(Settings, left) == 28);
     assert!(size_of::<Slot>() == 726 && size_of::<Stash>() == 5824);
-    assert!(size_of::<State>() == 64 && offset_of!(State, version) == 8 && offset_of!(State, id) == 16 && offset_of!(State, uid) == 32);
-    assert!(size_of::<Record>() == 5920 && align_of::<Record>() == 8 && offset_of!(Record, stash) == 32 && offset_of!(Record, state) == 5856);
+    assert!(
+        size_of::<State>() == 64
+            && offset_of!(State, version) == 8
+            && offset_of!(State, id) == 16
+            && offset_of!(State, uid) == 32
+    );
+    assert!(
+        size_of::<Record>() == 5920
+            && align_of::<Record>() == 8
+            && offset_of!(Record, stash) == 32
+            && offset_of!(Record, state) == 5856
+    );
     assert!(size_of::<Uid>() == 32 && size_of::<Timed>() == 16 && offset_of!(Timed, length) == 8);
     assert!(size_of::<Replied>() == 56 && offset_of!(Replied, delay) == 8);
     assert!(size_of::<Decoded>() == 56 && offset_of!(Decoded, mode) == 40 && offset_of!(Decoded, untrusted) == 55);
@@ -189,7 +213,15 @@ mod c {
         pub fn reckonstile_size() -> usize;
         pub fn reckonstile_align() -> usize;
         pub fn reckonstile_new(a: *mut Record, settings: Settings, list: *const u8, list_len: usize) -> u32;
-        pub fn reckonstile_timer(a: *mut Record, time: u64, desired: i8, id: u64, uid: Uid, buffer: *mut u8, room: usize) -> Timed;
+        pub fn reckonstile_timer(
+            a: *mut Record,
+            time: u64,
+            desired: i8,
+            id: u64,
+            uid: Uid,
+            buffer: *mut u8,
+            room: usize,
+        ) -> Timed;
         pub fn reckonstile_reply(
             a: *mut Record,
             packet: *const u8,
@@ -203,7 +235,15 @@ mod c {
             t4: u64,
             time: u64,
         ) -> Replied;
-        pub fn reckonstile_reply_decoded(a: *mut Record, d: Decoded, list: *const u8, list_len: usize, t1: u64, t4: u64, time: u64) -> Replied;
+        pub fn reckonstile_reply_decoded(
+            a: *mut Record,
+            d: Decoded,
+            list: *const u8,
+            list_len: usize,
+            t1: u64,
+            t4: u64,
+            time: u64,
+        ) -> Replied;
         pub fn reckonstile_accept(a: *const Record, stratum: u8, local: *const u32, count: usize, bloom: u32) -> u32;
         pub fn reckonstile_collect(decrypted: *const u8, decrypted_len: usize, out: *mut u8, room: usize) -> Written;
         pub fn reckonstile_write_request(
@@ -238,9 +278,32 @@ pub(crate) fn timer(a: &mut Record, time: u64, desired: i8, id: u64, uid: [u8; 3
 }
 
 #[allow(clippy::too_many_arguments)]
-pub(crate) fn reply(a: &mut Record, packet: &[u8], end: usize, decrypted: &[u8], list: &[u8], t1: u64, t4: u64, time: u64) -> Replied {
+pub(crate) fn reply(
+    a: &mut Record,
+    packet: &[u8],
+    end: usize,
+    decrypted: &[u8],
+    list: &[u8],
+    t1: u64,
+    t4: u64,
+    time: u64,
+) -> Replied {
     // SAFETY: `a` is lent exclusively, so none of the three slices, which are only read, lies in it.
-    unsafe { c::reckonstile_reply(a, packet.as_ptr(), packet.len(), end, decrypted.as_ptr(), decrypted.len(), list.as_ptr(), list.len(), t1, t4, time) }
+    unsafe {
+        c::reckonstile_reply(
+            a,
+            packet.as_ptr(),
+            packet.len(),
+            end,
+            decrypted.as_ptr(),
+            decrypted.len(),
+            list.as_ptr(),
+            list.len(),
+            t1,
+            t4,
+            time,
+        )
+    }
 }
 
 pub(crate) fn reply_decoded(a: &mut Record, d: Decoded, list: &[u8], t1: u64, t4: u64, time: u64) -> Replied {
@@ -259,7 +322,29 @@ pub(crate) fn collect(decrypted: &[u8], out: &mut [u8]) -> Written {
 }
 
 #[allow(clippy::too_many_arguments)]
-pub(crate) fn write_request(kind: u8, poll: i8, id: u64, upgrademark: u64, uid: [u8; 32], cookie: &[u8], asked: u8, out: &mut [u8]) -> Written {
+pub(crate) fn write_request(
+    kind: u8,
+    poll: i8,
+    id: u64,
+    upgrademark: u64,
+    uid: [u8; 32],
+    cookie: &[u8],
+    asked: u8,
+    out: &mut [u8],
+) -> Written {
     // SAFETY: `out` is lent exclusively, so it does not overlap with the cookie; no more than its length is written.
-    unsafe { c::reckonstile_write_request(kind, poll, id, upgrademark, Uid { bytes: uid }, cookie.as_ptr(), cookie.len(), asked, out.as_mut_ptr(), out.len()) }
+    unsafe {
+        c::reckonstile_write_request(
+            kind,
+            poll,
+            id,
+            upgrademark,
+            Uid { bytes: uid },
+            cookie.as_ptr(),
+            cookie.len(),
+            asked,
+            out.as_mut_ptr(),
+            out.len(),
+        )
+    }
 }

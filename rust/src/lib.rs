@@ -26,11 +26,12 @@ mod ffi;
 mod time;
 
 pub use answers::{
-    AcceptRefused, Action, CollectRefused, Measurement, NewRefused, NtpLeapIndicator, Poll, ReplyRefused, RequestRefused, SendKind, TimerRefused,
+    AcceptRefused, Action, CollectRefused, Measurement, NewRefused, NtpLeapIndicator, Poll, ReplyRefused, RequestRefused,
+    SendKind, TimerRefused,
 };
 pub use association::{
-    collect, cookie_list, layout, write_request, Association, Bloom, DecodedReply, Kisses, Packet, ProtocolVersion, ReferenceId, Settings, Source, Times, Uid,
-    COOKIE_BYTES, REQUEST_BYTES,
+    collect, cookie_list, layout, write_request, Association, Bloom, DecodedReply, Kisses, Packet, ProtocolVersion,
+    ReferenceId, Settings, Source, Times, Uid, COOKIE_BYTES, REQUEST_BYTES,
 };
 pub use ffi::Record;
 pub use time::{NtpDuration, NtpInstant, NtpTimestamp, PollInterval, PollIntervalLimits};

@@ -1,7 +1,7 @@
 //! The crate's own words, held to what docs/CALLERS.md and document 01's cases say; the behaviour behind them is held to the drill by `tests/embed`.
 use reckonstile::{
-    cookie_list, Action, Association, Bloom, NewRefused, NtpInstant, NtpTimestamp, Packet, PollInterval, ProtocolVersion, Record, ReferenceId, ReplyRefused,
-    RequestRefused, SendKind, Settings, Times, TimerRefused, COOKIE_BYTES, REQUEST_BYTES,
+    cookie_list, Action, Association, Bloom, NewRefused, NtpInstant, NtpTimestamp, Packet, PollInterval, ProtocolVersion,
+    Record, ReferenceId, ReplyRefused, RequestRefused, SendKind, Settings, TimerRefused, Times, COOKIE_BYTES, REQUEST_BYTES,
 };
 use std::time::{Duration, SystemTime, UNIX_EPOCH};
 
@@ -55,7 +55,10 @@ fn cookies_go_in_and_out() {
     let mut a = Association::new(&settings, &list[..length]).unwrap();
     assert_eq!(a.cookies(), 2);
     let mut short = [0; COOKIE_BYTES - 1];
-    assert_eq!(a.timer(NtpInstant::from_nanos(0), PollInterval::new(6), 1, [9; 32], &mut short), Err(TimerRefused::ShortBuffer));
+    assert_eq!(
+        a.timer(NtpInstant::from_nanos(0), PollInterval::new(6), 1, [9; 32], &mut short),
+        Err(TimerRefused::ShortBuffer)
+    );
     let mut buffer = [0; COOKIE_BYTES];
     let poll = a.timer(NtpInstant::from_nanos(0), PollInterval::new(6), 1, [9; 32], &mut buffer).unwrap();
     assert_eq!((poll.kind, poll.cookie, poll.asked), (SendKind::NtsV4, &[1; 20][..], 7));
@@ -69,7 +72,12 @@ fn cookies_go_in_and_out() {
 
 #[test]
 fn a_version_is_kept_with_its_tries() {
-    for version in [ProtocolVersion::V4, ProtocolVersion::V4UpgradingToV5 { tries_left: 255 }, ProtocolVersion::UpgradedToV5, ProtocolVersion::V5] {
+    for version in [
+        ProtocolVersion::V4,
+        ProtocolVersion::V4UpgradingToV5 { tries_left: 255 },
+        ProtocolVersion::UpgradedToV5,
+        ProtocolVersion::V5,
+    ] {
         let a = Association::new(&Settings { version, ..Settings::default() }, &[]).unwrap();
         assert_eq!(a.version(), version);
     }
@@ -79,7 +87,11 @@ fn a_version_is_kept_with_its_tries() {
 fn settings_out_of_range_are_refused() {
     let good = Settings::default();
     let windows = [Duration::ZERO, Duration::from_nanos(60_000_000_001), Duration::MAX];
-    for bad in windows.map(|poll_window| Settings { poll_window, ..good }).into_iter().chain([0, 9].map(|startup_tries| Settings { startup_tries, ..good })) {
+    for bad in windows
+        .map(|poll_window| Settings { poll_window, ..good })
+        .into_iter()
+        .chain([0, 9].map(|startup_tries| Settings { startup_tries, ..good }))
+    {
         assert_eq!(Association::new(&bad, &[]).unwrap_err(), NewRefused::Settings);
     }
     assert!(Association::new(&Settings { poll_window: Duration::from_nanos(1), ..good }, &[]).is_ok());

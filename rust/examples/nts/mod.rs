@@ -103,7 +103,16 @@ mod cipher {
             let mut out = vec![0; TAG + text.len()];
             // SAFETY: each pointer has the bytes of its length, and `out` those of the tag and the text.
             unsafe {
-                nettle_siv_cmac_aes128_encrypt_message(self, nonce.len(), nonce.as_ptr(), data.len(), data.as_ptr(), out.len(), out.as_mut_ptr(), text.as_ptr());
+                nettle_siv_cmac_aes128_encrypt_message(
+                    self,
+                    nonce.len(),
+                    nonce.as_ptr(),
+                    data.len(),
+                    data.as_ptr(),
+                    out.len(),
+                    out.as_mut_ptr(),
+                    text.as_ptr(),
+                );
             }
             out
         }
@@ -113,7 +122,16 @@ mod cipher {
             let mut out = vec![0; sealed.len().checked_sub(TAG)?];
             // SAFETY: each pointer has the bytes of its length, and `sealed` a tag more than `out`.
             let right = unsafe {
-                nettle_siv_cmac_aes128_decrypt_message(self, nonce.len(), nonce.as_ptr(), data.len(), data.as_ptr(), out.len(), out.as_mut_ptr(), sealed.as_ptr())
+                nettle_siv_cmac_aes128_decrypt_message(
+                    self,
+                    nonce.len(),
+                    nonce.as_ptr(),
+                    data.len(),
+                    data.as_ptr(),
+                    out.len(),
+                    out.as_mut_ptr(),
+                    sealed.as_ptr(),
+                )
             };
             (right == 1).then_some(out)
         }
