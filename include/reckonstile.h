@@ -15,7 +15,7 @@
    Where a length is 0 the pointer is not read, but it is not NULL either: pass the address of any byte. A length is at most PTRDIFF_MAX.
    Bytes of a record may be any bytes: a call on a record that no call has made answers 32 and changes nothing. No call trusts a number of it.
 
-   Times. `time` is the caller's uptime clock in nanoseconds, which never steps back. t1 and t4 are readings of the wall clock as NTP timestamps: seconds
+   Times. `time` is one clock that goes forward, in nanoseconds from any start, the same in all calls. t1 and t4 are readings of the wall clock as NTP timestamps: seconds
    since 1900 in the upper 32 bits, the fraction in the lower. t1 is taken when the request leaves, t4 when the reply comes in.
 
    Targets: x86-64 with the System V calling convention (Linux). A struct of one number is passed as that number. */
@@ -159,7 +159,7 @@ struct reckonstile_uid {
 struct reckonstile_timer_answer {
     uint32_t number; /* 20, 21, 22, 23, 24, 31, 32; where it is not 20 all below is zero */
     uint8_t kind;    /* what to send: RECKONSTILE_SEND_V4 .. RECKONSTILE_SEND_NTS_V5 */
-    int8_t poll;     /* the poll exponent: the next poll is due in 2^poll seconds */
+    int8_t poll;     /* the poll exponent: the next poll is due in 2^poll seconds, stretched at random by the caller */
     uint16_t asked;  /* with NTS, how many new cookies the request asks for: 1 to 8 */
     size_t length;   /* with NTS, how many bytes of the buffer are the cookie */
 };
@@ -201,12 +201,17 @@ struct reckonstile_written {
 RECKONSTILE_ASSERT(sizeof(size_t) == 8, "reckonstile: 64-bit targets only");
 RECKONSTILE_ASSERT(sizeof(struct reckonstile_settings) == 32 && offsetof(struct reckonstile_settings, left) == 28, "reckonstile: layout of settings");
 RECKONSTILE_ASSERT(sizeof(struct reckonstile_slot) == 726 && sizeof(struct reckonstile_stash) == 5824, "reckonstile: layout of the stash");
-RECKONSTILE_ASSERT(sizeof(struct reckonstile_state) == 64 && offsetof(struct reckonstile_state, version) == 8 && offsetof(struct reckonstile_state, id) == 16 && offsetof(struct reckonstile_state, uid) == 32, "reckonstile: layout of the state");
-RECKONSTILE_ASSERT(sizeof(struct reckonstile_association) == 5920 && offsetof(struct reckonstile_association, stash) == 32 && offsetof(struct reckonstile_association, state) == 5856, "reckonstile: layout of the record");
+RECKONSTILE_ASSERT(sizeof(struct reckonstile_state) == 64 && offsetof(struct reckonstile_state, version) == 8 &&
+                   offsetof(struct reckonstile_state, id) == 16 && offsetof(struct reckonstile_state, uid) == 32, "reckonstile: layout of the state");
+RECKONSTILE_ASSERT(sizeof(struct reckonstile_association) == 5920 && offsetof(struct reckonstile_association, stash) == 32 &&
+                   offsetof(struct reckonstile_association, state) == 5856, "reckonstile: layout of the record");
 RECKONSTILE_ASSERT(sizeof(struct reckonstile_uid) == 32, "reckonstile: layout of a uid");
-RECKONSTILE_ASSERT(sizeof(struct reckonstile_timer_answer) == 16 && offsetof(struct reckonstile_timer_answer, length) == 8, "reckonstile: layout of the timer's answer");
-RECKONSTILE_ASSERT(sizeof(struct reckonstile_reply_answer) == 56 && offsetof(struct reckonstile_reply_answer, delay) == 8, "reckonstile: layout of the reply's answer");
-RECKONSTILE_ASSERT(sizeof(struct reckonstile_decoded) == 56 && offsetof(struct reckonstile_decoded, mode) == 40 && offsetof(struct reckonstile_decoded, untrusted) == 55, "reckonstile: layout of a decoded reply");
+RECKONSTILE_ASSERT(sizeof(struct reckonstile_timer_answer) == 16 && offsetof(struct reckonstile_timer_answer, length) == 8,
+                   "reckonstile: layout of the timer's answer");
+RECKONSTILE_ASSERT(sizeof(struct reckonstile_reply_answer) == 56 && offsetof(struct reckonstile_reply_answer, delay) == 8,
+                   "reckonstile: layout of the reply's answer");
+RECKONSTILE_ASSERT(sizeof(struct reckonstile_decoded) == 56 && offsetof(struct reckonstile_decoded, mode) == 40 &&
+                   offsetof(struct reckonstile_decoded, untrusted) == 55, "reckonstile: layout of a decoded reply");
 RECKONSTILE_ASSERT(sizeof(struct reckonstile_written) == 16, "reckonstile: layout of what is written");
 
 /* ---- calls */
@@ -223,23 +228,26 @@ uint32_t reckonstile_blank(struct reckonstile_association *a);
    0 made; 30 a setting is outside its range, or a code of no kind; 33 with NTS, the list is broken. On 30 and 33 the record is blank. */
 uint32_t reckonstile_new(struct reckonstile_association *a, struct reckonstile_settings settings, const uint8_t *list, size_t list_len);
 
-/* It is time to poll. `desired` is the poll exponent that the caller wants; `id` and `uid` are fresh random bits (uid counts only with NTS). With NTS the cookie
+/* It is time to poll. `desired` is the poll exponent that the clock steering asks for; it is raised to what the source asks for, and not held to the limits of the
+   settings. `id` and `uid` are fresh random bits (uid counts only with NTS). With NTS the cookie
    to send is written to the buffer, which has room for 724 bytes at least; without NTS a room of 0 will do.
    In this order: 32 the record is not whole; 31 with NTS, room under 724; 22 give the source up; 21 make the association anew; 23, 24 with NTS, no cookie or
    one too large: exchange keys; 20 send. After 32, 31, 22 and 21 the record is as it was; the buffer is written on 20 with NTS alone. */
-struct reckonstile_timer_answer reckonstile_timer(struct reckonstile_association *a, uint64_t time, int8_t desired, uint64_t id, struct reckonstile_uid uid, uint8_t *buffer, size_t room);
+struct reckonstile_timer_answer reckonstile_timer(struct reckonstile_association *a, uint64_t time, int8_t desired, uint64_t id, struct reckonstile_uid uid,
+                                                  uint8_t *buffer, size_t room);
 
-/* A reply of V3 or V4, as bytes. `end` is where its authenticated part ends: the offset of the field that NTS authenticates with, and the packet's length where there
-   is none (without NTS: where its extension fields end, packet_len for a packet without a MAC). `decrypted` are the decrypted fields and `list` the new cookies,
-   which both count only with NTS; the caller has checked the authenticator.
+/* A reply of V3 or V4, as bytes. `end` is where its authenticated part ends: the offset of the head of its authenticator field (type 0404); 48 where there is
+   none, without NTS and in V3; 0 where the authenticator does not hold (the answer is then 1). `decrypted` are the decrypted bytes of that field and `list` the
+   new cookies among them (reckonstile_collect), both empty where there is none; they count only with NTS. The caller has checked the authenticator.
    In this order: 32, 1, 33, 2, 3, 4: the record is as it was. 5 to 11: a matching reply that is not measured; what of it counts the record has. 0 measured; with
    NTS the list's cookies are stored, and the request is no longer pending. */
-struct reckonstile_reply_answer reckonstile_reply(struct reckonstile_association *a, const uint8_t *packet, size_t packet_len, size_t end, const uint8_t *decrypted, size_t decrypted_len,
-                                                  const uint8_t *list, size_t list_len, uint64_t t1, uint64_t t4, uint64_t time);
+struct reckonstile_reply_answer reckonstile_reply(struct reckonstile_association *a, const uint8_t *packet, size_t packet_len, size_t end,
+                                                  const uint8_t *decrypted, size_t decrypted_len, const uint8_t *list, size_t list_len,
+                                                  uint64_t t1, uint64_t t4, uint64_t time);
 
 /* A reply of V5, decoded by the caller. The same numbers. */
-struct reckonstile_reply_answer reckonstile_reply_decoded(struct reckonstile_association *a, struct reckonstile_decoded d, const uint8_t *list, size_t list_len, uint64_t t1, uint64_t t4,
-                                                          uint64_t time);
+struct reckonstile_reply_answer reckonstile_reply_decoded(struct reckonstile_association *a, struct reckonstile_decoded d, const uint8_t *list,
+                                                          size_t list_len, uint64_t t1, uint64_t t4, uint64_t time);
 
 /* Whether the source may be used, given our own stratum, the identifiers of this machine (`count` numbers, not bytes) and the Bloom filter's word. The record is
    only read.
@@ -254,8 +262,8 @@ struct reckonstile_written reckonstile_collect(const uint8_t *decrypted, size_t 
 /* The request that a timer's 20 asks for: `kind`, `poll` and `asked` as that answer has them, `id` and `uid` as the timer was given, the upgrademark of the
    settings, the cookie from the timer's buffer. With NTS the caller appends its authenticator. kind is 1, 2 or 4; cookie, uid and asked count for 4 only.
    0 written; 50 V5, or a kind of no kind; 52 a cookie or a count that no request has; 51 the buffer is too short. */
-struct reckonstile_written reckonstile_write_request(uint8_t kind, int8_t poll, uint64_t id, uint64_t upgrademark, struct reckonstile_uid uid, const uint8_t *cookie, size_t cookie_len,
-                                                     uint8_t asked, uint8_t *out, size_t room);
+struct reckonstile_written reckonstile_write_request(uint8_t kind, int8_t poll, uint64_t id, uint64_t upgrademark, struct reckonstile_uid uid,
+                                                     const uint8_t *cookie, size_t cookie_len, uint8_t asked, uint8_t *out, size_t room);
 
 #ifdef __cplusplus
 }

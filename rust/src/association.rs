@@ -169,6 +169,21 @@ pub struct Source {
 ///
 /// T1 is the wall clock right before the packet is handed to the network: not when the timer went off, and not when the packet was put into a queue, or the
 /// offset is wrong by half of the time that it lay there. T4 is the wall clock when the reply came in, before anything else is done with it.
+///
+/// ```no_run
+/// use reckonstile::{NtpInstant, NtpTimestamp, Times};
+/// # fn main() -> std::io::Result<()> {
+/// # let (socket, packet, mut datagram) = (std::net::UdpSocket::bind("127.0.0.1:0")?, [0; 48], [0; 2048]);
+/// let start = std::time::Instant::now(); // once, when the program starts
+/// let t1 = NtpTimestamp::now();
+/// socket.send(&packet)?; // nothing in between
+/// let length = socket.recv(&mut datagram)?;
+/// let t4 = NtpTimestamp::now();
+/// let times = Times { t1, t4, time: NtpInstant::since_start(start) };
+/// # let _ = (length, times);
+/// # Ok(())
+/// # }
+/// ```
 #[derive(Clone, Copy, Debug, PartialEq, Eq)]
 pub struct Times {
     /// T1: our wall clock when the last request left. The packet does not carry it; keep it.
@@ -331,7 +346,7 @@ pub enum Bloom {
 /// assert_eq!(a.reply(&Packet::plain(&reply), times), Err(ReplyRefused::NoLiveRequest));
 /// # Ok::<(), Box<dyn std::error::Error>>(())
 /// ```
-#[derive(Clone)]
+#[derive(Clone, PartialEq, Eq)]
 pub struct Association {
     record: Record,
 }

@@ -133,10 +133,9 @@ def rust():
         raise Lacks('no Rust compiler here has the standard library for %s: `rustup target add %s`, or on Debian `tools/rust-x86-64`, which unpacks Debian\'s packages '
                     'below target/ and installs nothing' % (TARGET, TARGET))
     environment = dict(os.environ, CARGO_BUILD_TARGET=TARGET, RECKONSTILE_LIB=library(), RUSTC=rustc)
-    if rustc == wrapper or os.path.basename(os.path.dirname(rustc)):
-        beside = os.path.join(os.path.dirname(rustc), 'rustdoc')
-        if os.access(beside, os.X_OK):
-            environment.setdefault('RUSTDOC', beside)
+    beside = os.path.join(os.path.dirname(rustc), 'rustdoc')
+    if os.path.dirname(rustc) and os.access(beside, os.X_OK):
+        environment.setdefault('RUSTDOC', beside)
     environment.setdefault('CARGO_TARGET_DIR', os.path.join(BUILT, 'rust'))
     nettle = os.path.join(UNPACKED, 'nettle', 'usr', 'lib', 'x86_64-linux-gnu')
     if not NATIVE:
