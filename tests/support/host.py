@@ -132,6 +132,7 @@ def rust():
     if not rustc:
         raise Lacks('no Rust compiler here has the standard library for %s: `rustup target add %s`, or on Debian `tools/rust-x86-64`, which unpacks Debian\'s packages '
                     'below target/ and installs nothing' % (TARGET, TARGET))
+    linker, runner = cc(), ' '.join(emulated())  # what is missing is said before the library is proved, which takes minutes
     environment = dict(os.environ, CARGO_BUILD_TARGET=TARGET, RECKONSTILE_LIB=library(), RUSTC=rustc)
     beside = os.path.join(os.path.dirname(rustc), 'rustdoc')
     if os.path.dirname(rustc) and os.access(beside, os.X_OK):
@@ -139,8 +140,8 @@ def rust():
     environment.setdefault('CARGO_TARGET_DIR', os.path.join(BUILT, 'rust'))
     nettle = os.path.join(UNPACKED, 'nettle', 'usr', 'lib', 'x86_64-linux-gnu')
     if not NATIVE:
-        environment['CARGO_TARGET_X86_64_UNKNOWN_LINUX_GNU_LINKER'] = cc()
-        environment['CARGO_TARGET_X86_64_UNKNOWN_LINUX_GNU_RUNNER'] = ' '.join(emulated())
+        environment['CARGO_TARGET_X86_64_UNKNOWN_LINUX_GNU_LINKER'] = linker
+        environment['CARGO_TARGET_X86_64_UNKNOWN_LINUX_GNU_RUNNER'] = runner
         if os.path.isdir(nettle):
             environment.setdefault('NETTLE_LIB', nettle)
     return environment
