@@ -101,14 +101,15 @@ UNIT = Ty('Unit {0}', 'unit', 'tyUnit', '', None, None, 'nothing-lawful 𝓤 H A
 
 
 class Slice(Ty):
-    """`&[u8]` or `&mut [u8]`, with the number of its lifetime"""
+    """`&[u8]` or `&mut [u8]`, with the number of its lifetime; or of another type of elements"""
 
-    def __init__(self, kind, j):
+    def __init__(self, kind, j, elem=('u8', 'w8')):
         self.kind, self.j = kind, j
+        self.elem, w = elem
         S, s, m = ('ShrSlice', 'shr', 'imm') if kind == 'shr' else ('MutSlice', 'mut', 'mut')
-        super().__init__('RefT (List ℕ)', '%s (named %d) κ%d u8' % (S, j, j), 'sliceTy (tyRef (named %d) %s (tyInt w8))' % (j, m), 'slice-val', 'slice-vals',
-                         '%s-slice-tells (named %d) %s u8' % (s, j, path('κs', j)), '%s-slice-lawful 𝓤 H A W (named %d) κ%d u8' % (s, j, j), None,
-                         'shrSliceOf (%d ∷ []) tt (plain (λ _. u8))' % j)
+        super().__init__('RefT (List ℕ)', '%s (named %d) κ%d %s' % (S, j, j, self.elem), 'sliceTy (tyRef (named %d) %s (tyInt %s))' % (j, m, w), 'slice-val', 'slice-vals',
+                         '%s-slice-tells (named %d) %s %s' % (s, j, path('κs', j), self.elem), '%s-slice-lawful 𝓤 H A W (named %d) κ%d %s' % (s, j, j, self.elem), None,
+                         'shrSliceOf (%d ∷ []) tt (plain (λ _. %s))' % (j, self.elem))
 
     def own(self, x):
         return '‵ (%s .own %s (slice-val %s ∷ []))' % (self.row, x, x)
@@ -230,7 +231,7 @@ class Walk:
 
     def twice(self, name, ty):
         """a shared slice is had once more"""
-        self.emit(self.front(name) + 'use1 W (%s ⊛ %s) (shr-slice-copy 𝓤 H A W (named %d) κ%d u8 .twice %s (slice-val %s ∷ [])) $ split ! $' % (ty.own(name), ty.own(name), ty.j, ty.j, name, name))
+        self.emit(self.front(name) + 'use1 W (%s ⊛ %s) (shr-slice-copy 𝓤 H A W (named %d) κ%d %s .twice %s (slice-val %s ∷ [])) $ split ! $' % (ty.own(name), ty.own(name), ty.j, ty.j, ty.elem, name, name))
         self.top(1, name, name + ' again')
 
     def again(self):

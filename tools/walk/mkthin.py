@@ -15,8 +15,7 @@ import sys
 from inplace import *
 
 Fn.by = 'mkthin.py'
-SET, STA, STATE, SEEN = struct('Settings', 'Set'), struct('CookieStash', 'Sta'), struct('State', 'Sm'), struct('Seen', 'Seen·')
-STRUCTS = [('Association', 'Rec', 'association'), ('Settings', 'Set', 'association'), ('State', 'Sm', 'association'), ('CookieStash', 'Sta', 'cookiestash'), ('Seen', 'Seen·', 'cookiestash')]
+STA, SEEN = struct('CookieStash', 'Sta'), struct('Seen', 'Seen·')
 L = lambda *a: lambda w: w.loc(*a)
 LIT = lambda w: '(lit ! tt)'
 CAPACITY = '(refl, lit< tt)'
@@ -52,6 +51,9 @@ class Thin:
     """`rules`: a crate, a function and what it ensures of its result; `out`: the struct that it returns, of an answer, the next state, and `flag`; `after`: what stores
     in the stash, and what it ensures; `over`: the slice that it is given; `input`: the struct that the parameters are gathered in that have its fields' names;
     `says`: what is ensured; `told`: its proof, from what was seen (rs, es), decided (rd, ed) and left (w, ea)"""
+
+    # the record that is lent: its crate, its name, and the names of its settings and of its state; and what the answer is
+    record, answer_is = ('association', 'Association', 'Settings', 'State'), enum
 
     def __init__(self, crate, fn, params, rules, out, flag, answer, after, over, says, told, uses, structs=(), input=None):
         self.crate, self.fn, self.params, self.rules, self.out, self.flag, self.answer, self.after, self.over = crate, fn, params, rules, out, flag, answer, after, over
@@ -302,8 +304,10 @@ module _ (Rec Set Sta Sm Seen Out Ans : RattleType) (set : Set .Denot → Val) (
     # ---- at the function's own types
     def proof(self):
         own = self.rules[0]
-        structs = STRUCTS + [(self.out, 'Out', own), (self.answer, 'Ans', own)] + self.structs
-        out, ans = struct(self.out, 'Out'), enum(self.answer, 'Ans')
+        home, rec, gs, ss = self.record
+        SET, STATE = struct(gs, 'Set'), struct(ss, 'Sm')
+        structs = [(rec, 'Rec', home), (gs, 'Set', home), (ss, 'Sm', home), ('CookieStash', 'Sta', 'cookiestash'), ('Seen', 'Seen·', 'cookiestash'), (self.out, 'Out', own), (self.answer, 'Ans', own)] + self.structs
+        out, ans = struct(self.out, 'Out'), type(self).answer_is(self.answer, 'Ans')
         inp = struct(self.input[0], 'In') if self.input else None
         if self.input:
             structs.append((self.input[0], 'In', own))
@@ -325,20 +329,20 @@ module _ (Rec Set Sta Sm Seen Out Ans : RattleType) (set : Set .Denot → Val) (
         after = Callee('after', 'lent_stash', self.after[0], [('β', 'ℕ'), ('δ', 'GName'), ('rd', self.out)],
                        lambda β, δ, rd: dict(lfts=[(β + ' ∷ []', 'fullShare', 'tok' + β), self.alft], args=[stash('mut', β, δ), value(U8, '8', 'c-is'), value(BOOL, '%s .%s' % (rd, self.flag), 'f-is'), over],
                                              says=lambda r, ws: self.after[1](rd, '%s .0' % ws, '%s .1 .1 .1 .0' % ws)), UNIT, ['CookieStash', 'Unit {0}', 'Unit {0}', 'List ℕ' if self.lent else 'Unit {0}'])
-        f = Fn(self.crate, self.fn, 'mut', 'Association', 'Rec', self.params, ans, self.says, [see, rule, after],
+        f = Fn(self.crate, self.fn, 'mut', rec, 'Rec', self.params, ans, self.says, [see, rule, after],
                'The borrow is opened; the stash, where it lies, is lent to `see`; settings and state are copied and passed to `%s` with what was seen; its state is stored where the old one lay; the stash, where it lies, is lent to `%s`; the borrow is closed.' % (self.rules[1], self.after[0]),
                self.uses + 'use Rattle.lent_stash.proofs.Elements.{map-same}\nuse Rattle.lent_stash.proofs.Lends.{lies-in, lies-out, lies-told, field-out, FieldBack, field-back}\n', structs)
-        f.enums = [(self.answer, 'Ans', own)]
+        f.enums = [(self.answer, 'Ans', own)] if ans.lawful.startswith('EL.') else []
         owed = 'LL.owed Rec.the-type Rec′.the-laws y vs g'
         of = 'LL.owed Out.the-type Out′.the-laws y vs g'
-        f.moredefs = '''-- what whoever holds a record, or what the rules return, knows of its parts
-set-is : (y : Association) (vs : List Val) → Is Rec.the-row y vs → Is Set.the-row (y .settings) (Set-val (y .settings) ∷ [])
+        f.moredefs = ('''-- what whoever holds a record, or what the rules return, knows of its parts
+set-is : (y : $REC) (vs : List Val) → Is Rec.the-row y vs → Is Set.the-row (y .settings) (Set-val (y .settings) ∷ [])
 set-is y vs g = %s .0
 
-sta-is : (y : Association) (vs : List Val) → Is Rec.the-row y vs → Is Sta.the-row (y .stash) (Sta-val (y .stash) ∷ [])
+sta-is : (y : $REC) (vs : List Val) → Is Rec.the-row y vs → Is Sta.the-row (y .stash) (Sta-val (y .stash) ∷ [])
 sta-is y vs g = %s .1 .0
 
-sm-is : (y : Association) (vs : List Val) → Is Rec.the-row y vs → Is Sm.the-row (y .state) (Sm-val (y .state) ∷ [])
+sm-is : (y : $REC) (vs : List Val) → Is Rec.the-row y vs → Is Sm.the-row (y .state) (Sm-val (y .state) ∷ [])
 sm-is y vs g = %s .1 .1 .0
 
 answer-is : (y : %s) (vs : List Val) → Is Out.the-row y vs → Is Ans.the-row (y .answer) (Ans-val (y .answer) ∷ [])
@@ -351,17 +355,17 @@ flag-is : (y : %s) (vs : List Val) → Is Out.the-row y vs → Is bool (y .%s) (
 flag-is y vs g = %s .1 .1 .0
 
 -- the record with another stash and state
-abbrev put : Association → CookieStash → State → Association
+abbrev put : $REC → CookieStash → $ST → $REC
 put y w s = record { settings = y .settings; stash = w; state = s }
 
-put-is : (y : Association) (w : CookieStash) (s : State) (vs : List Val) → Is Rec.the-row y vs → Is Sta.the-row w (Sta-val w ∷ []) → Is Sm.the-row s (Sm-val s ∷ [])
+put-is : (y : $REC) (w : CookieStash) (s : $ST) (vs : List Val) → Is Rec.the-row y vs → Is Sta.the-row w (Sta-val w ∷ []) → Is Sm.the-row s (Sm-val s ∷ [])
     → Is Rec.the-row (put y w s) (vstruct (ofList (Set-val (y .settings) ∷ Sta-val w ∷ Sm-val s ∷ [])) ∷ [])
 put-is y w s vs g j k = LL.owes Rec.the-type Rec′.the-laws (put y w s) (set-is y vs g, (j, (k, tt)))
 
 abbrev dist : ℕ
 dist = up (align Sta′.mir) (up (align Set′.mir) zero + size Set′.mir)
 
-''' % (owed, owed, owed, self.out, of, self.out, of, self.out, self.flag, self.flag, of)
+''' % (owed, owed, owed, self.out, of, self.out, of, self.out, self.flag, self.flag, of)).replace('$REC', rec).replace('$ST', ss)
         laws = '''  abbrev stash-ref : GName → RefT CookieStash
   stash-ref δ = record { ptr = (b, o + dist); name = δ; now = h .stash }
 
@@ -418,7 +422,7 @@ dist = up (align Sta′.mir) (up (align Set′.mir) zero + size Set′.mir)
         room = ' (refl, %s-is .0 .1 .0)' % self.over if self.lent else ''
         w.emit(w.front(*ctx) + 'by ! (walkᵃ')
         args = ['Rec.the-row Set.the-row Sta.the-row Sm.the-row Seen·.the-row Out.the-row Ans.the-row Set-val Sta-val Sm-val Seen·-val Ans-val (λ y. y .settings) (λ y. y .stash) (λ y. y .state) put (λ y. y .answer) (λ y. y .state) (λ y. y .%s)' % self.flag,
-                '(%s) (%s) (tyNamed (%s, [])) (tyNamed (%s, [])) Set′.mir Sta′.mir Sm′.mir Seen·′.mir Ans′.mir%s%s refl refl' % (code('association::Association'), code(own + '::' + self.out), code('association::Association'), code('cookiestash::CookieStash'), ' In′.mir' if self.input else '', ''.join(' ' + atom(t.mir) for _, t in self.plain)),
+                '(%s) (%s) (tyNamed (%s, [])) (tyNamed (%s, [])) Set′.mir Sta′.mir Sm′.mir Seen·′.mir Ans′.mir%s%s refl refl' % (code(home + '::' + rec), code(own + '::' + self.out), code(home + '::' + rec), code('cookiestash::CookieStash'), ' In′.mir' if self.input else '', ''.join(' ' + atom(t.mir) for _, t in self.plain)),
                 '(LL.tells Rec.the-type Rec′.the-laws) (LL.tells Sta.the-type Sta′.the-laws) (LL.tells Seen·.the-type Seen·′.the-laws) (LL.tells Out.the-type Out′.the-laws)',
                 '(λ y g. %s) (λ y g. %s) (λ y g. %s) (λ y v g. %s) (λ y v g. %s)' % (SET.typed('y', 'g'), STATE.typed('y', 'g'), ans.typed('y', 'g'), SEEN.typed('y', 'g'), out.typed('y', 'g')),
                 'set-is sta-is sm-is answer-is next-is put-is 𝓤 H A W (LL.makes Rec.the-type Rec′.the-plain 𝓤 H A) (LL.makes Sta.the-type Sta′.the-plain 𝓤 H A)',
@@ -436,10 +440,15 @@ dist = up (align Sta′.mir) (up (align Set′.mir) zero + size Set′.mir)
         return pruned(o.replace('walkᵃ', 'walk'))
 
 
+# what stores in the stash, and what it ensures
+TAKE = ('take', lambda rd, w, zs: '(%s ≡ cond (%s .takes) (getOf 8 (h .stash) .stash) (h .stash)) × (%s ≡ cond (%s .takes) (handedOf (getOf 8 (h .stash) .slot) (buffer .now)) (buffer .now))' % (w, rd, zs, rd))
+REFILL = ('refill', lambda rd, w, zs: '%s ≡ cond (%s .stores) (storeListOf 8 (h .stash) (list .now)) (h .stash)' % (w, rd))
+
+
 def timer():
     return Thin('timer', 'timer', [('time', U64), ('desired', struct('PollInterval', 'Poll')), ('id', U64), ('uid', array(32)), ('buffer', Slice('mut', 1))],
                 ('timer_rules', 'decide', lambda r, rs: '%s ≡ decideOf (h .settings) (h .state) %s input (length (buffer .now))' % (r, rs)), 'Decision', 'takes', 'TimerAnswer',
-                ('take', lambda rd, w, zs: '(%s ≡ cond (%s .takes) (getOf 8 (h .stash) .stash) (h .stash)) × (%s ≡ cond (%s .takes) (handedOf (getOf 8 (h .stash) .slot) (buffer .now)) (buffer .now))' % (w, rd, zs, rd)), 'buffer',
+                TAKE, 'buffer',
                 'timed (out r w) zs ≡ timedOf h (timerInput time desired id uid) (buffer .now)', 'told h input (buffer .now) rs rd (w .0) (w .1) es ed (ea .1 .0) (ea .1 .1)',
                 '''use Rattle.cookiestash.specs.Stash.{getOf}
 use Rattle.cookiestash.specs.Whole.{seenOf}
@@ -456,7 +465,7 @@ def replying(fn, params, rule, read, define, structs=()):
     t = 'told h (%s) (%s) rs rd w es ed ea' % (read, arrival)
     of = '%s (%s)' % (define, arrival)
     return Thin('reply', fn, params, ('reply_rules', rule, lambda r, rs: '%s ≡ verdictOf (h .settings) (h .state) %s (%s) (%s)' % (r, rs, read, arrival)), 'Verdict', 'stores', 'ReplyAnswer',
-                ('refill', lambda rd, w, zs: '%s ≡ cond (%s .stores) (storeListOf 8 (h .stash) (list .now)) (h .stash)' % (w, rd)), 'list',
+                REFILL, 'list',
                 '(r ≡ %s .answer) × (w ≡ %s .association)' % (of, of), 'ap (λ (s : ReplyOut). s .answer) (%s), ap (λ (s : ReplyOut). s .association) (%s)' % (t, t),
                 '''use Rattle.cookiestash.specs.StoreList.{storeListOf}
 use Rattle.cookiestash.specs.Whole.{seenOf}
@@ -470,11 +479,12 @@ use Rattle.reply.proofs.Thin.{told}
 ''', [('NtpTimestamp', 'Time', 'time_types')] + list(structs))
 
 
+PACKET = [('packet', Slice('shr', 1)), ('end', USIZE), ('decrypted', Slice('shr', 2)), ('list', Slice('shr', 3))]
 TIMES = [('t1', struct('NtpTimestamp', 'Time')), ('t4', struct('NtpTimestamp', 'Time')), ('time', U64)]
 
 
 def reply():
-    return replying('reply', [('packet', Slice('shr', 1)), ('end', USIZE), ('decrypted', Slice('shr', 2)), ('list', Slice('shr', 3))] + TIMES, 'judge_packet',
+    return replying('reply', PACKET + TIMES, 'judge_packet',
                     'readWith (h .settings) (h .state) (packet .now) end (decrypted .now)', 'replyOf h (packet .now) end (decrypted .now)')
 
 
@@ -482,7 +492,48 @@ def reply_decoded():
     return replying('reply_decoded', [('d', struct('DecodedReply', 'Dec')), ('list', Slice('shr', 1))] + TIMES, 'judge_decoded', 'Decoded (decodedOf d)', 'replyDecodedOf h d', [('DecodedReply', 'Dec', 'incoming')])
 
 
-WALKS = dict(timer=timer, reply=reply, reply_decoded=reply_decoded)
+# ---- the exported calls
+
+class Export(Thin):
+    record, answer_is = ('embed_record', 'CAssociation', 'CSettings', 'CState'), struct
+
+
+def reckonstile_timer():
+    return Export('embed', 'reckonstile_timer', [('time', U64), ('desired', struct('PollInterval', 'Poll')), ('id', U64), ('uid', struct('CUid', 'Uid')), ('buffer', Slice('mut', 1))],
+                  ('embed_rules', 'decide', lambda r, rs: '%s ≡ decideOf (h .settings) (h .state) %s input (length (buffer .now))' % (r, rs)), 'CDecision', 'takes', 'CTimerAnswer', TAKE, 'buffer',
+                  'timerGave r w zs ≡ timerCall h (inputOf time desired id uid) (buffer .now)', 'timer-told h input (buffer .now) rs rd (w .0) (w .1) es ed (ea .1 .0) (ea .1 .1)',
+                  '''use Rattle.cookiestash.specs.Stash.{getOf}
+use Rattle.cookiestash.specs.Whole.{seenOf}
+use Rattle.lent_stash.specs.Lent.{handedOf}
+use Rattle.embed_rules.specs.Rules.{input as inputOf, decideOf}
+use Rattle.embed.specs.Calls.{timerGave, timerCall}
+use Rattle.embed.proofs.Thin.{timer-told}
+''', [('PollInterval', 'Poll', 'time_types'), ('CUid', 'Uid', 'embed_rules')], ('CInput', ['time', 'desired', 'id', 'uid']))
+
+
+def exported(fn, params, rule, read, define, structs=()):
+    arrival = 'arrival (list .now) t1 t4 time'
+    return Export('embed', fn, params, ('embed_rules', rule, lambda r, rs: '%s ≡ judgeOf (h .settings) (h .state) %s (%s) (%s)' % (r, rs, read, arrival)), 'CVerdict', 'stores', 'CReplyAnswer', REFILL, 'list',
+                  'replyGave r w ≡ %s (%s)' % (define, arrival), 'reply-told h (%s) (%s) rs rd w es ed ea' % (read, arrival),
+                  '''use Rattle.cookiestash.specs.StoreList.{storeListOf}
+use Rattle.cookiestash.specs.Whole.{seenOf}
+use Rattle.reply_clauses.specs.After.{arrival}
+use Rattle.embed_rules.specs.Decoded.{decodedRead}
+use Rattle.embed_rules.specs.Rules.{judgeOf, packetRead}
+use Rattle.embed.specs.Calls.{replyGave, replyCall, decodedCall}
+use Rattle.embed.proofs.Thin.{reply-told}
+''', [('NtpTimestamp', 'Time', 'time_types')] + list(structs))
+
+
+def reckonstile_reply():
+    return exported('reckonstile_reply', PACKET + TIMES, 'judge_packet', 'packetRead (h .settings) (h .state) (packet .now) end (decrypted .now)', 'replyCall h (packet .now) end (decrypted .now)')
+
+
+def reckonstile_reply_decoded():
+    return exported('reckonstile_reply_decoded', [('d', struct('CDecoded', 'Dec')), ('list', Slice('shr', 1))] + TIMES, 'judge_decoded', 'decodedRead d', 'decodedCall h d', [('CDecoded', 'Dec', 'embed_rules')])
+
+
+WALKS = {f.__name__: f for f in (timer, reply, reply_decoded, reckonstile_timer, reckonstile_reply, reckonstile_reply_decoded)}
 
 if __name__ == '__main__':
     if len(sys.argv) == 1:

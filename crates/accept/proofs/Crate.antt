@@ -9,13 +9,14 @@ use borrow.Author.Tests.{le-leb}
 use lib.Dec.{leb}
 use Rattle.words.proofs.Tests.{passes, or-true}
 use Rattle.reach.specs.Register.{reachableOf}
+use Rattle.cookiestash.specs.Whole.{seenOf}
 use Rattle.association.specs.declared.Association.{Association}
 use Rattle.association.specs.Record.{wholeOf}
 use Rattle.accept.specs.declared.Bloom.{Bloom}
 use Rattle.accept.specs.declared.AcceptAnswer.{AcceptAnswer}
 use Rattle.accept.specs.declared.AcceptAnswer.the-variants.{Accepted, Stratum, Loop, Unreachable, NotWhole}
 use Rattle.accept.proofs.Numbers.{or-right}
-use Rattle.accept.specs.Accept.{numberOf, among, isPresent, isOurs, servedByUs, acceptBy, acceptOf, crateAcceptOf}
+use Rattle.accept.specs.Accept.{numberOf, among, isPresent, isOurs, servedByUs, acceptBy, acceptSeen, acceptOf, crateAcceptOf}
 
 -- a test that does not hit is as good as none
 dropped : (o p : Bool) {s : Bool} → s ≡ false → ((o || s) || p) ≡ (o || p)
@@ -36,12 +37,12 @@ module _ (a : Association) (stratum : ℕ) (local : List ℕ) (bloom : Bloom) wh
 
   -- where the new test does not hit, the answer is the crate's
   pub as-the-crate : served ≡ false → acceptOf a stratum local bloom ≡ crateAcceptOf a stratum local bloom
-  unfolding acceptOf crateAcceptOf
-  as-the-crate h = ap (λ (l : Bool). acceptBy l a stratum) (dropped ourself (isPresent bloom) h)
+  unfolding acceptSeen crateAcceptOf wholeOf
+  as-the-crate h = ap (λ (l : Bool). acceptBy l (a .settings) (a .state) (seenOf 8 (a .stash)) stratum) (dropped ourself (isPresent bloom) h)
 
   -- so where the answer is not the crate's the new test hits, and the answer is 41
   pub differs : (acceptOf a stratum local bloom ≡ crateAcceptOf a stratum local bloom → ⊥) → (served ≡ true) × (acceptOf a stratum local bloom ≡ Loop)
-  unfolding acceptOf crateAcceptOf
+  unfolding acceptSeen crateAcceptOf wholeOf
   differs d = by (wholeOf a) (leb stratum (a .state .source .stratum)) served refl refl refl
     where
       by : (w b s : Bool) → wholeOf a ≡ w → leb stratum (a .state .source .stratum) ≡ b → served ≡ s → (served ≡ true) × (acceptOf a stratum local bloom ≡ Loop)
@@ -52,7 +53,7 @@ module _ (a : Association) (stratum : ℕ) (local : List ℕ) (bloom : Bloom) wh
 
   -- a source that reports one of our identifiers from stratum 2 up is never accepted, whatever else the record holds
   pub never-accepted : ServedByUs a local → acceptOf a stratum local bloom ≡ Accepted → ⊥
-  unfolding acceptOf
+  unfolding acceptSeen wholeOf
   never-accepted s e = by (wholeOf a) (leb stratum (a .state .source .stratum)) refl refl
     where
       hit : served ≡ true
@@ -69,7 +70,7 @@ module _ (a : Association) (stratum : ℕ) (local : List ℕ) (bloom : Bloom) wh
   -- the crate's rule accepts it, where nothing else speaks against it
   pub by-the-crate : wholeOf a ≡ true → leb stratum (a .state .source .stratum) ≡ false → ourself ≡ false → isPresent bloom ≡ false
       → reachableOf (a .state .effort .reach) ≡ true → crateAcceptOf a stratum local bloom ≡ Accepted
-  unfolding crateAcceptOf
+  unfolding crateAcceptOf wholeOf
   by-the-crate w b o p r = rw (w, b, o, p, r)
 
 -- so of two connectors that serve each other neither accepts the other

@@ -3,6 +3,7 @@
 use mathlib.Core.Path.{_∙_, sym}
 use Rattle.words.specs.Determined.{Determined}
 use Rattle.accept.proofs.AcceptAnswer.number.Reads as number
+use Rattle.accept.proofs.accept_seen.Reads as accept-seen
 use Rattle.accept.proofs.accept.Reads as accept
 
 pub number-determined : Determined number.Post
@@ -10,3 +11,6 @@ number-determined κs a y z e f p q = p ∙ sym q
 
 pub accept-determined : Determined accept.Post
 accept-determined κs a y z e f p q = p ∙ sym q
+
+pub accept-seen-determined : Determined accept-seen.Post
+accept-seen-determined κs a y z e f p q = p ∙ sym q

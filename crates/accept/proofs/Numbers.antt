@@ -13,7 +13,7 @@ use Rattle.association.specs.Record.{wholeOf}
 use Rattle.accept.specs.declared.Bloom.{Bloom}
 use Rattle.accept.specs.declared.AcceptAnswer.{AcceptAnswer}
 use Rattle.accept.specs.declared.AcceptAnswer.the-variants.{Loop}
-use Rattle.accept.specs.Accept.{numberOf, isPresent, isOurs, servedByUs, loops, acceptOf}
+use Rattle.accept.specs.Accept.{numberOf, isPresent, isOurs, servedByUs, loops, acceptSeen, acceptOf}
 use Rattle.accept.specs.Numbers as N
 use Rattle.accept.specs.Numbers.{not-whole, too-high, ours, served-by-us, in-the-filter, unreached, accepted}
 
@@ -46,7 +46,7 @@ module _ (a : Association) (stratum : ℕ) (local : List ℕ) (bloom : Bloom) wh
 
   -- what is given is given under the rule of its number
   pub given : Told (acceptOf a stratum local bloom)
-  unfolding acceptOf
+  unfolding acceptSeen wholeOf
   given =
       either Told (wholeOf a)
       (λ w. either Told (leb stratum (a .state .source .stratum)) (too-high w)
@@ -58,7 +58,7 @@ module _ (a : Association) (stratum : ℕ) (local : List ℕ) (bloom : Bloom) wh
 
   -- where a number's rule holds, that rule's answer is given
   pub only : {n : ℕ} {r : AcceptAnswer} → Given n r → acceptOf a stratum local bloom ≡ r
-  unfolding acceptOf
+  unfolding acceptSeen wholeOf
   only (not-whole w) = rw w
   only (too-high w s) = rw (w, s)
   only (ours b l) = rw (b .whole, b .below, l)

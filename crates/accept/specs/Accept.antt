@@ -5,8 +5,12 @@ use mathlib.Core.List.{List, [], _∷_}
 use Prim.Native.Nat.{ℕ}
 use lib.Dec.{leb, eqb}
 use Rattle.reach.specs.Register.{reachableOf}
+use Rattle.cookiestash.specs.declared.Seen.{Seen}
+use Rattle.cookiestash.specs.Whole.{seenOf}
+use Rattle.association.specs.declared.Settings.{Settings}
+use Rattle.association.specs.declared.State.{State}
 use Rattle.association.specs.declared.Association.{Association}
-use Rattle.association.specs.Record.{wholeOf}
+use Rattle.association.specs.Record.{wholeSeen}
 use Rattle.accept.specs.declared.Bloom.{Bloom}
 use Rattle.accept.specs.declared.Bloom.the-variants.{NoFilter, Absent, Present}
 use Rattle.accept.specs.declared.AcceptAnswer.{AcceptAnswer}
@@ -43,20 +47,24 @@ abbrev pub loops : ℕ → ℕ → ℕ → List ℕ → Bloom → Bool
 loops stratum id refid local bloom = (isOurs stratum id local || servedByUs stratum refid local) || isPresent bloom
 
 -- 40 if stratum ≥ local stratum; 41 for a loop; 42 if reach is 0
-abbrev pub acceptBy : Bool → Association → ℕ → AcceptAnswer
-acceptBy loop a stratum =
-    cond (wholeOf a)
-    (cond (leb stratum (a .state .source .stratum)) Stratum
+abbrev pub acceptBy : Bool → Settings → State → Seen → ℕ → AcceptAnswer
+acceptBy loop g s v stratum =
+    cond (wholeSeen g v (s .request))
+    (cond (leb stratum (s .source .stratum)) Stratum
     (cond loop Loop
-    (cond (reachableOf (a .state .effort .reach)) Accepted Unreachable)))
+    (cond (reachableOf (s .effort .reach)) Accepted Unreachable)))
     NotWhole
 
-unfoldable pub acceptOf : Association → ℕ → List ℕ → Bloom → AcceptAnswer
-acceptOf a stratum local bloom = acceptBy (loops (a .state .source .stratum) (a .settings .source .0) (a .state .source .refid .0) local bloom) a stratum
+unfoldable pub acceptSeen : Settings → State → Seen → ℕ → List ℕ → Bloom → AcceptAnswer
+acceptSeen g s v stratum local bloom = acceptBy (loops (s .source .stratum) (g .source .0) (s .source .refid .0) local bloom) g s v stratum
+
+abbrev pub acceptOf : Association → ℕ → List ℕ → Bloom → AcceptAnswer
+acceptOf a stratum local bloom = acceptSeen (a .settings) (a .state) (seenOf 8 (a .stash)) stratum local bloom
 
 -- the crate's rule, which does not look at what the source reports; only theorems cite it (docs/DIFFERENCES.md)
 abbrev pub crateLoops : ℕ → ℕ → List ℕ → Bloom → Bool
 crateLoops stratum id local bloom = isOurs stratum id local || isPresent bloom
 
 unfoldable pub crateAcceptOf : Association → ℕ → List ℕ → Bloom → AcceptAnswer
-crateAcceptOf a stratum local bloom = acceptBy (crateLoops (a .state .source .stratum) (a .settings .source .0) local bloom) a stratum
+crateAcceptOf a stratum local bloom =
+    acceptBy (crateLoops (a .state .source .stratum) (a .settings .source .0) local bloom) (a .settings) (a .state) (seenOf 8 (a .stash)) stratum

@@ -2,8 +2,12 @@
 // Promises: each number exactly under its rule, in its order.
 // Rule: RULES, part 12; definitions in specs/Accept.antt, number by number in specs/Numbers.antt.
 use association::Association;
+use association::Settings;
+use association::State;
+use cookiestash::CAPACITY;
+use cookiestash::Seen;
 ghost use mathlib.Core.Path.{_≡_};
-ghost use Rattle.accept.specs.Accept.{among, isPresent, isOurs, servedByUs, loops, numberOf, acceptOf};
+ghost use Rattle.accept.specs.Accept.{among, isPresent, isOurs, servedByUs, loops, numberOf, acceptSeen, acceptOf};
 
 // What the caller's Bloom filter says of us: there is none, or we are absent from it, or present.
 pub enum Bloom {
@@ -93,19 +97,25 @@ fn is_loop(stratum: u8, id: u32, refid: u32, local: &[u32], bloom: Bloom) -> boo
     is_present(bloom)
 }
 
-// Whether the association's source is accepted, given our own stratum, our identifiers and the Bloom filter's word.
-pub fn accept(a: Association, stratum: u8, local: &[u32], bloom: Bloom) -> AcceptAnswer
-    ensures { λ r. ⌜ r ≡ acceptOf a stratum (now (local .entry)) bloom ⌝ }
+// Whether the source is accepted, given our own stratum, our identifiers and the Bloom filter's word, of an association's settings, its state and what is seen of its stash.
+pub fn accept_seen(
+    settings: Settings,
+    state: State,
+    seen: Seen,
+    stratum: u8,
+    local: &[u32],
+    bloom: Bloom,
+) -> AcceptAnswer
+    ensures { λ r. ⌜ r ≡ acceptSeen settings state seen stratum (now (local .entry)) bloom ⌝ }
 {
-    if !a.whole() {
+    let request = state.request;
+    if !association::whole_seen(settings, seen, request) {
         return AcceptAnswer::NotWhole;
     }
-    let state = a.state;
     let source = state.source;
     if stratum <= source.stratum {
         return AcceptAnswer::Stratum;
     }
-    let settings = a.settings;
     let own = settings.source;
     let reported = source.refid;
     if is_loop(source.stratum, own.0, reported.0, local, bloom) {
@@ -117,4 +127,14 @@ pub fn accept(a: Association, stratum: u8, local: &[u32], bloom: Bloom) -> Accep
         return AcceptAnswer::Unreachable;
     }
     AcceptAnswer::Accepted
+}
+
+// The same of an association of one's own.
+pub fn accept(a: Association, stratum: u8, local: &[u32], bloom: Bloom) -> AcceptAnswer
+    ensures { λ r. ⌜ r ≡ acceptOf a stratum (now (local .entry)) bloom ⌝ }
+{
+    let settings = a.settings;
+    let stash = a.stash;
+    let state = a.state;
+    accept_seen(settings, state, stash.seen(CAPACITY), stratum, local, bloom)
 }

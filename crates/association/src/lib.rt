@@ -37,12 +37,14 @@ pub struct Settings {
 }
 
 // How the polls went: the reach register, and how many were sent.
+#[repr(C)]
 pub struct Effort {
     pub reach: Reach,
     pub tries: u8,
 }
 
 // The poll exponent last used, and the least that the source asks for.
+#[repr(C)]
 pub struct Polls {
     pub last: PollInterval,
     pub remote: PollInterval,

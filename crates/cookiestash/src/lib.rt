@@ -24,12 +24,14 @@ pub const CAPACITY: u8 = 8;
 pub const MAX_LENGTH: usize = 65535;
 
 // One cookie: its length, and its bytes from the start, with zeros behind. Of a cookie longer than a slot only the length is kept.
+#[repr(C)]
 pub struct Slot {
     pub bytes: [u8; 724],
     pub len: u16,
 }
 
 // The slots, the place of the oldest cookie, and how many are held.
+#[repr(C)]
 pub struct CookieStash {
     pub slots: [Slot; 8],
     pub read: usize,

@@ -9,6 +9,7 @@ mod requests;
 mod rules;
 mod speed;
 mod state;
+mod units;
 
 use both::{Both, Step};
 use drill::Log;

@@ -1,64 +1,23 @@
--- `accept` meets its contract: the tests in order.
+-- `accept` meets its contract, by those of its calls.
 -- Assumes nothing.
-use mathlib.Core.Path.{_≡_, sym, _∙_}
-use mathlib.Core.Bool.{true}
-use borrow.Author.Tests.{le-leb, lt-leb, not-true, not-false}
-use Rattle.association.specs.Record.{wholeOf}
-use Rattle.accept.specs.Accept.{acceptOf}
+use mathlib.Core.Path.{_∙_, ap}
+use denote.Ref.{now}
+use Rattle.cookiestash.specs.declared.Seen.{Seen}
+use Rattle.accept.specs.Accept.{acceptSeen}
 use borrow.Author.Needs.{needs}
 use Rattle.accept.proofs.accept.Statement.{statement}
 use Rattle.accept.proofs.accept.Tie as tie
 
--- the record is whole once the first test is passed
-whole : (c : tie.Else1) → wholeOf (c .before .before .before .args .a) ≡ true
-whole c = sym (c .before .whole .ensures) ∙ not-false _ (c .if1 .left)
+seen-requires : tie.Need-seen-requires
+seen-requires c κs = search needs
 
-whole-requires : tie.Need-whole-requires
-whole-requires c κs = search needs
+accept-seen-requires : tie.Need-accept-seen-requires
+accept-seen-requires c κs = search needs
 
 returns : tie.Need-returns
-unfolding acceptOf
-returns c = rw (sym (c .before .whole .ensures) ∙ not-true _ (c .if1 .taken))
-
-returns-2 : tie.Need-returns-2
-unfolding acceptOf
-returns-2 c = let w = c .before .before .before .before in rw (whole w, le-leb _ _ (c .if2 .taken))
-
-is-loop-requires : tie.Need-is-loop-requires
-is-loop-requires c κs = search needs
-
-returns-3 : tie.Need-returns-3
-unfolding acceptOf
-returns-3 c =
-    let s = c .before .before .before .before .before in
-    rw (whole (s .before .before .before .before), lt-leb _ _ (s .if2 .left), sym (c .before .is-loop .ensures) ∙ c .if3 .taken)
-
-is-reachable-requires : tie.Need-is-reachable-requires
-is-reachable-requires c κs = search needs
-
-returns-4 : tie.Need-returns-4
-unfolding acceptOf
-returns-4 c =
-    let l = c .before .before .before .before in
-    let s = l .before .before .before .before .before in
-    rw (whole (s .before .before .before .before), lt-leb _ _ (s .if2 .left), sym (l .before .is-loop .ensures) ∙ l .if3 .left, sym (c .before .is-reachable .ensures) ∙ not-true _ (c .if4 .taken))
-
-returns-5 : tie.Need-returns-5
-unfolding acceptOf
-returns-5 c =
-    let l = c .before .before .before .before in
-    let s = l .before .before .before .before .before in
-    rw (whole (s .before .before .before .before), lt-leb _ _ (s .if2 .left), sym (l .before .is-loop .ensures) ∙ l .if3 .left, sym (c .before .is-reachable .ensures) ∙ not-false _ (c .if4 .left))
+returns c =
+    let a = c .before .before .before .before .before .before .args in
+    c .accept-seen .ensures ∙ ap (λ (v : Seen). acceptSeen (a .a .settings) (a .a .state) v (a .stratum) (now (a .local)) (a .bloom)) (c .before .seen .ensures)
 
 pub accept-spec : {M : Type 1} → statement M
-accept-spec =
-    tie.close
-    (tie.spec
-    whole-requires
-    returns
-    returns-2
-    is-loop-requires
-    returns-3
-    is-reachable-requires
-    returns-4
-    returns-5)
+accept-spec = tie.close (tie.spec seen-requires accept-seen-requires returns)

@@ -1,0 +1,3 @@
+-- The definitions that the contracts of `embed` cite.
+pub mod Calls
+pub mod Written

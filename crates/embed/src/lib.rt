@@ -1,0 +1,250 @@
+// What a caller from C or Rust links: the calls of the association, over a record that the caller lends.
+// Promises: each is the call behind it on the unpacked record, packed again, and has a defined answer on any bytes whatever.
+// Rule: RULES, parts 7 and 10 to 12, and No. 1; definitions in specs/Calls.antt and specs/Written.antt.
+use collector::Collected;
+use cookiestash::CAPACITY;
+use embed_record::CAssociation;
+use embed_record::CSettings;
+use embed_rules::CDecoded;
+use embed_rules::CInput;
+use embed_rules::CReplyAnswer;
+use embed_rules::CTimerAnswer;
+use embed_rules::CUid;
+use request::Requested;
+use time_types::NtpTimestamp;
+use time_types::PollInterval;
+use version::SendKind;
+ghost use mathlib.Core.Path.{_≡_};
+ghost use lib.ListN.{length};
+ghost use Rattle.reply_clauses.specs.After.{arrival};
+ghost use Rattle.collector.specs.Collector.{collectOf, bufferOf as listed};
+ghost use Rattle.request.specs.Answer.{requestOf, bufferOf as requested};
+ghost use Rattle.embed_rules.specs.Rules.{input, blankMade, makeOf};
+ghost use Rattle.embed.specs.Calls.{timerGave, timerCall, replyGave, replyCall, decodedCall, acceptCall};
+ghost use Rattle.embed.specs.Written.{unwritten, collectedAs, requestedAs, sendIn};
+
+// How many bytes a record has, and at a multiple of what it lies.
+#[no_mangle]
+pub extern "C" fn reckonstile_size() -> usize
+    ensures { λ r. ⌜ r ≡ 5920 ⌝ }
+{
+    5920
+}
+
+#[no_mangle]
+pub extern "C" fn reckonstile_align() -> usize
+    ensures { λ r. ⌜ r ≡ 8 ⌝ }
+{
+    8
+}
+
+// The record becomes the blank one: all zero.
+#[no_mangle]
+pub extern "C" fn reckonstile_blank(a: &mut CAssociation) -> u32
+    ensures { λ r. ⌜ (r ≡ blankMade .number) × (now (a .exit) ≡ blankMade .association) ⌝ }
+{
+    let out = embed_rules::blank();
+    *a = out.association;
+    out.number
+}
+
+// The record becomes a new association: 0. Blank where it is refused: 30, 33.
+#[no_mangle]
+pub extern "C" fn reckonstile_new(a: &mut CAssociation, settings: CSettings, list: &[u8]) -> u32
+    ensures { λ r. ⌜ (r ≡ makeOf settings (now (list .entry)) .number) × (now (a .exit) ≡ makeOf settings (now (list .entry)) .association) ⌝ }
+{
+    let out = embed_rules::make(settings, list);
+    *a = out.association;
+    out.number
+}
+
+// The timer: 20 to 24, 31, 32. What changes of the record is stored where it lies.
+#[no_mangle]
+pub extern "C" fn reckonstile_timer(
+    a: &mut CAssociation,
+    time: u64,
+    desired: PollInterval,
+    id: u64,
+    uid: CUid,
+    buffer: &mut [u8],
+) -> CTimerAnswer
+    ensures { λ r. ⌜ timerGave r (now (a .exit)) (now (buffer .exit)) ≡ timerCall (now (a .entry)) (input time desired id uid) (now (buffer .entry)) ⌝ }
+{
+    let seen = lent_stash::see(&a.stash, CAPACITY);
+    let settings = a.settings;
+    let state = a.state;
+    let input = CInput {
+        time,
+        desired,
+        id,
+        uid,
+    };
+    let decision = embed_rules::decide(settings, state, seen, input, buffer.len());
+    a.state = decision.state;
+    lent_stash::take(&mut a.stash, CAPACITY, decision.takes, buffer);
+    decision.answer
+}
+
+// A reply of V3 or V4, as bytes: 0 to 11, 32, 33.
+#[no_mangle]
+pub extern "C" fn reckonstile_reply(
+    a: &mut CAssociation,
+    packet: &[u8],
+    end: usize,
+    decrypted: &[u8],
+    list: &[u8],
+    t1: NtpTimestamp,
+    t4: NtpTimestamp,
+    time: u64,
+) -> CReplyAnswer
+    ensures { λ r. ⌜ replyGave r (now (a .exit)) ≡ replyCall (now (a .entry)) (now (packet .entry)) end (now (decrypted .entry)) (arrival (now (list .entry)) t1 t4 time) ⌝ }
+{
+    let seen = lent_stash::see(&a.stash, CAPACITY);
+    let settings = a.settings;
+    let state = a.state;
+    let verdict = embed_rules::judge_packet(
+        settings,
+        state,
+        seen,
+        packet,
+        end,
+        decrypted,
+        list,
+        t1,
+        t4,
+        time,
+    );
+    a.state = verdict.state;
+    lent_stash::refill(&mut a.stash, CAPACITY, verdict.stores, list);
+    verdict.answer
+}
+
+// A reply of V5, decoded by the caller: the same numbers.
+#[no_mangle]
+pub extern "C" fn reckonstile_reply_decoded(
+    a: &mut CAssociation,
+    d: CDecoded,
+    list: &[u8],
+    t1: NtpTimestamp,
+    t4: NtpTimestamp,
+    time: u64,
+) -> CReplyAnswer
+    ensures { λ r. ⌜ replyGave r (now (a .exit)) ≡ decodedCall (now (a .entry)) d (arrival (now (list .entry)) t1 t4 time) ⌝ }
+{
+    let seen = lent_stash::see(&a.stash, CAPACITY);
+    let settings = a.settings;
+    let state = a.state;
+    let verdict = embed_rules::judge_decoded(settings, state, seen, d, list, t1, t4, time);
+    a.state = verdict.state;
+    lent_stash::refill(&mut a.stash, CAPACITY, verdict.stores, list);
+    verdict.answer
+}
+
+// Whether the source may be used: 0, 40, 41, 42, 32. The record is only read.
+#[no_mangle]
+pub extern "C" fn reckonstile_accept(
+    a: &CAssociation,
+    stratum: u8,
+    local: &[u32],
+    bloom: u32,
+) -> u32
+    ensures { λ r. ⌜ r ≡ acceptCall (now (a .entry)) stratum (now (local .entry)) bloom ⌝ }
+{
+    let seen = lent_stash::see(&a.stash, CAPACITY);
+    let settings = a.settings;
+    let state = a.state;
+    embed_rules::accept(settings, state, seen, stratum, local, bloom)
+}
+
+// What is written to a buffer: the number, whether something is written, and its length.
+#[repr(C)]
+pub struct CWritten {
+    pub number: u32,
+    // 1 where something is written.
+    pub written: u32,
+    pub length: usize,
+}
+
+fn unwritten(number: u32) -> CWritten
+    ensures { λ r. ⌜ r ≡ unwritten number ⌝ }
+{
+    CWritten {
+        number,
+        written: 0,
+        length: 0,
+    }
+}
+
+fn collected(answer: Collected) -> CWritten
+    ensures { λ r. ⌜ r ≡ collectedAs answer ⌝ }
+{
+    match answer {
+        Collected::Done(length) => CWritten {
+            number: 0,
+            written: 1,
+            length,
+        },
+        Collected::Broken => unwritten(1),
+        Collected::TooLong => unwritten(31),
+    }
+}
+
+fn requested(answer: Requested) -> CWritten
+    ensures { λ r. ⌜ r ≡ requestedAs answer ⌝ }
+{
+    match answer {
+        Requested::Written(length) => CWritten {
+            number: 0,
+            written: 1,
+            length,
+        },
+        Requested::VersionFive => unwritten(50),
+        Requested::ShortBuffer => unwritten(51),
+        Requested::CookieOrCount => unwritten(52),
+    }
+}
+
+// The cookies among decrypted fields, as a list from the buffer's start on: 0, 1, 31.
+#[no_mangle]
+pub extern "C" fn reckonstile_collect(decrypted: &[u8], out: &mut [u8]) -> CWritten
+    ensures { λ r. ⌜ (r ≡ collectedAs (collectOf (now (decrypted .entry)) (length (now (out .entry))))) × (now (out .exit) ≡ listed (now (decrypted .entry)) (now (out .entry))) ⌝ }
+{
+    let answer = collector::collect(decrypted, out);
+    collected(answer)
+}
+
+// The kind of a code; V5 is not written, and neither is any other code.
+fn send_in(code: u8) -> SendKind
+    ensures { λ r. ⌜ r ≡ sendIn code ⌝ }
+{
+    if code == 1 {
+        return SendKind::V4;
+    }
+    if code == 2 {
+        return SendKind::V4Upgrade;
+    }
+    if code == 4 {
+        return SendKind::NtsV4;
+    }
+    SendKind::V5
+}
+
+// The request that a timer's 20 asks for, from the buffer's start on: 0, 50, 51, 52.
+#[no_mangle]
+pub extern "C" fn reckonstile_write_request(
+    kind: u8,
+    poll: PollInterval,
+    id: u64,
+    upgrademark: u64,
+    uid: CUid,
+    cookie: &[u8],
+    asked: u8,
+    out: &mut [u8],
+) -> CWritten
+    ensures { λ r. ⌜ (r ≡ requestedAs (requestOf (sendIn kind) poll id upgrademark (uid .bytes) (now (cookie .entry)) asked (length (now (out .entry))))) × (now (out .exit) ≡ requested (sendIn kind) poll id upgrademark (uid .bytes) (now (cookie .entry)) asked (now (out .entry))) ⌝ }
+{
+    let send = send_in(kind);
+    let bytes = uid.bytes;
+    let answer = request::write_request(send, poll, id, upgrademark, bytes, cookie, asked, out);
+    requested(answer)
+}

@@ -1,0 +1,3 @@
+-- The laws of `embed_record`.
+pub mod Laws
+pub mod Determined

@@ -1,0 +1,26 @@
+-- `pack_state` meets its contract, by those of its calls.
+-- Assumes nothing.
+use Rattle.embed_record.specs.Packed.{packState}
+use borrow.Author.Needs.{needs}
+use Rattle.embed_record.proofs.pack_state.Statement.{statement}
+use Rattle.embed_record.proofs.pack_state.Tie as tie
+
+kind-out-requires : tie.Need-kind-out-requires
+kind-out-requires c κs = search needs
+
+left-out-requires : tie.Need-left-out-requires
+left-out-requires c κs = search needs
+
+bit-requires : tie.Need-bit-requires
+bit-requires c κs = search needs
+
+bit-requires-2 : tie.Need-bit-requires-2
+bit-requires-2 c κs = search needs
+
+returns : tie.Need-returns
+unfolding packState
+returns c = rw (c .before .before .before .kind-out .ensures, c .before .before .left-out .ensures, c .before .bit .ensures, c .bit2 .ensures)
+
+pub pack-state-spec : {M : Type 1} → statement M
+pack-state-spec =
+    tie.close (tie.spec kind-out-requires left-out-requires bit-requires bit-requires-2 returns)

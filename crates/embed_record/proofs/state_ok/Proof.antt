@@ -1,0 +1,45 @@
+-- `state_ok` meets its contract, by those of its calls.
+-- Assumes nothing.
+use mathlib.Core.Path.{_∙_}
+use mathlib.Core.Bool.{_&&_}
+use borrow.Author.Needs.{needs}
+use Rattle.embed_record.proofs.state_ok.Statement.{statement}
+use Rattle.embed_record.proofs.state_ok.Tie as tie
+
+is-kind-requires : tie.Need-is-kind-requires
+is-kind-requires c κs = search needs
+
+cast-is-bit : tie.Need-cast-is-bit
+cast-is-bit c = search needs
+
+is-bit-requires : tie.Need-is-bit-requires
+is-bit-requires c κs = search needs
+
+cast-is-bit-2 : tie.Need-cast-is-bit-2
+cast-is-bit-2 c = search needs
+
+is-bit-requires-2 : tie.Need-is-bit-requires-2
+is-bit-requires-2 c κs = search needs
+
+both-requires : tie.Need-both-requires
+both-requires c κs = search needs
+
+both-requires-2 : tie.Need-both-requires-2
+both-requires-2 c κs = search needs
+
+returns : tie.Need-returns
+returns c =
+    c .both2 .ensures ∙ (λ i. c .before .before .before .before .before .before .is-kind .ensures i && (c .before .both .ensures ∙ (λ j. c .before .before .before .before .is-bit .ensures j && c .before .before .is-bit2 .ensures j)) i)
+
+pub state-ok-spec : {M : Type 1} → statement M
+state-ok-spec =
+    tie.close
+    (tie.spec
+    is-kind-requires
+    cast-is-bit
+    is-bit-requires
+    cast-is-bit-2
+    is-bit-requires-2
+    both-requires
+    both-requires-2
+    returns)

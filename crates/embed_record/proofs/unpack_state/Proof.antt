@@ -1,0 +1,52 @@
+-- `unpack_state` meets its contract, by those of its calls.
+-- Assumes nothing.
+use Rattle.embed_record.specs.Packed.{stateIn}
+use borrow.Author.Needs.{needs}
+use Rattle.embed_record.proofs.unpack_state.Statement.{statement}
+use Rattle.embed_record.proofs.unpack_state.Tie as tie
+
+state-ok-requires : tie.Need-state-ok-requires
+state-ok-requires c κs = search needs
+
+version-in-requires : tie.Need-version-in-requires
+version-in-requires c κs = search needs
+
+cast-truth : tie.Need-cast-truth
+cast-truth c = search needs
+
+truth-requires : tie.Need-truth-requires
+truth-requires c κs = search needs
+
+cast-truth-2 : tie.Need-cast-truth-2
+cast-truth-2 c = search needs
+
+truth-requires-2 : tie.Need-truth-requires-2
+truth-requires-2 c κs = search needs
+
+returns : tie.Need-returns
+unfolding stateIn
+returns c =
+    let s = c .before .before .before .before .before .before .before .before .before .before .args .c in
+    λ i. record {
+      ok = c .before .before .before .before .before .before .before .before .before .state-ok .ensures i;
+      state =
+          record {
+            effort = s .effort;
+            version = c .before .before .before .before .version-in .ensures i;
+            polls = s .polls;
+            source = record { stratum = s .stratum; refid = s .refid; denial = c .before .before .truth .ensures i };
+            request = record { present = c .truth2 .ensures i; id = s .id; uid = s .uid; deadline = s .deadline };
+          };
+    }
+
+pub unpack-state-spec : {M : Type 1} → statement M
+unpack-state-spec =
+    tie.close
+    (tie.spec
+    state-ok-requires
+    version-in-requires
+    cast-truth
+    truth-requires
+    cast-truth-2
+    truth-requires-2
+    returns)

@@ -1,0 +1,99 @@
+-- Each answer as numbers, as a caller from C or Rust gets it.
+-- Assumes nothing.
+use Prim.Native.Nat.{ℕ}
+use mathlib.Core.Bool.{cond}
+use lib.Dec.{eqb}
+use lib.IntN.{pos}
+use Rattle.version.specs.declared.SendKind.{SendKind}
+use Rattle.version.specs.declared.SendKind.the-variants as S
+use Rattle.time_types.specs.Poll.{interval}
+use Rattle.time_types.specs.Time.{timestamp, duration}
+use Rattle.timer_rules.specs.declared.TimerAnswer.{TimerAnswer}
+use Rattle.timer_rules.specs.declared.TimerAnswer.the-variants as T
+use Rattle.incoming.specs.Incoming.{leapCode}
+use Rattle.reply_clauses.specs.declared.Measurement.{Measurement}
+use Rattle.reply_rules.specs.declared.ReplyAnswer.{ReplyAnswer}
+use Rattle.reply_rules.specs.declared.ReplyAnswer.the-variants as R
+use Rattle.accept.specs.declared.Bloom.{Bloom}
+use Rattle.accept.specs.declared.Bloom.the-variants as B
+use Rattle.embed_rules.specs.declared.CTimerAnswer.{CTimerAnswer}
+use Rattle.embed_rules.specs.declared.CReplyAnswer.{CReplyAnswer}
+
+-- ---- the timer
+
+abbrev pub sendCode : SendKind → ℕ
+sendCode S.V4 = 1
+sendCode S.V4Upgrade = 2
+sendCode S.V5 = 3
+sendCode S.NtsV4 = 4
+sendCode S.NtsV5 = 5
+
+-- nothing is sent
+abbrev pub unsent : ℕ → CTimerAnswer
+unsent number = record { number = number; kind = 0; poll = interval (pos 0); asked = 0; length = 0 }
+
+abbrev pub timerAnswer : TimerAnswer → CTimerAnswer
+timerAnswer (T.Sent kind poll len asked) = record { number = 20; kind = sendCode kind; poll = poll; asked = asked; length = len }
+timerAnswer T.Reset = unsent 21
+timerAnswer T.Demobilize = unsent 22
+timerAnswer T.NoCookie = unsent 23
+timerAnswer T.CookieTooLarge = unsent 24
+timerAnswer T.ShortBuffer = unsent 31
+timerAnswer T.NotWhole = unsent 32
+
+-- ---- the reply
+
+-- nothing is measured
+abbrev pub unmeasured : ℕ → CReplyAnswer
+unmeasured number =
+    record {
+      number = number;
+      measured = 0;
+      leap = 0;
+      stratum = 0;
+      precision = pos 0;
+      delay = duration (pos 0);
+      offset = duration (pos 0);
+      local = timestamp 0;
+      mono = 0;
+      rootdelay = duration (pos 0);
+      rootdisp = duration (pos 0);
+    }
+
+abbrev pub measuredAs : Measurement → CReplyAnswer
+measuredAs m =
+    record {
+      number = 0;
+      measured = 1;
+      leap = leapCode (m .leap);
+      stratum = m .stratum;
+      precision = m .precision;
+      delay = m .delay;
+      offset = m .offset;
+      local = m .local;
+      mono = m .mono;
+      rootdelay = m .rootdelay;
+      rootdisp = m .rootdisp;
+    }
+
+abbrev pub replyAnswer : ReplyAnswer → CReplyAnswer
+replyAnswer (R.Measured m) = measuredAs m
+replyAnswer R.Undecodable = unmeasured 1
+replyAnswer R.UnexpectedVersion = unmeasured 2
+replyAnswer R.NoLiveRequest = unmeasured 3
+replyAnswer R.NoMatch = unmeasured 4
+replyAnswer R.Rate = unmeasured 5
+replyAnswer R.Denied = unmeasured 6
+replyAnswer R.DeniedNts = unmeasured 7
+replyAnswer R.Ntsn = unmeasured 8
+replyAnswer R.OtherKiss = unmeasured 9
+replyAnswer R.BadStratum = unmeasured 10
+replyAnswer R.NotServer = unmeasured 11
+replyAnswer R.NotWhole = unmeasured 32
+replyAnswer R.BrokenList = unmeasured 33
+
+-- ---- accept
+
+-- 0 no filter, 1 absent; any other code is taken for present, so that what cannot be read accepts nothing
+abbrev pub bloomIn : ℕ → Bloom
+bloomIn code = cond (eqb code 0) B.NoFilter (cond (eqb code 1) B.Absent B.Present)

@@ -1,0 +1,271 @@
+/* Reckonstile for C and C++: an NTP client association, proved to follow its rules.
+
+   The caller owns the record (struct reckonstile_association) and lends it to each call. Nothing is allocated, no clock is read, nothing is kept between
+   calls but in the record, and no call starts a thread. A record belongs to one caller at a time; two records have nothing to do with each other.
+
+   The order of calls of a client:
+     reckonstile_new            once, with the settings
+     reckonstile_timer          when it is time to poll; on 20 a request is to be sent
+     reckonstile_write_request  the bytes of that request
+     reckonstile_reply          for each datagram that comes back (V5: reckonstile_reply_decoded); on 0 there is a measurement
+     reckonstile_collect        with NTS, before reckonstile_reply: the new cookies of a reply, as the list that reckonstile_reply takes
+     reckonstile_accept         whether the source may be used
+
+   Pointers. A record, and each buffer, is at a valid address and lent to one call at a time. What is read and what is written by a call does not overlap.
+   Where a length is 0 the pointer is not read, but it is not NULL either: pass the address of any byte. A length is at most PTRDIFF_MAX.
+   Bytes of a record may be any bytes: a call on a record that no call has made answers 32 and changes nothing. No call trusts a number of it.
+
+   Times. `time` is one clock that goes forward, in nanoseconds from any start, the same in all calls. t1 and t4 are readings of the wall clock as NTP
+   timestamps: seconds since 1900 in the upper 32 bits, the fraction in the lower. t1 is taken when the request leaves, t4 when the reply comes in.
+
+   Targets: x86-64 with the System V calling convention (Linux). A struct of one number is passed as that number. */
+#ifndef RECKONSTILE_H
+#define RECKONSTILE_H
+
+#include <stddef.h>
+#include <stdint.h>
+
+#ifdef __cplusplus
+extern "C" {
+#define RECKONSTILE_ASSERT(test, text) static_assert(test, text)
+#else
+#define RECKONSTILE_ASSERT(test, text) _Static_assert(test, text)
+#endif
+
+/* The longest cookie that is kept, and with NTS the least room of the timer's buffer. */
+#define RECKONSTILE_COOKIE_BYTES 724
+/* A buffer of this size holds any request that a timer's 20 asks for. */
+#define RECKONSTILE_REQUEST_BYTES 852
+
+/* ---- numbers: what a call answers */
+
+#define RECKONSTILE_OK 0            /* new: made. reply: measured. accept: accepted. collect, write_request: written */
+#define RECKONSTILE_UNDECODABLE 1   /* reply: not a reply. collect: broken fields */
+#define RECKONSTILE_VERSION 2       /* reply: of a version that is not expected */
+#define RECKONSTILE_NO_REQUEST 3    /* reply: no request is pending, or its time is over */
+#define RECKONSTILE_NO_MATCH 4      /* reply: it answers another request */
+#define RECKONSTILE_RATE 5          /* reply: the source asks for a slower poll, which the record now has */
+#define RECKONSTILE_DENIED 6        /* reply: denied without NTS; it is noted */
+#define RECKONSTILE_DEMOBILIZE_NTS 7 /* reply: denied with NTS. Give the source up */
+#define RECKONSTILE_NTSN 8          /* reply: NTS negative acknowledgement */
+#define RECKONSTILE_OTHER_KISS 9    /* reply: another kiss */
+#define RECKONSTILE_BAD_STRATUM 10  /* reply: stratum over 16 */
+#define RECKONSTILE_NOT_SERVER 11   /* reply: not a server's */
+#define RECKONSTILE_SENT 20         /* timer: send the poll, and set the timer again */
+#define RECKONSTILE_RESET 21        /* timer: no answer to so many polls. Make the association anew */
+#define RECKONSTILE_DEMOBILIZE 22   /* timer: no answer, and service was denied. Give the source up */
+#define RECKONSTILE_NO_COOKIE 23    /* timer: no cookie is left. Exchange keys and make the association anew */
+#define RECKONSTILE_COOKIE_SIZE 24  /* timer: the cookie is too large to send. As 23 */
+#define RECKONSTILE_SETTINGS 30     /* new: a setting is outside its range, or a code of no kind */
+#define RECKONSTILE_SHORT_BUFFER 31 /* timer: with NTS, a buffer under 724 bytes. collect: a list longer than the buffer */
+#define RECKONSTILE_NOT_WHOLE 32    /* timer, reply, accept: the record is none that a call has made. Nothing is changed */
+#define RECKONSTILE_BROKEN_LIST 33  /* new, reply, with NTS: the cookie list is broken */
+#define RECKONSTILE_STRATUM 40      /* accept: the source is not below our own stratum */
+#define RECKONSTILE_LOOP 41         /* accept: the source gets its time from us */
+#define RECKONSTILE_UNREACHABLE 42  /* accept: none of the last eight polls was answered */
+#define RECKONSTILE_NOT_WRITTEN 50  /* write_request: V5, or a kind of no kind */
+#define RECKONSTILE_SHORT_OUT 51    /* write_request: the buffer is too short */
+#define RECKONSTILE_ASK 52          /* write_request: with NTS, a cookie over 724 bytes, or not 1 to 8 new ones asked for */
+
+/* ---- codes */
+
+/* settings.start, state.version */
+#define RECKONSTILE_V4 0
+#define RECKONSTILE_UPGRADING 1     /* on the way from V4 to V5; `left` says how many tries are left */
+#define RECKONSTILE_UPGRADED 2
+#define RECKONSTILE_V5 3
+
+/* timer_answer.kind, the kind of write_request */
+#define RECKONSTILE_SEND_NOTHING 0
+#define RECKONSTILE_SEND_V4 1
+#define RECKONSTILE_SEND_V4_UPGRADE 2
+#define RECKONSTILE_SEND_V5 3       /* not written here */
+#define RECKONSTILE_SEND_NTS_V4 4
+#define RECKONSTILE_SEND_NTS_V5 5   /* not written here */
+
+/* reply_answer.leap, decoded.leap */
+#define RECKONSTILE_LEAP_NO_WARNING 0
+#define RECKONSTILE_LEAP_61 1
+#define RECKONSTILE_LEAP_59 2
+#define RECKONSTILE_LEAP_UNKNOWN 3
+#define RECKONSTILE_LEAP_UNSYNCHRONIZED 4
+
+/* decoded.mode */
+#define RECKONSTILE_MODE_REQUEST 0
+#define RECKONSTILE_MODE_RESPONSE 1
+
+/* decoded.authenticated, .encrypted, .untrusted: what a group of fields says of the request's unique identifier */
+#define RECKONSTILE_UID_ABSENT 0
+#define RECKONSTILE_UID_AGREE 1
+#define RECKONSTILE_UID_DISAGREE 2
+
+/* the Bloom filter's word in accept */
+#define RECKONSTILE_BLOOM_NONE 0
+#define RECKONSTILE_BLOOM_ABSENT 1
+#define RECKONSTILE_BLOOM_PRESENT 2
+
+/* ---- the record: numbers only, and no padding */
+
+struct reckonstile_settings {
+    uint64_t window;      /* how long a request stays live, in nanoseconds: 1 to 60000000000 */
+    uint64_t upgrademark; /* the reference timestamp of an upgrade request and of an upgrade reply */
+    uint32_t source;      /* the source's own identifier */
+    uint32_t start;       /* the version to start with: RECKONSTILE_V4 .. RECKONSTILE_V5 */
+    uint32_t nts;         /* 0 or 1 */
+    uint8_t left;         /* upgrading: the tries left; else 0 */
+    uint8_t startup;      /* give up after so many polls with no answer: 1 to 8 */
+    int8_t min, max;      /* limits of the poll exponent: 0 <= min <= max <= 17 */
+};
+
+struct reckonstile_slot {
+    uint8_t bytes[RECKONSTILE_COOKIE_BYTES]; /* zero past the cookie's end */
+    uint16_t len;
+};
+
+struct reckonstile_stash {
+    struct reckonstile_slot slots[8];
+    size_t read; /* the slot of the oldest cookie */
+    size_t held; /* how many cookies there are */
+};
+
+struct reckonstile_state {
+    uint8_t reach;     /* which of the last eight polls were answered, the newest in bit 0 */
+    uint8_t tries;     /* polls sent, held at 255 */
+    int8_t last;       /* the poll exponent last used */
+    int8_t remote;     /* the least that the source asks for */
+    uint32_t refid;    /* the source's reference identifier */
+    uint32_t version;  /* RECKONSTILE_V4 .. RECKONSTILE_V5 */
+    uint8_t left;      /* as in the settings */
+    uint8_t stratum;   /* the source's; 16 until a reply is measured */
+    uint8_t denial;    /* 0 or 1: service was denied since */
+    uint8_t present;   /* 0 or 1: a request is pending. Where not, what follows is zero */
+    uint64_t id;       /* the pending request's 64 bits */
+    uint64_t deadline; /* until when its reply is awaited */
+    uint8_t uid[32];   /* its unique identifier; zero without NTS */
+};
+
+struct reckonstile_association {
+    struct reckonstile_settings settings;
+    struct reckonstile_stash stash;
+    struct reckonstile_state state;
+};
+
+/* ---- what goes in and what comes back */
+
+struct reckonstile_uid {
+    uint8_t bytes[32];
+};
+
+struct reckonstile_timer_answer {
+    uint32_t number; /* 20, 21, 22, 23, 24, 31, 32; where it is not 20 all below is zero */
+    uint8_t kind;    /* what to send: RECKONSTILE_SEND_V4 .. RECKONSTILE_SEND_NTS_V5 */
+    int8_t poll;     /* the poll exponent: the next poll is due in 2^poll seconds, stretched at random by the caller */
+    uint16_t asked;  /* with NTS, how many new cookies the request asks for: 1 to 8 */
+    size_t length;   /* with NTS, how many bytes of the buffer are the cookie */
+};
+
+struct reckonstile_reply_answer {
+    uint32_t number;   /* 0 to 11, 32, 33; where it is not 0 all below is zero */
+    uint8_t measured;  /* 1 where the number is 0 */
+    uint8_t leap;      /* RECKONSTILE_LEAP_NO_WARNING .. RECKONSTILE_LEAP_UNSYNCHRONIZED */
+    uint8_t stratum;
+    int8_t precision;  /* of the source's clock, as an exponent of 2, in seconds */
+    int64_t delay;     /* in 2^-32 s, as all durations here */
+    int64_t offset;    /* what our wall clock lacks */
+    uint64_t local;    /* our wall clock half way between t1 and t4 */
+    uint64_t mono;     /* `time` of the call */
+    int64_t rootdelay; /* the source's own to its root */
+    int64_t rootdisp;
+};
+
+/* A V5 reply that the caller has decoded. A code of no kind: 1, as for bytes that are no reply. */
+struct reckonstile_decoded {
+    int64_t rootdelay, rootdisp;      /* in 2^-32 s */
+    uint64_t receive, transmit;       /* the source's timestamps */
+    uint64_t cookie;                  /* the client cookie, which answers the request's id */
+    uint32_t mode;                    /* RECKONSTILE_MODE_REQUEST or _RESPONSE */
+    uint8_t leap, stratum;
+    int8_t poll, precision;
+    uint8_t rate, deny, rstr, ntsn;   /* the kisses: 0 or 1 each */
+    uint8_t any;                      /* 0 or 1: any kiss at all */
+    uint8_t authenticated, encrypted, untrusted; /* RECKONSTILE_UID_ABSENT .. RECKONSTILE_UID_DISAGREE */
+};
+
+struct reckonstile_written {
+    uint32_t number;  /* collect: 0, 1, 31; write_request: 0, 50, 51, 52. Where it is not 0 the buffer is as it was and all below is zero */
+    uint32_t written; /* 1 where the number is 0 */
+    size_t length;    /* how many bytes are written from the buffer's start on */
+};
+
+/* The layout. A compiler that lays a struct out otherwise stops here: each size is the sum of its fields. */
+RECKONSTILE_ASSERT(sizeof(size_t) == 8, "reckonstile: 64-bit targets only");
+RECKONSTILE_ASSERT(sizeof(struct reckonstile_settings) == 32 && offsetof(struct reckonstile_settings, left) == 28, "reckonstile: layout of settings");
+RECKONSTILE_ASSERT(sizeof(struct reckonstile_slot) == 726 && sizeof(struct reckonstile_stash) == 5824, "reckonstile: layout of the stash");
+RECKONSTILE_ASSERT(sizeof(struct reckonstile_state) == 64 && offsetof(struct reckonstile_state, version) == 8 &&
+                   offsetof(struct reckonstile_state, id) == 16 && offsetof(struct reckonstile_state, uid) == 32, "reckonstile: layout of the state");
+RECKONSTILE_ASSERT(sizeof(struct reckonstile_association) == 5920 && offsetof(struct reckonstile_association, stash) == 32 &&
+                   offsetof(struct reckonstile_association, state) == 5856, "reckonstile: layout of the record");
+RECKONSTILE_ASSERT(sizeof(struct reckonstile_uid) == 32, "reckonstile: layout of a uid");
+RECKONSTILE_ASSERT(sizeof(struct reckonstile_timer_answer) == 16 && offsetof(struct reckonstile_timer_answer, length) == 8,
+                   "reckonstile: layout of the timer's answer");
+RECKONSTILE_ASSERT(sizeof(struct reckonstile_reply_answer) == 56 && offsetof(struct reckonstile_reply_answer, delay) == 8,
+                   "reckonstile: layout of the reply's answer");
+RECKONSTILE_ASSERT(sizeof(struct reckonstile_decoded) == 56 && offsetof(struct reckonstile_decoded, mode) == 40 &&
+                   offsetof(struct reckonstile_decoded, untrusted) == 55, "reckonstile: layout of a decoded reply");
+RECKONSTILE_ASSERT(sizeof(struct reckonstile_written) == 16, "reckonstile: layout of what is written");
+
+/* ---- calls */
+
+/* sizeof(struct reckonstile_association) and its alignment, as the library has them. */
+size_t reckonstile_size(void);
+size_t reckonstile_align(void);
+
+/* The record becomes all zero. Answers 0. A blank record is not whole: timer, reply and accept answer 32 on it. */
+uint32_t reckonstile_blank(struct reckonstile_association *a);
+
+/* The record, whatever it was, becomes a new association with these settings; with NTS its first cookies are those of the list (as reckonstile_collect writes
+   it), and without NTS the list is not read.
+   0 made; 30 a setting is outside its range, or a code of no kind; 33 with NTS, the list is broken. On 30 and 33 the record is blank. */
+uint32_t reckonstile_new(struct reckonstile_association *a, struct reckonstile_settings settings, const uint8_t *list, size_t list_len);
+
+/* It is time to poll. `desired` is the poll exponent that the clock steering asks for; it is raised to what the source asks for, and not held to the limits
+   of the settings. `id` and `uid` are fresh random bits (uid counts only with NTS). With NTS the cookie to send is written to the buffer, which has room for
+   724 bytes at least; without NTS a room of 0 will do.
+   In this order: 32 the record is not whole; 31 with NTS, room under 724; 22 give the source up; 21 make the association anew; 23, 24 with NTS, no cookie or
+   one too large: exchange keys; 20 send. After 32, 31, 22 and 21 the record is as it was; the buffer is written on 20 with NTS alone. */
+struct reckonstile_timer_answer reckonstile_timer(struct reckonstile_association *a, uint64_t time, int8_t desired, uint64_t id, struct reckonstile_uid uid,
+                                                  uint8_t *buffer, size_t room);
+
+/* A reply of V3 or V4, as bytes. `end` is where its authenticated part ends: the offset of the head of its authenticator field (type 0404); 48 where there is
+   none, without NTS and in V3; 0 where the authenticator does not hold (the answer is then 1). `decrypted` are the decrypted bytes of that field and `list` the
+   new cookies among them (reckonstile_collect), both empty where there is none; they count only with NTS. The caller has checked the authenticator.
+   In this order: 32, 1, 33, 2, 3, 4: the record is as it was. 5 to 11: a matching reply that is not measured; what of it counts the record has. 0 measured:
+   the request is no longer pending, and with NTS the list's cookies are stored. */
+struct reckonstile_reply_answer reckonstile_reply(struct reckonstile_association *a, const uint8_t *packet, size_t packet_len, size_t end,
+                                                  const uint8_t *decrypted, size_t decrypted_len, const uint8_t *list, size_t list_len,
+                                                  uint64_t t1, uint64_t t4, uint64_t time);
+
+/* A reply of V5, decoded by the caller. The same numbers. */
+struct reckonstile_reply_answer reckonstile_reply_decoded(struct reckonstile_association *a, struct reckonstile_decoded d, const uint8_t *list,
+                                                          size_t list_len, uint64_t t1, uint64_t t4, uint64_t time);
+
+/* Whether the source may be used, given our own stratum, the identifiers of this machine (`count` numbers, not bytes) and the Bloom filter's word. The
+   record is only read.
+   In this order: 32; 40 the source is not below our stratum; 41 it gets its time from us, or the word is none of RECKONSTILE_BLOOM_NONE, _ABSENT; 42 not
+   reached; 0 accepted. */
+uint32_t reckonstile_accept(const struct reckonstile_association *a, uint8_t stratum, const uint32_t *local, size_t count, uint32_t bloom);
+
+/* The cookies among a reply's decrypted fields, written as a list for reckonstile_new and reckonstile_reply. It is never longer than the fields.
+   0 written; 1 the fields are broken; 31 the list is longer than the buffer. */
+struct reckonstile_written reckonstile_collect(const uint8_t *decrypted, size_t decrypted_len, uint8_t *out, size_t room);
+
+/* The request that a timer's 20 asks for: `kind`, `poll` and `asked` as that answer has them, `id` and `uid` as the timer was given, the upgrademark of the
+   settings, the cookie from the timer's buffer. With NTS the caller appends its authenticator. kind is 1, 2 or 4; cookie, uid and asked count for 4 only.
+   0 written; 50 V5, or a kind of no kind; 52 a cookie or a count that no request has; 51 the buffer is too short. */
+struct reckonstile_written reckonstile_write_request(uint8_t kind, int8_t poll, uint64_t id, uint64_t upgrademark, struct reckonstile_uid uid,
+                                                     const uint8_t *cookie, size_t cookie_len, uint8_t asked, uint8_t *out, size_t room);
+
+#ifdef __cplusplus
+}
+#endif
+#endif

@@ -1,0 +1,219 @@
+//! What a connector with NTS does beside the association (RFC 8915): it keeps the keys and cookies of a key exchange, puts the authenticator (the 0404 field) behind a
+//! request, and opens those of a reply. The cipher, AES-SIV-CMAC-256, is nettle's; with the feature `nettle` off there is none.
+use std::error::Error;
+
+/// What a reply is handed in with.
+pub struct Opened {
+    /// The authenticated end.
+    pub end: usize,
+    /// The decrypted fields.
+    pub decrypted: Vec<u8>,
+    /// The new cookies.
+    pub list: Vec<u8>,
+}
+
+const REFUSED: Opened = Opened { end: 0, decrypted: Vec::new(), list: Vec::new() };
+
+/// The extension fields of a V4 packet from byte 48 on, up to a tail of at most 24 bytes: place, type and length with the head. They end where one is broken, which the
+/// association sees by itself.
+fn fields(packet: &[u8]) -> impl Iterator<Item = (usize, u16, usize)> + '_ {
+    let mut at = 48;
+    std::iter::from_fn(move || {
+        let rest = packet.get(at..).filter(|rest| rest.len() > 24)?;
+        let length = usize::from(u16::from_be_bytes([rest[2], rest[3]]));
+        if length < 16 || length % 4 != 0 || length > rest.len() {
+            return None;
+        }
+        at += length;
+        Some((at - length, u16::from_be_bytes([rest[0], rest[1]]), length))
+    })
+}
+
+fn is_v4(packet: &[u8]) -> bool {
+    packet.len() >= 48 && packet[0] >> 3 & 7 == 4
+}
+
+/// A reply without NTS: a 0404 field is not to be met.
+pub fn plain(packet: &[u8]) -> Opened {
+    if is_v4(packet) && fields(packet).any(|(_, kind, _)| kind == 0x0404) {
+        return REFUSED;
+    }
+    Opened { end: 48, ..REFUSED }
+}
+
+#[cfg(not(feature = "nettle"))]
+mod cipher {
+    pub struct Siv;
+    pub fn new(_: &[u8; 32]) -> Result<Siv, &'static str> {
+        Err("built without the feature `nettle`: there is no cipher for --nts")
+    }
+    impl Siv {
+        pub fn seal(&self, _: &[u8], _: &[u8], _: &[u8]) -> Vec<u8> {
+            Vec::new()
+        }
+        pub fn open(&self, _: &[u8], _: &[u8], _: &[u8]) -> Option<Vec<u8>> {
+            None
+        }
+    }
+}
+
+#[cfg(feature = "nettle")]
+mod cipher {
+    /// nettle's context for AES-SIV-CMAC-256: 384 bytes of numbers in nettle 3.8, here with room to spare.
+    #[repr(C, align(16))]
+    pub struct Siv([u8; 1024]);
+
+    #[link(name = "nettle", kind = "static")]
+    extern "C" {
+        fn nettle_siv_cmac_aes128_set_key(context: *mut Siv, key: *const u8);
+        fn nettle_siv_cmac_aes128_encrypt_message(
+            context: *const Siv,
+            nonce_len: usize,
+            nonce: *const u8,
+            data_len: usize,
+            data: *const u8,
+            out_len: usize,
+            out: *mut u8,
+            text: *const u8,
+        );
+        fn nettle_siv_cmac_aes128_decrypt_message(
+            context: *const Siv,
+            nonce_len: usize,
+            nonce: *const u8,
+            data_len: usize,
+            data: *const u8,
+            out_len: usize,
+            out: *mut u8,
+            sealed: *const u8,
+        ) -> i32;
+    }
+
+    const TAG: usize = 16;
+
+    pub fn new(key: &[u8; 32]) -> Result<Siv, &'static str> {
+        let mut context = Siv([0; 1024]);
+        // SAFETY: the context is larger and no less aligned than nettle's; the key has the 32 bytes that are read.
+        unsafe { nettle_siv_cmac_aes128_set_key(&mut context, key.as_ptr()) };
+        Ok(context)
+    }
+
+    impl Siv {
+        /// The tag and the encrypted text, over `data`.
+        pub fn seal(&self, data: &[u8], nonce: &[u8], text: &[u8]) -> Vec<u8> {
+            let mut out = vec![0; TAG + text.len()];
+            // SAFETY: each pointer has the bytes of its length, and `out` those of the tag and the text.
+            unsafe {
+                nettle_siv_cmac_aes128_encrypt_message(
+                    self,
+                    nonce.len(),
+                    nonce.as_ptr(),
+                    data.len(),
+                    data.as_ptr(),
+                    out.len(),
+                    out.as_mut_ptr(),
+                    text.as_ptr(),
+                );
+            }
+            out
+        }
+
+        /// The text, where the tag is right.
+        pub fn open(&self, data: &[u8], nonce: &[u8], sealed: &[u8]) -> Option<Vec<u8>> {
+            let mut out = vec![0; sealed.len().checked_sub(TAG)?];
+            // SAFETY: each pointer has the bytes of its length, and `sealed` a tag more than `out`.
+            let right = unsafe {
+                nettle_siv_cmac_aes128_decrypt_message(
+                    self,
+                    nonce.len(),
+                    nonce.as_ptr(),
+                    data.len(),
+                    data.as_ptr(),
+                    out.len(),
+                    out.as_mut_ptr(),
+                    sealed.as_ptr(),
+                )
+            };
+            (right == 1).then_some(out)
+        }
+    }
+}
+
+/// The keys and first cookies that a key exchange gave.
+pub struct Nts {
+    to_server: cipher::Siv,
+    to_client: cipher::Siv,
+    cookies: Vec<Vec<u8>>,
+}
+
+fn bytes(text: &str) -> Option<Vec<u8>> {
+    (0..text.len()).step_by(2).map(|i| u8::from_str_radix(text.get(i..i + 2)?, 16).ok()).collect()
+}
+
+impl Nts {
+    /// Reads the file of a key exchange.
+    pub fn read(path: &str) -> Result<Self, Box<dyn Error>> {
+        let (mut keys, mut cookies) = ([None, None], Vec::new());
+        for line in std::fs::read_to_string(path)?.lines() {
+            let (name, value) = line.split_once(' ').ok_or("a line of the keys is a name and a value")?;
+            let value = bytes(value).ok_or("a value of the keys is hexadecimal")?;
+            match name {
+                "to-server" => keys[0] = Some(value),
+                "to-client" => keys[1] = Some(value),
+                "cookie" => cookies.push(value),
+                _ => return Err(format!("the keys have no {name}").into()),
+            }
+        }
+        let key = |found: Option<Vec<u8>>| <[u8; 32]>::try_from(found.unwrap_or_default()).map_err(|_| "a key has 32 bytes");
+        let [to_server, to_client] = keys;
+        Ok(Nts { to_server: cipher::new(&key(to_server)?)?, to_client: cipher::new(&key(to_client)?)?, cookies })
+    }
+
+    /// The cookies as the list that a new association takes.
+    pub fn list(&self) -> Vec<u8> {
+        let mut out = vec![0; self.cookies.iter().map(|cookie| 4 + cookie.len()).sum()];
+        let length = reckonstile::cookie_list(self.cookies.iter().map(Vec::as_slice), &mut out).unwrap_or(0);
+        out.truncate(length);
+        out
+    }
+
+    /// Puts the authenticator behind a request, over all of it.
+    pub fn seal(&self, packet: &mut Vec<u8>, nonce: [u8; 16]) -> Result<(), Box<dyn Error>> {
+        let sealed = self.to_server.seal(packet, &nonce, &[]);
+        let length = 4 + 4 + nonce.len() + sealed.len();
+        for number in [0x0404, length, nonce.len(), sealed.len()] {
+            packet.extend(u16::try_from(number)?.to_be_bytes());
+        }
+        packet.extend(nonce);
+        packet.extend(sealed);
+        Ok(())
+    }
+
+    /// Opens each 0404 field of a reply, in order, as docs/CALLERS.md says: one that is broken or does not decrypt makes the authenticated end 0.
+    pub fn open(&self, packet: &[u8]) -> Opened {
+        let mut opened = Opened { end: 48, ..REFUSED };
+        if !is_v4(packet) {
+            return opened;
+        }
+        for (at, _, length) in fields(packet).filter(|field| field.1 == 0x0404) {
+            let Some(text) = self.opened(packet, at, length) else { return REFUSED };
+            // Its fields have to be whole by themselves, before they are put behind those of the field before.
+            if reckonstile::collect(&text, &mut vec![0; text.len()]).is_err() {
+                return REFUSED;
+            }
+            opened.end = at;
+            opened.decrypted.extend(text);
+        }
+        let mut list = vec![0; opened.decrypted.len()];
+        let length = reckonstile::collect(&opened.decrypted, &mut list).unwrap_or(0);
+        list.truncate(length);
+        Opened { list, ..opened }
+    }
+
+    fn opened(&self, packet: &[u8], at: usize, length: usize) -> Option<Vec<u8>> {
+        let body = packet.get(at + 4..at + length)?;
+        let number = |at: usize| Some(usize::from(u16::from_be_bytes([*body.get(at)?, *body.get(at + 1)?])));
+        let (nonce_len, sealed_len) = (number(0)?, number(2)?);
+        let start = 4 + nonce_len.next_multiple_of(4);
+        self.to_client.open(&packet[..at], body.get(4..4 + nonce_len)?, body.get(start..start + sealed_len)?)
+    }
+}

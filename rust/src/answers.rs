@@ -1,0 +1,360 @@
+//! What the calls answer: each answer is an enum, and `number` gives the number that docs/CALLERS.md, the header and the drill have for it.
+use crate::ffi;
+use crate::time::{NtpDuration, NtpInstant, NtpTimestamp, PollInterval};
+use core::fmt;
+
+/// Makes an enum of refusals with their numbers, from one table: the number and its words stand beside each variant.
+macro_rules! numbered {
+    ($(#[$meta:meta])* $name:ident { $($variant:ident = $number:literal, $words:literal;)* }) => {
+        $(#[$meta])*
+        #[derive(Clone, Copy, Debug, PartialEq, Eq, Hash)]
+        #[non_exhaustive]
+        #[must_use]
+        pub enum $name {
+            $(#[doc = concat!("**", stringify!($number), "**: ", $words, ".")] $variant,)*
+            /// A number that this crate does not know: the library is of another version.
+            Other(u32),
+        }
+
+        impl $name {
+            pub(crate) const fn from_number(number: u32) -> Self {
+                match number {
+                    $($number => $name::$variant,)*
+                    other => $name::Other(other),
+                }
+            }
+
+            /// The number of this answer.
+            #[must_use]
+            pub const fn number(self) -> u32 {
+                match self {
+                    $($name::$variant => $number,)*
+                    $name::Other(other) => other,
+                }
+            }
+        }
+
+        impl fmt::Display for $name {
+            fn fmt(&self, f: &mut fmt::Formatter<'_>) -> fmt::Result {
+                match self {
+                    $($name::$variant => write!(f, "{} ({})", $words, $number),)*
+                    $name::Other(other) => write!(f, "a number of another version of the library ({other})"),
+                }
+            }
+        }
+    };
+}
+
+numbered! {
+    /// Why there is no new association.
+    ///
+    /// ```
+    /// use reckonstile::{Association, NewRefused, Settings};
+    /// let refused = Association::new(&Settings { startup_tries: 9, ..Settings::default() }, &[]).unwrap_err();
+    /// assert_eq!((refused, refused.number()), (NewRefused::Settings, 30));
+    /// ```
+    NewRefused {
+        Settings = 30, "a setting is outside its range";
+        BrokenList = 33, "with NTS, the cookie list is broken";
+    }
+}
+
+numbered! {
+    /// Why the timer sends nothing.
+    ///
+    /// ```
+    /// use reckonstile::{Action, TimerRefused};
+    /// assert_eq!(TimerRefused::NoCookie.number(), 23);
+    /// assert_eq!(TimerRefused::NoCookie.action(), Action::Reset);
+    /// ```
+    TimerRefused {
+        Reset = 21, "no answer to so many polls: look the server up again and begin with a new association";
+        Demobilize = 22, "no answer, and service was denied: stop talking to this server";
+        NoCookie = 23, "no cookie is left: exchange keys again and begin with a new association";
+        CookieTooLarge = 24, "the cookie is too large to send: exchange keys again and begin with a new association";
+        ShortBuffer = 31, "with NTS, the buffer has under 724 bytes";
+        NotWhole = 32, "the record is none that a call has made";
+    }
+}
+
+numbered! {
+    /// Why a reply is not measured.
+    ///
+    /// ```
+    /// use reckonstile::{Action, ReplyRefused};
+    /// assert_eq!(ReplyRefused::DeniedNts.number(), 7);
+    /// assert_eq!(ReplyRefused::DeniedNts.action(), Action::Demobilize);
+    /// assert_eq!(ReplyRefused::NoMatch.action(), Action::Nothing);
+    /// assert_eq!(ReplyRefused::NoMatch.to_string(), "it answers another request (4)");
+    /// ```
+    ReplyRefused {
+        Undecodable = 1, "not a reply, or its authenticator does not hold";
+        UnexpectedVersion = 2, "of a version that is not expected";
+        NoLiveRequest = 3, "no request is pending, or its time is over";
+        NoMatch = 4, "it answers another request";
+        Rate = 5, "the server asks for slower polls, which the next ones are";
+        Denied = 6, "service is denied, which is noted";
+        DeniedNts = 7, "service is denied, and with NTS that is believed: stop talking to this server";
+        Ntsn = 8, "the server could not use our cookie";
+        OtherKiss = 9, "another kiss";
+        BadStratum = 10, "a stratum over 16";
+        NotServer = 11, "not a server's reply";
+        NotWhole = 32, "the record is none that a call has made";
+        BrokenList = 33, "with NTS, the cookie list is broken";
+    }
+}
+
+numbered! {
+    /// Why the source may not be used, for now.
+    ///
+    /// ```
+    /// use reckonstile::AcceptRefused;
+    /// assert_eq!(AcceptRefused::Unreachable.number(), 42);
+    /// ```
+    AcceptRefused {
+        Stratum = 40, "the source is not below our own stratum";
+        Loop = 41, "the source gets its time from us";
+        Unreachable = 42, "none of the last eight polls was answered";
+        NotWhole = 32, "the record is none that a call has made";
+    }
+}
+
+numbered! {
+    /// Why there is no cookie list; nothing is written.
+    ///
+    /// ```
+    /// use reckonstile::{collect, CollectRefused};
+    /// assert_eq!(collect(&[2, 4, 0, 8], &mut [0; 8]), Err(CollectRefused::Broken));
+    /// ```
+    CollectRefused {
+        Broken = 1, "the decrypted fields are broken";
+        ShortBuffer = 31, "the list is longer than the buffer";
+    }
+}
+
+numbered! {
+    /// Why no request is written; the buffer stays as it was.
+    ///
+    /// ```
+    /// use reckonstile::RequestRefused;
+    /// assert_eq!(RequestRefused::ShortBuffer.number(), 51);
+    /// ```
+    RequestRefused {
+        VersionFive = 50, "V5 requests are the caller's to write";
+        ShortBuffer = 51, "the buffer is too short";
+        CookieOrCount = 52, "with NTS, a cookie over 724 bytes, or not 1 to 8 new ones asked for";
+    }
+}
+
+/// What an answer asks the caller to do (docs/EMBEDDING.md has the table).
+///
+/// ```
+/// use reckonstile::{Action, TimerRefused};
+/// assert_eq!(TimerRefused::Demobilize.action(), Action::Demobilize);
+/// ```
+#[derive(Clone, Copy, Debug, PartialEq, Eq, Hash)]
+#[non_exhaustive]
+#[must_use]
+pub enum Action {
+    /// Nothing; the timer that is set stays set.
+    Nothing,
+    /// Look the server up again, with NTS exchange keys again, and begin with a new association.
+    Reset,
+    /// Stop talking to this server.
+    Demobilize,
+    /// A fault of the caller: the arguments (31, 33) or the record (32). Call again with what the answer names, or begin with a new association.
+    Caller,
+}
+
+impl TimerRefused {
+    /// What to do.
+    pub const fn action(self) -> Action {
+        match self {
+            TimerRefused::Reset | TimerRefused::NoCookie | TimerRefused::CookieTooLarge => Action::Reset,
+            TimerRefused::Demobilize => Action::Demobilize,
+            TimerRefused::ShortBuffer | TimerRefused::NotWhole | TimerRefused::Other(_) => Action::Caller,
+        }
+    }
+}
+
+impl ReplyRefused {
+    /// What to do.
+    pub const fn action(self) -> Action {
+        match self {
+            ReplyRefused::DeniedNts => Action::Demobilize,
+            ReplyRefused::NotWhole | ReplyRefused::BrokenList | ReplyRefused::Other(_) => Action::Caller,
+            _ => Action::Nothing,
+        }
+    }
+}
+
+/// What kind of request is sent.
+///
+/// ```
+/// use reckonstile::SendKind;
+/// assert!(SendKind::NtsV4.is_nts() && !SendKind::V4.is_nts());
+/// ```
+#[derive(Clone, Copy, Debug, PartialEq, Eq, Hash)]
+pub enum SendKind {
+    /// NTPv4.
+    V4,
+    /// NTPv4 with the upgrade mark.
+    V4Upgrade,
+    /// NTPv5, which the caller writes itself.
+    V5,
+    /// NTPv4 with NTS.
+    NtsV4,
+    /// NTPv5 with NTS, which the caller writes itself.
+    NtsV5,
+}
+
+impl SendKind {
+    pub(crate) const fn from_code(code: u8) -> Option<Self> {
+        match code {
+            1 => Some(SendKind::V4),
+            2 => Some(SendKind::V4Upgrade),
+            3 => Some(SendKind::V5),
+            4 => Some(SendKind::NtsV4),
+            5 => Some(SendKind::NtsV5),
+            _ => None,
+        }
+    }
+
+    pub(crate) const fn code(self) -> u8 {
+        match self {
+            SendKind::V4 => 1,
+            SendKind::V4Upgrade => 2,
+            SendKind::V5 => 3,
+            SendKind::NtsV4 => 4,
+            SendKind::NtsV5 => 5,
+        }
+    }
+
+    /// Whether the request has a cookie and the caller's authenticator.
+    #[must_use]
+    pub const fn is_nts(self) -> bool {
+        matches!(self, SendKind::NtsV4 | SendKind::NtsV5)
+    }
+}
+
+/// A poll to send (20): the timer is to be set again for `poll`, and the source's acceptance asked again, since its reach has changed.
+///
+/// ```
+/// use reckonstile::{Association, NtpInstant, PollInterval, SendKind, Settings};
+/// let mut a = Association::new(&Settings::default(), &[]).unwrap();
+/// let poll = a.timer(NtpInstant::from_nanos(0), PollInterval::new(6), 0x0102030405060708, [0; 32], &mut []).unwrap();
+/// assert_eq!((poll.kind, poll.poll, poll.cookie.len(), poll.asked), (SendKind::V4, PollInterval::new(6), 0, 0));
+/// ```
+#[derive(Clone, Copy, Debug, PartialEq, Eq)]
+#[must_use]
+pub struct Poll<'b> {
+    /// What is sent.
+    pub kind: SendKind,
+    /// Its poll interval, which is also how long to wait for the next timer.
+    pub poll: PollInterval,
+    /// With NTS the cookie to send, in the buffer that the timer was lent; else empty.
+    pub cookie: &'b [u8],
+    /// With NTS how many new cookies to ask for, 1 to 8; else 0.
+    pub asked: u8,
+}
+
+impl Poll<'_> {
+    /// The number of this answer, 20.
+    #[must_use]
+    pub const fn number(&self) -> u32 {
+        20
+    }
+}
+
+/// A leap second's announcement.
+#[derive(Clone, Copy, Debug, PartialEq, Eq, Hash)]
+pub enum NtpLeapIndicator {
+    /// None.
+    NoWarning,
+    /// The day's last minute has 61 seconds.
+    Leap61,
+    /// The day's last minute has 59 seconds.
+    Leap59,
+    /// Not known (V5 only).
+    Unknown,
+    /// The source is not synchronized.
+    Unsynchronized,
+}
+
+impl NtpLeapIndicator {
+    pub(crate) const fn from_code(code: u8) -> Self {
+        match code {
+            0 => NtpLeapIndicator::NoWarning,
+            1 => NtpLeapIndicator::Leap61,
+            2 => NtpLeapIndicator::Leap59,
+            3 => NtpLeapIndicator::Unknown,
+            _ => NtpLeapIndicator::Unsynchronized,
+        }
+    }
+
+    /// The drill's and the header's code, 0 to 4 in the order of the variants.
+    ///
+    /// ```
+    /// assert_eq!(reckonstile::NtpLeapIndicator::Leap59.code(), 2);
+    /// ```
+    #[must_use]
+    pub const fn code(self) -> u8 {
+        self as u8
+    }
+}
+
+/// What a measured reply (0) says: the fields, units and names of the crate's `Measurement`, for its clock steering.
+///
+/// ```
+/// use reckonstile::Measurement;
+/// fn slow_by(m: &Measurement) -> f64 { m.offset.to_seconds() }
+/// ```
+#[derive(Clone, Copy, Debug, PartialEq, Eq)]
+#[must_use]
+pub struct Measurement {
+    /// The round trip, without the time that the server took.
+    pub delay: NtpDuration,
+    /// What our wall clock lacks: positive where it is slow.
+    pub offset: NtpDuration,
+    /// Our wall clock half way between T1 and T4.
+    pub localtime: NtpTimestamp,
+    /// The time at which the reply was handed in.
+    pub monotime: NtpInstant,
+    /// The source's stratum.
+    pub stratum: u8,
+    /// The source's own delay to its root.
+    pub root_delay: NtpDuration,
+    /// The source's own dispersion.
+    pub root_dispersion: NtpDuration,
+    /// A leap second's announcement.
+    pub leap: NtpLeapIndicator,
+    /// The precision of the source's clock, as an exponent of two, in seconds.
+    pub precision: i8,
+}
+
+impl Measurement {
+    pub(crate) const fn from_answer(r: &ffi::Replied) -> Self {
+        Measurement {
+            delay: NtpDuration::from_bits(r.delay),
+            offset: NtpDuration::from_bits(r.offset),
+            localtime: NtpTimestamp::from_bits(r.local),
+            monotime: NtpInstant::from_nanos(r.mono),
+            stratum: r.stratum,
+            root_delay: NtpDuration::from_bits(r.rootdelay),
+            root_dispersion: NtpDuration::from_bits(r.rootdisp),
+            leap: NtpLeapIndicator::from_code(r.leap),
+            precision: r.precision,
+        }
+    }
+}
+
+#[cfg(feature = "std")]
+mod errors {
+    use super::{AcceptRefused, CollectRefused, NewRefused, ReplyRefused, RequestRefused, TimerRefused};
+    impl std::error::Error for NewRefused {}
+    impl std::error::Error for TimerRefused {}
+    impl std::error::Error for ReplyRefused {}
+    impl std::error::Error for AcceptRefused {}
+    impl std::error::Error for CollectRefused {}
+    impl std::error::Error for RequestRefused {}
+}

@@ -1,0 +1,146 @@
+//! The crate's own words, held to what docs/CALLERS.md and the cases of RULES say; the behaviour behind them is held to the drill by `tests/embed`.
+use reckonstile::{
+    cookie_list, Action, Association, Bloom, NewRefused, NtpInstant, NtpTimestamp, Packet, PollInterval, ProtocolVersion,
+    Record, ReferenceId, ReplyRefused, RequestRefused, SendKind, Settings, TimerRefused, Times, COOKIE_BYTES, REQUEST_BYTES,
+};
+use std::time::{Duration, SystemTime, UNIX_EPOCH};
+
+fn times(time: u64) -> Times {
+    Times { t1: NtpTimestamp::from_bits(0), t4: NtpTimestamp::from_bits(0), time: NtpInstant::from_nanos(time) }
+}
+
+fn tick(a: &mut Association, time: u64, id: u64) -> Result<SendKind, TimerRefused> {
+    a.timer(NtpInstant::from_nanos(time), PollInterval::new(6), id, [0; 32], &mut []).map(|poll| poll.kind)
+}
+
+fn reply(id: u64) -> [u8; 48] {
+    let mut packet = [0; 48];
+    packet[..2].copy_from_slice(&[0x24, 2]);
+    packet[24..32].copy_from_slice(&id.to_be_bytes());
+    packet
+}
+
+#[test]
+fn a_night_in_which_a_modem_keeps_three_replies() {
+    let mut a = Association::new(&Settings::default(), &[]).unwrap();
+    for poll in 1..=3 {
+        assert_eq!(tick(&mut a, poll * 60_000_000_000, poll), Ok(SendKind::V4));
+    }
+    assert_eq!(tick(&mut a, 240_000_000_000, 4), Err(TimerRefused::Reset));
+    assert_eq!(TimerRefused::Reset.action(), Action::Reset);
+    let before = *a.record();
+    for poll in 1..=3 {
+        assert_eq!(a.reply(&Packet::plain(&reply(poll)), times(14_400_000_000_000)), Err(ReplyRefused::NoLiveRequest));
+    }
+    assert_eq!(*a.record(), before);
+    assert!(!a.is_reachable());
+    assert_eq!(a.accept(17, &[], Bloom::NoFilter).unwrap_err().number(), 42);
+}
+
+#[test]
+fn the_window_ends_at_its_last_nanosecond() {
+    let window = 5_000_000_000;
+    for (after, measured) in [(0, true), (window, true), (window + 1, false)] {
+        let mut a = Association::new(&Settings::default(), &[]).unwrap();
+        tick(&mut a, 7, 1).unwrap();
+        assert_eq!(a.reply(&Packet::plain(&reply(1)), times(7 + after)).is_ok(), measured, "{after}");
+    }
+}
+
+#[test]
+fn cookies_go_in_and_out() {
+    let mut list = [0; 64];
+    let length = cookie_list([&[1; 20][..], &[2; 20]], &mut list).unwrap();
+    let settings = Settings { nts: true, ..Settings::default() };
+    let mut a = Association::new(&settings, &list[..length]).unwrap();
+    assert_eq!(a.cookies(), 2);
+    let mut short = [0; COOKIE_BYTES - 1];
+    assert_eq!(
+        a.timer(NtpInstant::from_nanos(0), PollInterval::new(6), 1, [9; 32], &mut short),
+        Err(TimerRefused::ShortBuffer)
+    );
+    let mut buffer = [0; COOKIE_BYTES];
+    let poll = a.timer(NtpInstant::from_nanos(0), PollInterval::new(6), 1, [9; 32], &mut buffer).unwrap();
+    assert_eq!((poll.kind, poll.cookie, poll.asked), (SendKind::NtsV4, &[1; 20][..], 7));
+    let mut out = [0; REQUEST_BYTES];
+    let length = a.write_request(&poll, 1, [9; 32], &mut out).unwrap();
+    assert_eq!(length, 48 + 36 + 7 * 24);
+    assert_eq!(a.write_request(&poll, 1, [9; 32], &mut out[..length - 1]), Err(RequestRefused::ShortBuffer));
+    assert_eq!((a.cookies(), a.pending_uid()), (1, Some([9; 32])));
+    assert_eq!(Association::new(&settings, &list[..5]).unwrap_err(), NewRefused::BrokenList);
+}
+
+#[test]
+fn a_version_is_kept_with_its_tries() {
+    for version in [
+        ProtocolVersion::V4,
+        ProtocolVersion::V4UpgradingToV5 { tries_left: 255 },
+        ProtocolVersion::UpgradedToV5,
+        ProtocolVersion::V5,
+    ] {
+        let a = Association::new(&Settings { version, ..Settings::default() }, &[]).unwrap();
+        assert_eq!(a.version(), version);
+    }
+}
+
+#[test]
+fn settings_out_of_range_are_refused() {
+    let good = Settings::default();
+    let windows = [Duration::ZERO, Duration::from_nanos(60_000_000_001), Duration::MAX];
+    for bad in windows
+        .map(|poll_window| Settings { poll_window, ..good })
+        .into_iter()
+        .chain([0, 9].map(|startup_tries| Settings { startup_tries, ..good }))
+    {
+        assert_eq!(Association::new(&bad, &[]).unwrap_err(), NewRefused::Settings);
+    }
+    assert!(Association::new(&Settings { poll_window: Duration::from_nanos(1), ..good }, &[]).is_ok());
+}
+
+#[test]
+fn more_identifiers_than_any_machine_has() {
+    let mut local = vec![ReferenceId::from_bits(1); 10_000];
+    let mut a = Association::new(&Settings { source: ReferenceId::from_bits(2), ..Settings::default() }, &[]).unwrap();
+    tick(&mut a, 0, 1).unwrap();
+    let _ = a.reply(&Packet::plain(&reply(1)), times(0)).unwrap();
+    assert_eq!(a.accept(16, &local, Bloom::NoFilter), Ok(()));
+    local.push(ReferenceId::from_bits(2));
+    assert_eq!(a.accept(16, &local, Bloom::NoFilter).unwrap_err().number(), 41);
+}
+
+#[test]
+fn a_record_of_any_numbers_is_refused_untouched() {
+    let whole = *Association::new(&Settings::default(), &[]).unwrap().record();
+    let mut broken = [whole; 6];
+    broken[0].settings.nts = 2;
+    broken[1].settings.start = 4;
+    broken[2].state.denial = 255;
+    broken[3].state.version = u32::MAX;
+    broken[4].stash.read = usize::MAX;
+    broken[5] = Record::BLANK;
+    for record in broken {
+        let mut a = Association::from_record(record);
+        assert_eq!(tick(&mut a, 0, 1), Err(TimerRefused::NotWhole));
+        assert_eq!(a.reply(&Packet::plain(&reply(1)), times(0)), Err(ReplyRefused::NotWhole));
+        assert_eq!(a.accept(17, &[], Bloom::NoFilter).unwrap_err().number(), 32);
+        assert_eq!(*a.record(), record);
+    }
+}
+
+#[test]
+fn the_system_clock_as_a_timestamp() {
+    // RFC 5905, figure 4: 1 January 1970 is 2,208,988,800 s into the era, and the era ends in 2036, 2,085,978,496 s after 1970.
+    assert_eq!(NtpTimestamp::from(UNIX_EPOCH).to_bits(), 2_208_988_800 << 32);
+    assert_eq!(NtpTimestamp::from(UNIX_EPOCH + Duration::from_millis(500)).to_bits(), 2_208_988_800 << 32 | 1 << 31);
+    assert_eq!(NtpTimestamp::from(UNIX_EPOCH - Duration::from_millis(500)).to_bits(), 2_208_988_799 << 32 | 1 << 31);
+    assert_eq!(NtpTimestamp::from(UNIX_EPOCH + Duration::from_secs(2_085_978_496)).to_bits(), 0);
+    let earlier: NtpTimestamp = SystemTime::now().into();
+    assert!(NtpTimestamp::now().since(earlier).to_bits() >= 0);
+}
+
+#[test]
+fn an_association_may_go_to_another_thread() {
+    let mut a = Association::new(&Settings::default(), &[]).unwrap();
+    let kind = std::thread::spawn(move || tick(&mut a, 0, 1)).join().unwrap();
+    assert_eq!(kind, Ok(SendKind::V4));
+}

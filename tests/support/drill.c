@@ -1,0 +1,294 @@
+/* The drill's language (docs/DRILL.md) answered through the static library, from C. It reads logs without bad lines from standard input. What the drill does not
+   show is looked at here: a refusal leaves record and buffer as they were, and nothing is written past what is handed out; else the answer ends with CHANGED. */
+#include "reckonstile.h"
+#include <inttypes.h>
+#include <stdio.h>
+#include <stdlib.h>
+#include <string.h>
+
+#define FILL 0xAA
+#define MOST 8192
+
+static struct reckonstile_association a, before;
+
+/* ---- a line's pairs */
+
+static struct { const char *key, *value; } pairs[64];
+static size_t count;
+
+static void die(const char *what, const char *text) {
+    fprintf(stderr, "drill: %s: %s\n", what, text);
+    exit(2);
+}
+
+static const char *or_text(const char *key, const char *other) {
+    for (size_t i = 0; i < count; i++)
+        if (!strcmp(pairs[i].key, key)) return pairs[i].value;
+    if (!other) die("no such key in the line", key);
+    return other;
+}
+static const char *text(const char *key) { return or_text(key, NULL); }
+static uint64_t natural(const char *s) { return strtoull(s, NULL, 10); }
+static int64_t integer(const char *s) { return strtoll(s, NULL, 10); }
+static uint64_t bits(const char *s) { return strtoull(s, NULL, 16); }
+
+static unsigned digit(char c) { return c <= '9' ? (unsigned)(c - '0') : (unsigned)((c | 32) - 'a' + 10); }
+
+/* hexadecimal digits as bytes; the number of bytes */
+static size_t bytes(const char *s, uint8_t *out) {
+    if (!strcmp(s, "-")) return 0;
+    size_t n = strlen(s) / 2;
+    if (n > MOST) die("too many bytes", s);
+    for (size_t i = 0; i < n; i++) out[i] = (uint8_t)(digit(s[2 * i]) << 4 | digit(s[2 * i + 1]));
+    return n;
+}
+
+static struct reckonstile_uid uid_of(const char *s) {
+    struct reckonstile_uid uid = { { 0 } };
+    bytes(s, uid.bytes);
+    return uid;
+}
+
+static void hex(const uint8_t *b, size_t n) {
+    if (!n) putchar('-');
+    for (size_t i = 0; i < n; i++) printf("%02x", b[i]);
+}
+
+static int filled(const uint8_t *b, size_t n) {
+    for (size_t i = 0; i < n; i++)
+        if (b[i] != FILL) return 0;
+    return 1;
+}
+static void end(int same) { puts(same ? "" : " CHANGED"); }
+static int same(void) { return !memcmp(&a, &before, sizeof a); }
+
+static const char *const kinds[] = { "", "v4", "v4-upgrade", "v5", "nts-v4", "nts-v5" };
+static const char *const versions[] = { "v4", "upgrading", "upgraded", "v5" };
+static uint8_t group(const char *key) {
+    const char *s = or_text(key, "absent");
+    return !strcmp(s, "agree") ? RECKONSTILE_UID_AGREE : !strcmp(s, "disagree") ? RECKONSTILE_UID_DISAGREE : RECKONSTILE_UID_ABSENT;
+}
+
+/* ---- the commands */
+
+static void new_(void) {
+    uint8_t list[MOST];
+    size_t n = bytes(or_text("list", "-"), list);
+    struct reckonstile_settings s;
+    memset(&s, 0, sizeof s);
+    s.window = natural(text("window"));
+    s.upgrademark = bits(text("mark"));
+    s.source = (uint32_t)bits(text("source"));
+    for (uint32_t k = 0; k < 4; k++)
+        if (!strncmp(text("start"), versions[k], strlen(versions[k])) && (k != RECKONSTILE_UPGRADED || strlen(text("start")) == 8)) s.start = k;
+    if (s.start == RECKONSTILE_UPGRADING) s.left = (uint8_t)natural(text("start") + 10);
+    s.nts = !strcmp(text("nts"), "yes");
+    s.startup = (uint8_t)natural(text("startup"));
+    s.min = (int8_t)integer(text("min"));
+    s.max = (int8_t)integer(text("max"));
+    printf("new %" PRIu32 "\n", reckonstile_new(&a, s, list, n));
+}
+
+static void timer(void) {
+    static uint8_t buffer[MOST];
+    size_t room = natural(or_text("room", "1024"));
+    memset(buffer, FILL, sizeof buffer);
+    struct reckonstile_timer_answer r =
+        reckonstile_timer(&a, natural(text("now")), (int8_t)integer(text("desired")), bits(text("id")), uid_of(or_text("uid", "-")), buffer, room);
+    printf("timer %" PRIu32, r.number);
+    if (r.number == RECKONSTILE_SENT) {
+        printf(" send=%s poll=%d cookie=", kinds[r.kind], r.poll);
+        hex(buffer, r.length);
+        printf(" asked=%u", (unsigned)r.asked);
+        end(filled(buffer + r.length, sizeof buffer - r.length));
+        return;
+    }
+    int untouched = (r.number == RECKONSTILE_NO_COOKIE || r.number == RECKONSTILE_COOKIE_SIZE) || same();
+    end(untouched && filled(buffer, sizeof buffer) && !r.kind && !r.poll && !r.asked && !r.length);
+}
+
+static void replied(const char *word, struct reckonstile_reply_answer r) {
+    printf("%s %" PRIu32, word, r.number);
+    if (r.number == RECKONSTILE_OK) {
+        printf(" delay=%" PRId64 " offset=%" PRId64 " local=%" PRIu64 " mono=%" PRIu64 " stratum=%u rootdelay=%" PRId64 " rootdisp=%" PRId64 " leap=%u precision=%d", r.delay,
+               r.offset, r.local, r.mono, (unsigned)r.stratum, r.rootdelay, r.rootdisp, (unsigned)r.leap, r.precision);
+        end(r.measured == 1);
+        return;
+    }
+    int changes = r.number >= RECKONSTILE_RATE && r.number <= RECKONSTILE_NOT_SERVER;
+    int zero = !r.measured && !r.delay && !r.offset && !r.local && !r.mono && !r.stratum && !r.rootdelay && !r.rootdisp && !r.leap && !r.precision;
+    end((changes || same()) && zero);
+}
+
+static void reply(void) {
+    static uint8_t packet[MOST], plain[MOST], list[MOST];
+    size_t packet_len = bytes(text("packet"), packet), plain_len = bytes(or_text("plain", "-"), plain), list_len;
+    const char *named = or_text("list", "-");
+    if (!strcmp(named, "collect")) {
+        struct reckonstile_written w = reckonstile_collect(plain, plain_len, list, 4096);
+        list_len = w.length;
+    } else
+        list_len = bytes(named, list);
+    replied("reply", reckonstile_reply(&a, packet, packet_len, natural(or_text("auth", "48")), plain, plain_len, list, list_len, natural(text("t1")), natural(text("t4")),
+                                       natural(text("now"))));
+}
+
+static void reply5(void) {
+    static uint8_t list[MOST];
+    size_t list_len = bytes(or_text("list", "-"), list);
+    const char *kiss = or_text("kiss", "-");
+    struct reckonstile_decoded d;
+    memset(&d, 0, sizeof d);
+    d.rootdelay = integer(text("rootdelay"));
+    d.rootdisp = integer(text("rootdisp"));
+    d.receive = natural(text("receive"));
+    d.transmit = natural(text("transmit"));
+    d.cookie = bits(text("cookie"));
+    d.mode = !strcmp(text("mode"), "4") ? RECKONSTILE_MODE_RESPONSE : RECKONSTILE_MODE_REQUEST;
+    d.leap = (uint8_t)natural(text("leap"));
+    d.stratum = (uint8_t)natural(text("stratum"));
+    d.poll = (int8_t)integer(text("poll"));
+    d.precision = (int8_t)integer(text("precision"));
+    d.rate = !!strstr(kiss, "rate");
+    d.deny = !!strstr(kiss, "deny");
+    d.rstr = !!strstr(kiss, "rstr");
+    d.ntsn = !!strstr(kiss, "ntsn");
+    d.any = !!strstr(kiss, "any");
+    d.authenticated = group("auth");
+    d.encrypted = group("enc");
+    d.untrusted = group("untrusted");
+    replied("reply5", reckonstile_reply_decoded(&a, d, list, list_len, natural(text("t1")), natural(text("t4")), natural(text("now"))));
+}
+
+static void accept_(void) {
+    static uint32_t local[MOST];
+    size_t n = 0;
+    const char *s = or_text("local", "-"), *bloom = or_text("bloom", "none");
+    if (strcmp(s, "-"))
+        for (;; s++) {
+            local[n++] = (uint32_t)bits(s);
+            if (!(s = strchr(s, ','))) break;
+        }
+    uint32_t word = !strcmp(bloom, "none") ? RECKONSTILE_BLOOM_NONE : !strcmp(bloom, "absent") ? RECKONSTILE_BLOOM_ABSENT : RECKONSTILE_BLOOM_PRESENT;
+    printf("accept %" PRIu32, reckonstile_accept(&a, (uint8_t)natural(text("stratum")), local, n, word));
+    end(same());
+}
+
+static void written(const char *word, const char *name, const uint8_t *out, struct reckonstile_written w) {
+    printf("%s %" PRIu32, word, w.number);
+    if (w.number == RECKONSTILE_OK) {
+        if (!strcmp(word, "request")) printf(" len=%zu", w.length);
+        printf(" %s=", name);
+        hex(out, w.length);
+    }
+    end(filled(out + w.length, MOST - w.length) && w.written == (w.number == RECKONSTILE_OK) && (w.written || !w.length));
+}
+
+static void collect(void) {
+    static uint8_t plain[MOST], out[MOST];
+    size_t n = bytes(text("plain"), plain);
+    memset(out, FILL, sizeof out);
+    written("collect", "list", out, reckonstile_collect(plain, n, out, natural(or_text("room", "4096"))));
+}
+
+static void request(void) {
+    static uint8_t cookie[MOST], out[MOST];
+    size_t n = bytes(or_text("cookie", "-"), cookie);
+    uint8_t kind = 0;
+    for (uint8_t k = 1; k < 6; k++)
+        if (!strcmp(text("kind"), kinds[k])) kind = k;
+    memset(out, FILL, sizeof out);
+    written("request", "packet", out,
+            reckonstile_write_request(kind, (int8_t)integer(text("poll")), bits(text("id")), bits(or_text("mark", "0")), uid_of(or_text("uid", "-")), cookie, n,
+                                      (uint8_t)natural(or_text("asked", "0")), out, natural(or_text("room", "6144"))));
+}
+
+static void show(void) {
+    const struct reckonstile_state *s = &a.state;
+    printf("record reach=%u tries=%u version=%s", (unsigned)s->reach, (unsigned)s->tries, versions[s->version]);
+    if (s->version == RECKONSTILE_UPGRADING) printf(":%u", (unsigned)s->left);
+    printf(" last=%d remote=%d pending=", s->last, s->remote);
+    if (s->present) {
+        printf("%016" PRIx64 "/", s->id);
+        hex(s->uid, 32);
+        printf("/%" PRIu64, s->deadline);
+    } else
+        putchar('-');
+    printf(" denial=%s stratum=%u refid=%08" PRIx32 " read=%zu held=%zu lens=", s->denial ? "yes" : "no", (unsigned)s->stratum, s->refid, a.stash.read, a.stash.held);
+    for (int k = 0; k < 8; k++) printf("%s%u", k ? "," : "", (unsigned)a.stash.slots[k].len);
+    puts("");
+}
+
+static void cookies(void) {
+    uint32_t nobody = 0;
+    if (!a.stash.held || reckonstile_accept(&a, 0, &nobody, 0, RECKONSTILE_BLOOM_NONE) == RECKONSTILE_NOT_WHOLE) {
+        puts("cookies 0");
+        return;
+    }
+    printf("cookies %zu ", a.stash.held);
+    for (size_t k = 0; k < a.stash.held; k++) {
+        const struct reckonstile_slot *slot = &a.stash.slots[(a.stash.read + k) % 8];
+        if (k) putchar(',');
+        hex(slot->bytes, slot->len <= RECKONSTILE_COOKIE_BYTES ? slot->len : 0);
+    }
+    puts("");
+}
+
+static void poke(void) {
+    const char *key = text("key"), *value = text("value");
+    if (!strcmp(key, "reach")) a.state.reach = (uint8_t)natural(value);
+    else if (!strcmp(key, "tries")) a.state.tries = (uint8_t)natural(value);
+    else if (!strcmp(key, "last")) a.state.last = (int8_t)integer(value);
+    else if (!strcmp(key, "remote")) a.state.remote = (int8_t)integer(value);
+    else if (!strcmp(key, "stratum")) a.state.stratum = (uint8_t)natural(value);
+    else if (!strcmp(key, "refid")) a.state.refid = (uint32_t)bits(value);
+    else if (!strcmp(key, "read")) a.stash.read = natural(value);
+    else if (!strcmp(key, "held")) a.stash.held = natural(value);
+    else if (!strcmp(key, "min")) a.settings.min = (int8_t)integer(value);
+    else if (!strcmp(key, "max")) a.settings.max = (int8_t)integer(value);
+    else if (!strcmp(key, "startup")) a.settings.startup = (uint8_t)natural(value);
+    else if (!strcmp(key, "window")) a.settings.window = natural(value);
+    else if (!strcmp(key, "id")) a.state.id = bits(value);
+    else if (!strcmp(key, "deadline")) a.state.deadline = natural(value);
+    else if (!strcmp(key, "uid")) {
+        memset(a.state.uid, 0, sizeof a.state.uid);
+        bytes(value, a.state.uid);
+    } else if (!strcmp(key, "slotbyte")) {
+        unsigned slot, at, byte;
+        if (sscanf(value, "%u/%u/%u", &slot, &at, &byte) != 3 || slot > 7 || at >= RECKONSTILE_COOKIE_BYTES) die("no slot's byte", value);
+        a.stash.slots[slot].bytes[at] = (uint8_t)byte;
+    } else
+        die("no such key of poke", key);
+    puts("poke");
+}
+
+static void blank(void) { puts(reckonstile_blank(&a) == RECKONSTILE_OK ? "blank" : "blank was refused"); }
+
+int main(void) {
+    static const struct { const char *word; void (*call)(void); } commands[] = {
+        { "new", new_ }, { "timer", timer }, { "reply", reply }, { "reply5", reply5 }, { "accept", accept_ }, { "collect", collect }, { "request", request },
+        { "show", show }, { "cookies", cookies }, { "poke", poke }, { "blank", blank },
+    };
+    static char line[65536];
+    reckonstile_blank(&a);
+    while (fgets(line, sizeof line, stdin)) {
+        line[strcspn(line, "\n")] = 0;
+        if (!*line || *line == '#') continue;
+        count = 0;
+        char *word = strtok(line, " ");
+        for (char *pair; (pair = strtok(NULL, " ")); count++) {
+            char *equals = strchr(pair, '=');
+            if (!equals || count == 64) die("no pair", pair);
+            *equals = 0;
+            pairs[count].key = pair;
+            pairs[count].value = equals + 1;
+        }
+        size_t k = 0;
+        while (k < sizeof commands / sizeof *commands && strcmp(commands[k].word, word)) k++;
+        if (k == sizeof commands / sizeof *commands) die("no such command", word);
+        before = a;
+        commands[k].call();
+        fflush(stdout);
+    }
+    return 0;
+}

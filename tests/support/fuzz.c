@@ -1,0 +1,213 @@
+/* Any bytes whatever as a record: random ones, and records that calls have made with bytes of them changed. Each call gives 32 exactly where the record is not whole
+   (the test below is written from docs/CALLERS.md's papers, not from the library), or a number of its own; what it must not change stays: the whole record after 32 and
+   the other refusals, the settings always, and the bytes around the record and the buffers. fuzz SEED ROUNDS */
+#include "reckonstile.h"
+#include <stdio.h>
+#include <stdlib.h>
+#include <string.h>
+
+static uint64_t state;
+static uint64_t next(void) { /* splitmix64 */
+    uint64_t z = state += 0x9E3779B97F4A7C15;
+    z = (z ^ z >> 30) * 0xBF58476D1CE4E5B9;
+    z = (z ^ z >> 27) * 0x94D049BB133111EB;
+    return z ^ z >> 31;
+}
+static uint64_t below(uint64_t n) { return next() % n; }
+
+/* ---- when a record is whole */
+
+static int zeros(const uint8_t *b, size_t n) {
+    for (size_t i = 0; i < n; i++)
+        if (b[i]) return 0;
+    return 1;
+}
+static int version_ok(uint32_t kind, uint8_t left) { return kind == RECKONSTILE_UPGRADING || (kind <= RECKONSTILE_V5 && left == 0); }
+static int codes_ok(const struct reckonstile_association *a) {
+    return version_ok(a->settings.start, a->settings.left) && a->settings.nts <= 1 && version_ok(a->state.version, a->state.left) && a->state.denial <= 1 && a->state.present <= 1;
+}
+static int settings_ok(const struct reckonstile_settings *s) {
+    return 0 <= s->min && s->min <= s->max && s->max <= 17 && 1 <= s->startup && s->startup <= 8 && 1 <= s->window && s->window <= 60000000000;
+}
+static int whole(const struct reckonstile_association *a) {
+    const struct reckonstile_state *s = &a->state;
+    if (!codes_ok(a) || !settings_ok(&a->settings) || a->stash.read >= 8 || a->stash.held > 8) return 0;
+    for (size_t k = 0; k < 8; k++) {
+        const struct reckonstile_slot *slot = &a->stash.slots[(a->stash.read + k) % 8];
+        size_t stored = slot->len <= RECKONSTILE_COOKIE_BYTES ? slot->len : 0;
+        if ((k >= a->stash.held && slot->len) || !zeros(slot->bytes + stored, RECKONSTILE_COOKIE_BYTES - stored)) return 0;
+    }
+    if (!s->present && (s->id || s->deadline || !zeros(s->uid, 32))) return 0;
+    return a->settings.nts || (!a->stash.read && !a->stash.held && zeros(s->uid, 32));
+}
+
+/* ---- a record between two walls */
+
+#define WALL 64
+static struct { uint8_t low[WALL]; struct reckonstile_association a; uint8_t high[WALL]; } lent;
+static struct { uint8_t low[WALL], bytes[2048], high[WALL]; } out;
+static struct reckonstile_association before;
+static unsigned long passed, failed, wholes;
+
+static int walls(void) {
+    for (int i = 0; i < WALL; i++)
+        if (lent.low[i] != 0x5A || lent.high[i] != 0x5A || out.low[i] != 0x5A || out.high[i] != 0x5A) return 0;
+    return 1;
+}
+static void expect(int test, const char *what, uint32_t number) {
+    if (test && walls()) {
+        passed++;
+        return;
+    }
+    if (failed++ < 10) printf("fuzz: %s (%u) after %lu right ones\n", test ? "bytes around the record or a buffer changed" : what, (unsigned)number, passed);
+}
+static int kept(void) { return !memcmp(&lent.a, &before, sizeof before); }
+static int settings_kept(void) { return !memcmp(&lent.a.settings, &before.settings, sizeof before.settings); }
+
+/* ---- records */
+
+static void random_bytes(void *to, size_t n) {
+    for (size_t i = 0; i < n; i++) ((uint8_t *)to)[i] = (uint8_t)next();
+}
+static size_t list_of(uint8_t *list, size_t room) {
+    size_t n = 0;
+    for (uint64_t left = below(10); left && n + 4 < room; left--) {
+        size_t len = below(8) ? below(120) : below(room - n - 4);
+        if (n + 4 + len > room) break;
+        list[n] = 0xC0;
+        list[n + 1] = 0x0E;
+        list[n + 2] = (uint8_t)(len >> 8);
+        list[n + 3] = (uint8_t)len;
+        random_bytes(list + n + 4, len);
+        n += 4 + len;
+    }
+    return n;
+}
+static void make(void) {
+    static uint8_t list[4096];
+    struct reckonstile_uid uid;
+    if (!below(16)) {
+        random_bytes(&lent.a, sizeof lent.a);
+        return;
+    }
+    struct reckonstile_settings s;
+    memset(&s, 0, sizeof s);
+    s.window = 1 + below(60000000000);
+    s.upgrademark = next();
+    s.source = (uint32_t)next();
+    s.start = (uint32_t)below(4);
+    s.left = s.start == RECKONSTILE_UPGRADING ? (uint8_t)next() : 0;
+    s.nts = (uint32_t)below(2);
+    s.startup = (uint8_t)(1 + below(8));
+    s.max = (int8_t)below(18);
+    s.min = (int8_t)below((uint64_t)s.max + 1);
+    size_t n = list_of(list, below(2) ? sizeof list : 1000);
+    uint32_t number = reckonstile_new(&lent.a, s, list, n);
+    expect(number == RECKONSTILE_OK && whole(&lent.a), "new was refused, or its record is not whole", number);
+    for (uint64_t k = below(4); k; k--) {
+        random_bytes(&uid, sizeof uid);
+        number = reckonstile_timer(&lent.a, below(1000000), (int8_t)below(18), next(), uid, out.bytes, sizeof out.bytes).number;
+        expect(whole(&lent.a) && number >= RECKONSTILE_SENT && number <= RECKONSTILE_COOKIE_SIZE, "timer on a whole record", number);
+    }
+    /* then bytes of it, more often where numbers are few */
+    for (uint64_t k = below(4); k; k--) {
+        size_t at = below(sizeof lent.a);
+        if (below(4)) at = below(2) ? below(sizeof lent.a.settings) : offsetof(struct reckonstile_association, state) + below(sizeof lent.a.state);
+        else if (below(2)) at = offsetof(struct reckonstile_association, stash.read) + below(16);
+        ((uint8_t *)&lent.a)[at] = (uint8_t)(below(2) ? below(4) : next());
+    }
+}
+
+/* ---- a reply that may match */
+
+static size_t packet_of(uint8_t *packet) {
+    size_t n = below(8) ? 48 : below(120);
+    random_bytes(packet, 256);
+    if (below(8)) {
+        packet[0] = (uint8_t)(below(4) << 6 | (3 + below(3)) << 3 | (below(4) ? 4 : below(8)));
+        packet[1] = (uint8_t)(below(4) ? below(18) : 0);
+        static const char *const names[] = { "RATE", "DENY", "RSTR", "NTSN", "XXXX" };
+        if (!packet[1]) memcpy(packet + 12, names[below(5)], 4);
+        for (int i = 0; i < 8; i++) packet[24 + i] = (uint8_t)(lent.a.state.id >> (56 - 8 * i));
+        if (below(2)) {
+            static const uint8_t head[4] = { 1, 4, 0, 36 };
+            memcpy(packet + 48, head, 4);
+            memcpy(packet + 52, lent.a.state.uid, 32);
+            n = 84 + below(60);
+        }
+    }
+    return n;
+}
+
+int main(int argc, char **argv) {
+    if (argc != 3) {
+        fprintf(stderr, "usage: fuzz SEED ROUNDS\n");
+        return 2;
+    }
+    state = strtoull(argv[1], NULL, 10);
+    static uint8_t packet[256], list[1024], plain[256];
+    memset(&lent, 0x5A, sizeof lent);
+    memset(&out, 0x5A, sizeof out);
+    for (unsigned long rounds = strtoul(argv[2], NULL, 10); rounds; rounds--) {
+        make();
+        before = lent.a;
+        int is_whole = whole(&before);
+        wholes += (unsigned long)is_whole;
+        struct reckonstile_uid uid;
+        random_bytes(&uid, sizeof uid);
+        size_t room = below(4) ? 724 + below(100) : below(724), list_len = below(4) ? list_of(list, sizeof list) : below(sizeof list), plain_len = below(2) ? 0 : below(40);
+        uint64_t time = below(2) ? below(2000000) : next();
+
+        uint32_t local[4] = { before.settings.source, 1, 2, 3 }, n = reckonstile_accept(&lent.a, (uint8_t)next(), local + below(2), below(4), (uint32_t)below(4));
+        expect(kept() && (is_whole ? n == 0 || (n >= 40 && n <= 42) : n == 32), "accept", n);
+
+        memset(out.bytes, 0xAA, sizeof out.bytes);
+        struct reckonstile_timer_answer t = reckonstile_timer(&lent.a, time, (int8_t)next(), next(), uid, out.bytes, room);
+        n = t.number;
+        expect(settings_kept() && (is_whole ? (n >= 20 && n <= 24) || n == 31 : n == 32) && (!is_whole || whole(&lent.a)), "timer", n);
+        expect(n == 20 || n == 23 || n == 24 || kept(), "timer: a refusal changed the record", n);
+        expect((n == 20) == (t.kind != 0) && t.length <= RECKONSTILE_COOKIE_BYTES && (n == 20 || (!t.poll && !t.asked && !t.length)), "timer's answer", n);
+        int untouched = 1;
+        for (size_t i = t.length; i < sizeof out.bytes; i++) untouched &= out.bytes[i] == 0xAA;
+        expect(untouched, "timer: the buffer past the cookie changed", n);
+
+        if (below(4)) lent.a = before;
+        before = lent.a;
+        is_whole = whole(&before);
+        size_t packet_len = packet_of(packet);
+        struct reckonstile_reply_answer r = reckonstile_reply(&lent.a, packet, packet_len, below(4) ? 48 : below(2) ? 84 : next(), plain, plain_len, list, list_len, next(), next(), time);
+        n = r.number;
+        expect(settings_kept() && (is_whole ? n <= 11 || n == 33 : n == 32) && (!is_whole || whole(&lent.a)), "reply", n);
+        expect(n == 0 || (n >= 5 && n <= 11) || kept(), "reply: a refusal changed the record", n);
+        expect(r.measured == (n == 0) && (n == 0 || (!r.delay && !r.offset && !r.local && !r.mono && !r.leap && !r.stratum && !r.precision && !r.rootdelay && !r.rootdisp)), "reply's answer", n);
+
+        if (below(4)) lent.a = before;
+        before = lent.a;
+        is_whole = whole(&before);
+        struct reckonstile_decoded d;
+        random_bytes(&d, sizeof d);
+        if (below(4)) {
+            uint8_t *codes = &d.rate;
+            for (int k = 0; k < 5; k++) codes[k] = (uint8_t)!below(8);
+            d.authenticated = (uint8_t)below(3);
+            d.encrypted = (uint8_t)below(3);
+            d.untrusted = (uint8_t)below(3);
+            d.mode = (uint32_t)below(2);
+            d.leap = (uint8_t)below(5);
+            d.cookie = before.state.id;
+        }
+        r = reckonstile_reply_decoded(&lent.a, d, list, list_len, next(), next(), time);
+        n = r.number;
+        expect(settings_kept() && (is_whole ? n <= 11 || n == 33 : n == 32) && (!is_whole || whole(&lent.a)), "reply_decoded", n);
+        expect(n == 0 || (n >= 5 && n <= 11) || kept(), "reply_decoded: a refusal changed the record", n);
+
+        /* settings of any kind: made and whole, or blank */
+        struct reckonstile_settings s = before.settings;
+        n = reckonstile_new(&lent.a, s, list, list_len);
+        int good = version_ok(s.start, s.left) && s.nts <= 1 && settings_ok(&s);
+        expect(good ? n == 0 || (n == 33 && s.nts) : n == 30, "new", n);
+        expect(n == 0 ? whole(&lent.a) && settings_kept() : zeros((const uint8_t *)&lent.a, sizeof lent.a), "new's record", n);
+    }
+    printf("%lu of the records were whole\n%lu passed, %lu failed\n", wholes, passed, failed);
+    return failed != 0;
+}

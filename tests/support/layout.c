@@ -1,0 +1,167 @@
+/* The header's layout against the library: its own answers for size and alignment, and each field of a record found where the header has it after calls that give
+   every field a value of its own. Compiled as C11 and as C++17. Prints what is wrong, and last how much was right. */
+#include "reckonstile.h"
+#include <stdio.h>
+#include <string.h>
+
+static int passed, failed;
+#define EXPECT(test) ((test) ? (void)passed++ : (void)(failed++, printf("layout.c:%d: not so: %s\n", __LINE__, #test)))
+
+static struct reckonstile_association a, b;
+static uint8_t packet[48], none[1], buffer[RECKONSTILE_COOKIE_BYTES];
+
+int main(void) {
+    EXPECT(reckonstile_size() == sizeof a);
+    EXPECT(reckonstile_align() % sizeof(uint64_t) == 0 && sizeof a % reckonstile_align() == 0);
+
+    /* blank: every byte */
+    memset(&a, 0xEE, sizeof a);
+    memset(&b, 0, sizeof b);
+    EXPECT(reckonstile_blank(&a) == RECKONSTILE_OK && !memcmp(&a, &b, sizeof a));
+
+    /* new: the settings, the stash, the state */
+    struct reckonstile_settings s;
+    memset(&s, 0, sizeof s);
+    s.window = 59123456789;
+    s.upgrademark = 0x4e54503544524654;
+    s.source = 0xC0000201;
+    s.start = RECKONSTILE_UPGRADING;
+    s.nts = 1;
+    s.left = 77;
+    s.startup = 7;
+    s.min = 3;
+    s.max = 16;
+    uint8_t list[] = { 0xC0, 0x0E, 0, 5, 11, 12, 13, 14, 15, 0xC0, 0x0E, 0, 2, 21, 22 };
+    memset(&a, 0xEE, sizeof a);
+    EXPECT(reckonstile_new(&a, s, list, sizeof list) == RECKONSTILE_OK);
+    b.settings = s;
+    b.stash.slots[0].len = 5;
+    memcpy(b.stash.slots[0].bytes, list + 4, 5);
+    b.stash.slots[1].len = 2;
+    memcpy(b.stash.slots[1].bytes, list + 13, 2);
+    b.stash.held = 2;
+    b.state.last = b.state.remote = 3;
+    b.state.refid = 0x584E4F4E; /* XNON */
+    b.state.version = RECKONSTILE_UPGRADING;
+    b.state.left = 77;
+    b.state.stratum = 16;
+    EXPECT(!memcmp(&a, &b, sizeof a));
+
+    /* timer: effort, polls, the pending request, a cookie taken. The desired poll is the larger. While it upgrades with NTS it sends V5. */
+    struct reckonstile_uid uid;
+    for (int i = 0; i < 32; i++) uid.bytes[i] = (uint8_t)(200 + i);
+    struct reckonstile_timer_answer t = reckonstile_timer(&a, 1000, 9, 0x1122334455667788, uid, buffer, sizeof buffer);
+    EXPECT(t.number == RECKONSTILE_SENT && t.kind == RECKONSTILE_SEND_NTS_V5 && t.poll == 9 && t.asked == 7 && t.length == 5 && !memcmp(buffer, list + 4, 5));
+    memset(&b.stash.slots[0], 0, sizeof b.stash.slots[0]);
+    b.stash.read = 1;
+    b.stash.held = 1;
+    b.state.tries = 1;
+    b.state.last = 9;
+    b.state.present = 1;
+    b.state.id = 0x1122334455667788;
+    b.state.deadline = 1000 + s.window;
+    memcpy(b.state.uid, uid.bytes, 32);
+    EXPECT(!memcmp(&a, &b, sizeof a));
+
+    /* a measured reply, without NTS: every field of the answer, and of what the record keeps. T1 = 100 s, T2 = 103, T3 = 103.5, T4 = 101. */
+    memset(&s, 0, sizeof s);
+    s.window = 5000;
+    s.max = 17;
+    s.startup = 1;
+    EXPECT(reckonstile_new(&a, s, none, 0) == RECKONSTILE_OK);
+    memset(&uid, 0, sizeof uid);
+    t = reckonstile_timer(&a, 1000, -5, 0x0102030405060708, uid, none, 0);
+    EXPECT(t.number == RECKONSTILE_SENT && t.kind == RECKONSTILE_SEND_V4 && t.poll == 0 && t.asked == 0 && t.length == 0);
+    packet[0] = 0x64; /* leap 61, V4, server */
+    packet[1] = 2;
+    packet[3] = 0xEC; /* precision -20 */
+    packet[6] = 1;    /* root delay 256 / 65536 s */
+    packet[10] = 2;   /* root dispersion 512 / 65536 s */
+    packet[12] = 0xAB;
+    for (int i = 0; i < 8; i++) packet[24 + i] = (uint8_t)(1 + i);
+    packet[35] = 103;
+    packet[43] = 103;
+    packet[44] = 0x80;
+    struct reckonstile_reply_answer r = reckonstile_reply(&a, packet, 48, 48, none, 0, none, 0, (uint64_t)100 << 32, (uint64_t)101 << 32, 6000);
+    EXPECT(r.number == RECKONSTILE_OK && r.measured == 1 && r.leap == RECKONSTILE_LEAP_61 && r.stratum == 2 && r.precision == -20);
+    EXPECT(r.delay == (int64_t)1 << 31 && r.offset == ((int64_t)11 << 32) / 4 && r.local == ((uint64_t)100 << 32 | (uint64_t)1 << 31) && r.mono == 6000);
+    EXPECT(r.rootdelay == (int64_t)256 << 16 && r.rootdisp == (int64_t)512 << 16);
+    memset(&b, 0, sizeof b);
+    b.settings = s;
+    b.state.reach = 1;
+    b.state.tries = 1;
+    b.state.refid = 0xAB000000;
+    b.state.stratum = 2;
+    EXPECT(!memcmp(&a, &b, sizeof a));
+
+    /* a denial is noted */
+    t = reckonstile_timer(&a, 7000, 0, 5, uid, none, 0);
+    memset(packet, 0, sizeof packet);
+    packet[0] = 0x24;
+    memcpy(packet + 12, "DENY", 4);
+    packet[31] = 5;
+    EXPECT(t.number == RECKONSTILE_SENT && reckonstile_reply(&a, packet, 48, 48, none, 0, none, 0, 0, 0, 7000).number == RECKONSTILE_DENIED && a.state.denial == 1);
+
+    /* a decoded reply: each field in its place. V5 from the start, poll raised to the server's. */
+    s.start = RECKONSTILE_V5;
+    EXPECT(reckonstile_new(&a, s, none, 0) == RECKONSTILE_OK && a.state.version == RECKONSTILE_V5);
+    t = reckonstile_timer(&a, 1, 4, 99, uid, none, 0);
+    EXPECT(t.number == RECKONSTILE_SENT && t.kind == RECKONSTILE_SEND_V5);
+    struct reckonstile_decoded d;
+    memset(&d, 0, sizeof d);
+    d.rootdelay = -5;
+    d.rootdisp = 6;
+    d.receive = (uint64_t)103 << 32;
+    d.transmit = (uint64_t)103 << 32;
+    d.cookie = 99;
+    d.mode = RECKONSTILE_MODE_RESPONSE;
+    d.leap = RECKONSTILE_LEAP_UNKNOWN;
+    d.stratum = 16;
+    d.poll = 7;
+    d.precision = -128;
+    d.untrusted = RECKONSTILE_UID_DISAGREE;
+    r = reckonstile_reply_decoded(&a, d, none, 0, (uint64_t)100 << 32, (uint64_t)102 << 32, 2);
+    EXPECT(r.number == RECKONSTILE_OK && r.leap == RECKONSTILE_LEAP_UNKNOWN && r.stratum == 16 && r.precision == -128 && r.rootdelay == -5 && r.rootdisp == 6);
+    EXPECT(r.delay == (int64_t)2 << 32 && r.offset == (int64_t)2 << 32 && a.state.remote == 7);
+    /* each kiss, and each code of no kind */
+    uint8_t *kisses[] = { &d.rate, &d.deny, &d.rstr, &d.ntsn, &d.any };
+    uint32_t numbers[] = { RECKONSTILE_RATE, RECKONSTILE_DENIED, RECKONSTILE_DENIED, RECKONSTILE_NTSN, RECKONSTILE_OTHER_KISS };
+    for (int k = 0; k < 5; k++) {
+        EXPECT(reckonstile_timer(&a, 10, 4, 99, uid, none, 0).number == RECKONSTILE_SENT);
+        *kisses[k] = 1;
+        EXPECT(reckonstile_reply_decoded(&a, d, none, 0, 0, 0, 10).number == numbers[k]);
+        *kisses[k] = 2;
+        EXPECT(reckonstile_reply_decoded(&a, d, none, 0, 0, 0, 10).number == RECKONSTILE_UNDECODABLE);
+        *kisses[k] = 0;
+    }
+    uint8_t *codes[] = { &d.leap, &d.authenticated, &d.encrypted, &d.untrusted };
+    uint8_t firsts[] = { 5, 3, 3, 3 };
+    for (int k = 0; k < 4; k++) {
+        uint8_t was = *codes[k];
+        *codes[k] = firsts[k];
+        EXPECT(reckonstile_reply_decoded(&a, d, none, 0, 0, 0, 10).number == RECKONSTILE_UNDECODABLE);
+        *codes[k] = was;
+    }
+    d.mode = 2;
+    EXPECT(reckonstile_reply_decoded(&a, d, none, 0, 0, 0, 10).number == RECKONSTILE_UNDECODABLE);
+    d.mode = RECKONSTILE_MODE_REQUEST;
+    EXPECT(reckonstile_reply_decoded(&a, d, none, 0, 0, 0, 10).number == RECKONSTILE_NOT_SERVER);
+
+    /* accept: the words of the Bloom filter, and the identifiers as numbers */
+    uint32_t local[] = { 1, 0xC0000201 };
+    s.start = RECKONSTILE_V4;
+    s.source = 0xC0000201;
+    EXPECT(reckonstile_new(&a, s, none, 0) == RECKONSTILE_OK);
+    a.state.reach = 1;
+    EXPECT(reckonstile_accept(&a, 16, local, 2, RECKONSTILE_BLOOM_NONE) == RECKONSTILE_STRATUM);
+    EXPECT(reckonstile_accept(&a, 17, local, 2, RECKONSTILE_BLOOM_NONE) == RECKONSTILE_LOOP);
+    EXPECT(reckonstile_accept(&a, 17, local, 1, RECKONSTILE_BLOOM_NONE) == RECKONSTILE_OK);
+    EXPECT(reckonstile_accept(&a, 17, local, 0, RECKONSTILE_BLOOM_ABSENT) == RECKONSTILE_OK);
+    EXPECT(reckonstile_accept(&a, 17, local, 0, RECKONSTILE_BLOOM_PRESENT) == RECKONSTILE_LOOP);
+    EXPECT(reckonstile_accept(&a, 17, local, 0, 3) == RECKONSTILE_LOOP);
+    a.state.reach = 0;
+    EXPECT(reckonstile_accept(&a, 17, local, 0, RECKONSTILE_BLOOM_NONE) == RECKONSTILE_UNREACHABLE);
+
+    printf("%d passed, %d failed\n", passed, failed);
+    return failed != 0;
+}

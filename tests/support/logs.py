@@ -1,0 +1,172 @@
+"""Random logs in the drill's language, without bad lines. What a reply has to bring back is taken from a record that tools/reference keeps beside, so that every number
+comes up; the expected answers are not taken from here, but from the drill."""
+import importlib.machinery
+import importlib.util
+import os
+import random
+import sys
+
+ROOT = os.path.dirname(os.path.dirname(os.path.dirname(os.path.abspath(__file__))))
+NAMES = (b'RATE', b'DENY', b'RSTR', b'NTSN', b'STEP')
+MAX64 = 2**64 - 1
+
+
+def reference():
+    loader = importlib.machinery.SourceFileLoader('reference', os.path.join(ROOT, 'tools', 'reference'))
+    module = importlib.util.module_from_spec(importlib.util.spec_from_loader('reference', loader))
+    was, sys.dont_write_bytecode = sys.dont_write_bytecode, True
+    loader.exec_module(module)
+    sys.dont_write_bytecode = was
+    return module
+
+
+def hexed(b):
+    return b.hex() or '-'
+
+
+class Logs:
+    def __init__(self, seed):
+        self.rng, self.model = random.Random(seed), reference()
+        self.record, self.now, self.cookie = self.model.Record(), 0, b''
+
+    def bytes(self, n):
+        return self.rng.getrandbits(8 * n).to_bytes(n, 'big') if n else b''
+
+    def field(self, kind, body):
+        return kind.to_bytes(2, 'big') + (4 + len(body)).to_bytes(2, 'big') + body
+
+    def cookie_of(self):
+        n = self.rng.choice((0, 1, 4, 20, 100, 100, 100, 104, 723, 724, 725, 1000) if self.rng.random() < 0.2 else (96, 100, 104, 180))
+        return self.bytes(n)
+
+    def list(self):
+        found = b''
+        for _ in range(self.rng.choice((0, 1, 1, 2, 7, 8, 9))):
+            cookie = self.cookie_of()
+            if len(found) + 4 + len(cookie) <= 4000:
+                found += b'\xc0\x0e' + len(cookie).to_bytes(2, 'big') + cookie
+        if self.rng.random() < 0.04:  # broken, but where the cut is between two cookies
+            found = found[:self.rng.randrange(len(found) + 1)] + self.bytes(self.rng.randrange(5))
+        return found
+
+    # ---- commands
+
+    def new(self):
+        rng = self.rng
+        low = rng.choice((0, 4, 4, 6))
+        good = rng.random() < 0.95
+        start = rng.choice(('v4', 'v4', 'v4', 'upgrading:8', 'upgrading:1', 'upgrading:0', 'upgraded', 'v5'))
+        nts = rng.random() < 0.6
+        self.now = rng.choice((0, rng.randrange(10**12), MAX64 - 10**10))
+        return 'new min=%d max=%d startup=%d window=%d mark=%s start=%s nts=%s source=%08x list=%s' % (
+            low if good else rng.choice((-128, -1, 18, low)), rng.choice((low, 10, 17)) if good else rng.choice((18, 127, -1, 10)),
+            rng.choice((1, 3, 8)) if good else rng.choice((0, 9, 255, 3)), rng.choice((1, 5 * 10**9, 60 * 10**9)) if good else rng.choice((0, 60 * 10**9 + 1, MAX64)),
+            '4e54503544524654', start, 'yes' if nts else 'no', rng.choice((0, 1, 0x7f000001, 0xffffffff)), hexed(self.list()))
+
+    def timer(self):
+        rng = self.rng
+        self.now = min(self.now + rng.choice((0, 1, rng.randrange(10**9), rng.randrange(10**11))), MAX64)
+        return 'timer now=%d desired=%d id=%s uid=%s room=%d' % (self.now, rng.choice((4, 6, 10, rng.randint(-128, 127))), self.bytes(8).hex(),
+                                                               rng.choice((self.bytes(32).hex(), '-')), rng.choice((1024,) * 8 + (724, 723, 0)))
+
+    def packet(self):
+        rng, a = self.rng, self.record
+        version = rng.choice((4,) * 16 + (3, 3, rng.randrange(8)))
+        head = bytearray(self.bytes(48))
+        head[0] = rng.randrange(4) << 6 | version << 3 | (4 if rng.random() < 0.9 else rng.randrange(8))
+        head[1] = rng.choice((1, 2, 2, 3, 3, 15, 16, 17, 255, 0))
+        if head[1] == 0 or rng.random() < 0.1:
+            head[12:16] = rng.choice(NAMES)
+        if rng.random() < 0.15:
+            head[16:24] = bytes.fromhex('4e54503544524654')
+        if rng.random() < 0.85:
+            head[24:32] = a.id.to_bytes(8, 'big')
+        packet, places, plain = bytes(head), [48], b''
+        uid = a.uid if rng.random() < 0.9 else self.bytes(32)
+        for _ in range(rng.choice((0, 1, 1, 2, 3))):
+            packet += self.field(*rng.choice(((0x0104, uid), (0x0104, uid + self.bytes(4)), (0x0104, self.bytes(28)), (0x0304, self.bytes(100)), (0x1234, self.bytes(rng.choice((12, 24)))))))
+            places.append(len(packet))
+        if rng.random() < 0.15:
+            packet += self.bytes(rng.choice((4, 20, 24, 24, 20, 25, 28)))
+        for _ in range(rng.choice((0, 0, 1, 1, 2, 3))):
+            plain += self.field(*rng.choice(((0x0204, self.bytes(4 * rng.randrange(60))), (0x0204, self.bytes(100)), (0x0104, uid), (0x0304, self.bytes(8)))))
+        if rng.random() < 0.05:
+            packet = packet[:rng.randrange(len(packet) + 1)]
+        if rng.random() < 0.05:
+            plain += self.bytes(rng.randrange(6))
+        end = (48 if version == 3 else rng.choice(places + [places[-1]] * 4)) if rng.random() < 0.95 else rng.choice((0, 1, 52, len(packet), MAX64))
+        return packet, end, plain[:4000]
+
+    def arrival(self):
+        rng, a = self.rng, self.record
+        at = rng.choice((self.now,) * 6 + (self.now + 1, a.deadline, a.deadline, a.deadline + 1, max(a.deadline, 1) - 1, rng.randrange(2**64)))
+        t1 = rng.choice((rng.randrange(2**64), 0, MAX64, 2**63))
+        return min(at, MAX64), t1, rng.choice(((t1 + rng.randrange(2**33)) % 2**64, rng.randrange(2**64), t1))
+
+    def reply(self):
+        packet, end, plain = self.packet()
+        listed = 'collect' if self.rng.random() < 0.6 else hexed(self.list())
+        return 'reply now=%d t1=%d t4=%d' % self.arrival() + ' packet=%s auth=%d plain=%s list=%s' % (hexed(packet), end, hexed(plain), listed)
+
+    def reply5(self):
+        rng, a = self.rng, self.record
+        kiss = ','.join(k for k in ('rate', 'deny', 'rstr', 'ntsn', 'any') if rng.random() < 0.06) or '-'
+        group = lambda: rng.choice(('absent', 'agree', 'agree', 'disagree'))
+        whole = lambda: rng.choice((0, rng.randrange(-2**63, 2**63), -2**63, 2**63 - 1))
+        return 'reply5 now=%d t1=%d t4=%d' % self.arrival() + (
+            ' leap=%d mode=%s stratum=%d poll=%d precision=%d rootdelay=%d rootdisp=%d receive=%d transmit=%d cookie=%016x kiss=%s auth=%s enc=%s untrusted=%s list=%s'
+            % (rng.randrange(5), '4' if rng.random() < 0.9 else '3', rng.choice((0, 1, 2, 16, 17, 255)), rng.randint(-128, 127) if rng.random() < 0.2 else 6,
+               rng.randint(-128, 127), whole(), whole(), rng.randrange(2**64), rng.randrange(2**64), a.id if rng.random() < 0.9 else rng.randrange(2**64), kiss, group(),
+               group(), group(), hexed(self.list())))
+
+    def accept(self):
+        rng, a = self.rng, self.record
+        local = rng.choice(('-', '%08x' % a.source, '00000001,%08x,00000003' % a.source, '00000002'))
+        return 'accept stratum=%d local=%s bloom=%s' % (rng.choice((1, 2, 3, 16, 17, 255, rng.randrange(256))), local, rng.choice(('none', 'none', 'absent', 'present')))
+
+    def collect(self):
+        return 'collect plain=%s room=%d' % (hexed(self.packet()[2]), self.rng.choice((4096, 4096, 0, 100, 104, self.rng.randrange(300))))
+
+    def request(self):
+        rng = self.rng
+        cookie = self.cookie if rng.random() < 0.5 else self.cookie_of()
+        return 'request kind=%s poll=%d id=%s mark=%s uid=%s cookie=%s asked=%d room=%d' % (
+            rng.choice(('v4', 'v4-upgrade', 'v5', 'nts-v4', 'nts-v4', 'nts-v4', 'nts-v5')), rng.randint(-128, 127), self.bytes(8).hex(), self.bytes(8).hex(), self.bytes(32).hex(),
+            hexed(cookie), rng.choice((0, 1, 3, 7, 8, 9, rng.randrange(256))), rng.choice((6144, 6144, 852, 47, 48, rng.randrange(1000))))
+
+    def poke(self):
+        rng = self.rng
+        key = rng.choice(('reach', 'tries', 'last', 'remote', 'stratum', 'refid', 'read', 'held', 'min', 'max', 'startup', 'window', 'id', 'uid', 'deadline', 'slotbyte'))
+        value = {
+            'reach': rng.randrange(256), 'tries': rng.choice((0, 1, 3, 254, 255)), 'last': rng.randint(-128, 127), 'remote': rng.choice((4, 127, -128, 6)),
+            'stratum': rng.randrange(256), 'refid': '%08x' % rng.getrandbits(32), 'read': rng.choice((0, 1, 7, 8, MAX64)), 'held': rng.choice((0, 1, 8, 9, MAX64)),
+            'min': rng.choice((4, -1, 0)), 'max': rng.choice((10, 17, 18)), 'startup': rng.choice((0, 3, 8, 9)), 'window': rng.choice((0, 1, 5 * 10**9, 60 * 10**9 + 1)),
+            'id': self.bytes(8).hex(), 'uid': self.bytes(32).hex(), 'deadline': rng.choice((0, self.now, MAX64)),
+            'slotbyte': '%d/%d/%d' % (rng.randrange(8), rng.randrange(724), rng.choice((0, 1, 255))),
+        }[key]
+        return 'poke key=%s value=%s' % (key, value)
+
+    # ---- a log
+
+    def steps(self, count):
+        """lines of so many steps, each with what it leaves shown behind it; the first is a `new`"""
+        rng, left = self.rng, 0
+        for _ in range(count):
+            if left == 0:
+                left = rng.choice((10, 30, 60))
+                line = self.new()
+            else:
+                line = rng.choice((self.timer,) * 5 + (self.reply,) * 9 + (self.reply5,) * (8 if self.record.version[0] in ('upgraded', 'v5') else 1)
+                                  + (self.accept,) * 2 + (self.collect, self.request))()
+                if rng.random() < 0.02:
+                    line = rng.choice((self.poke, self.poke, self.poke, lambda: 'blank'))()
+            left -= 1
+            self.record, said = self.model.answer(self.record, line)
+            if said.startswith('timer 20'):
+                self.cookie = self.model.octets(said.split('cookie=')[1].split(' ')[0])
+            if not self.record.whole() and rng.random() < 0.3:
+                left = 0  # no call makes such a record whole: begin anew soon
+            yield line
+            yield 'show'
+            if self.record.nts and rng.random() < 0.5:
+                yield 'cookies'

@@ -1,0 +1,74 @@
+/* How much stack each call takes: it is run on a stack of its own that was painted before, and the deepest byte that changed is looked for. The caller's own frame, which
+   makes the call and nothing else, is counted in. */
+#define _XOPEN_SOURCE 700
+#include "reckonstile.h"
+#include <stdio.h>
+#include <string.h>
+#include <ucontext.h>
+
+#define STACK 262144
+#define PAINT 0xA7
+#define MOST 65536
+
+static uint8_t painted[STACK] __attribute__((aligned(16)));
+static ucontext_t back, there;
+static struct reckonstile_association a;
+static uint8_t packet[228], decrypted[104], list[8 * 104], buffer[RECKONSTILE_COOKIE_BYTES], out[6144];
+static struct reckonstile_uid uid;
+static struct reckonstile_settings settings;
+static struct reckonstile_decoded decoded;
+static volatile uint32_t number;
+
+static void nothing(void) { number = 0; }
+static void new_(void) { number = reckonstile_new(&a, settings, list, sizeof list); }
+static void timer(void) { number = reckonstile_timer(&a, 1000, 6, 1, uid, buffer, sizeof buffer).number; }
+static void reply(void) { number = reckonstile_reply(&a, packet, sizeof packet, 84, decrypted, sizeof decrypted, list, 104, 1, 2, 2000).number; }
+static void reply_decoded(void) { number = reckonstile_reply_decoded(&a, decoded, list, 104, 1, 2, 2000).number; }
+static void accept_(void) { number = reckonstile_accept(&a, 17, (const uint32_t *)(const void *)out, 0, RECKONSTILE_BLOOM_NONE); }
+static void collect(void) { number = reckonstile_collect(decrypted, sizeof decrypted, out, sizeof out).number; }
+static void request(void) { number = reckonstile_write_request(RECKONSTILE_SEND_NTS_V4, 6, 1, 0, uid, list + 4, 100, 3, out, sizeof out).number; }
+
+static size_t deepest(void (*call)(void)) {
+    memset(painted, PAINT, sizeof painted);
+    getcontext(&there);
+    there.uc_stack.ss_sp = painted;
+    there.uc_stack.ss_size = sizeof painted;
+    there.uc_link = &back;
+    makecontext(&there, call, 0);
+    swapcontext(&back, &there);
+    size_t at = 0;
+    while (at < sizeof painted && painted[at] == PAINT) at++;
+    return sizeof painted - at;
+}
+
+int main(void) {
+    static const struct { const char *name; void (*call)(void); uint32_t number; } calls[] = {
+        { "new", new_, 0 }, { "timer", timer, 20 }, { "reply", reply, 0 }, { "timer", timer, 20 }, { "reply_decoded", reply_decoded, 2 }, { "accept", accept_, 0 },
+        { "collect", collect, 0 }, { "write_request", request, 0 },
+    };
+    int passed = 0, failed = 0;
+    settings.window = 5000;
+    settings.nts = 1;
+    settings.startup = 3;
+    settings.min = 4;
+    settings.max = 10;
+    for (size_t k = 0; k < 8; k++) memcpy(list + 104 * k, "\xC0\x0E\x00\x64", 4);
+    memcpy(packet, "\x24\x02\x06\xEC", 4);
+    packet[31] = 1;
+    memcpy(packet + 48, "\x01\x04\x00\x24", 4);
+    memcpy(packet + 84, "\x04\x04\x00\x90", 4);
+    memcpy(decrypted, "\x02\x04\x00\x68", 4);
+    size_t own = deepest(nothing);
+    printf("bytes of stack (%zu are the frame's own):", own);
+    for (size_t k = 0; k < sizeof calls / sizeof *calls; k++) {
+        size_t n = deepest(calls[k].call);
+        printf(" %s %zu,", calls[k].name, n);
+        if (n <= MOST && number == calls[k].number) passed++;
+        else {
+            failed++;
+            printf(" and answered %u,", (unsigned)number);
+        }
+    }
+    printf(" at most %d\n%d passed, %d failed\n", MOST, passed, failed);
+    return failed != 0;
+}
