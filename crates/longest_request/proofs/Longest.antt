@@ -3,7 +3,7 @@
 use mathlib.Core.Path.{_≡_, refl, sym, ap, _∙_}
 use mathlib.Core.Bool.{Bool, true, false, _&&_, not}
 use mathlib.Core.List.{List}
-use Prim.Native.Nat.{ℕ, _+_, _*_, _≤_, _<_, max}
+use Prim.Native.Nat.{ℕ, _+_, _*_, _≤_, _<_, min, max}
 use native.Mathlib.Nat.{le-div-iff-mul-le, mul-le-mul-right}
 use native.Mathlib.Omega.{arith}
 use borrow.Author.Count.{below-none, below-more}
@@ -84,7 +84,6 @@ module _ (a : Association) (i : TimerInput) (room : ℕ) (kind : SendKind) (poll
   never p q = let z : _≡_ {A = ℕ} 0 1 = cc in absurd (omega arith)
 
   by-rule : {n : ℕ} {o : TimerOut} → Given a i room n o → o .answer ≡ Sent kind poll len count → hasNts kind ≡ true → Modest len count
-  unfolding gapOf
   by-rule (not-whole w) e n = let z : _≡_ {A = ℕ} 0 1 = cc in absurd (omega arith)
   by-rule (short-buffer w s) e n = let z : _≡_ {A = ℕ} 0 1 = cc in absurd (omega arith)
   by-rule (demobilize c v d) e n = let z : _≡_ {A = ℕ} 0 1 = cc in absurd (omega arith)
@@ -97,7 +96,7 @@ module _ (a : Association) (i : TimerInput) (room : ℕ) (kind : SendKind) (poll
   by-rule (sent-nts c p) e n =
       let l : getOf 8 (a .stash) .slot .len ≡ len = cc in
       let q : askedWith (seenOf 8 (a .stash)) ≡ count = cc in
-      rw (← l, ← q) (modest-asked (gapOf 8 (getOf 8 (a .stash) .stash)) (getOf 8 (a .stash) .slot .len) (omega arith) (λ z. omega (arith, p, z)))
+      rw (← l, ← q) (modest-asked (min (gapOf 8 (getOf 8 (a .stash) .stash)) 8) (getOf 8 (a .stash) .slot .len) (omega arith) (λ z. omega (arith, p, z)))
 
   -- where the timer sends a request of these numbers
   module _ (sends : timerOf a i room .answer ≡ Sent kind poll len count) (upgrademark : ℕ) (cookie : List ℕ) (size : length (i .uid) ≡ 32) (long : length cookie ≡ len) where

@@ -1,6 +1,6 @@
 -- The parts of a call over a lent association do what the definitions say: the record, and each byte of the buffer.
 -- Assumes nothing.
-use Prim.Native.Nat.{ℕ, _<_}
+use Prim.Native.Nat.{ℕ, _<_, min}
 use mathlib.Core.Path.{_≡_, refl, sym, _∙_, ap}
 use mathlib.Core.Bool.{true, cond}
 use mathlib.Core.List.{List}
@@ -46,7 +46,7 @@ module _ (a : Association) (i : TimerInput) (ys : List ℕ) where
   too-large : seen .found ≡ true → askedWith seen ≡ 0 → handedOf (getOf 8 (a .stash) .slot) ys ≡ ys
   too-large f z =
       elim (decLe (seen .len) 724) [
-        | yes l ↦ absurd (not-both (askedWith seen) z (asked-some (seen .gap) (seen .len) (found-gap 8 (a .stash) f) l))
+        | yes l ↦ absurd (not-both (askedWith seen) z (asked-some (min (seen .gap) 8) (seen .len) (omega (arith, found-gap 8 (a .stash) f)) l))
         | no n ↦ handed-none (getOf 8 (a .stash) .slot) ys (none (seen .len) (omega arith))
       ]
 
@@ -60,7 +60,7 @@ module _ (a : Association) (i : TimerInput) (ys : List ℕ) where
       (λ n. either Same (seen .found)
       (λ f. either Same (eqb (askedWith seen) 0) (λ z. too-large f (eqb-true _ _ z))
       (λ z.
-      let short = asked-short (seen .gap) (seen .len) (eqb-false _ _ z) in
+      let short = asked-short (min (seen .gap) 8) (seen .len) (eqb-false _ _ z) in
       let roomy = ltb-false (length ys) 724 (sym (passes _ n) ∙ b) in
       handed-all (getOf 8 (a .stash) .slot) ys short (omega arith)))
       (λ _. refl))

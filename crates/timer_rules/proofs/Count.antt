@@ -1,25 +1,50 @@
--- How many cookies are asked for: none exactly where the cookie that is taken is longer than 724 bytes, since the take leaves room for one.
+-- How many cookies are asked for: what RULES says for every gap that a stash can have, what it comes to for a larger one; none exactly where the
+-- cookie that is taken is longer than 724 bytes, since the take leaves room for one.
 -- Assumes nothing.
-use mathlib.Core.Path.{_≡_}
+use mathlib.Core.Path.{_≡_, refl}
 use mathlib.Core.Logic.{_↔_}
-use Prim.Native.Nat.{ℕ, _/_, _≤_, _<_, max}
+use Prim.Native.Nat.{ℕ, _+_, _*_, _/_, _≤_, _<_, min, max}
 use native.Mathlib.Decide.{decLe}
-use native.Mathlib.Nat.{div-eq-of-lt, le-div-iff-mul-le}
+use native.Mathlib.Nat.{le-div-iff-mul-le}
 use native.Mathlib.Omega.{arith}
 use Rattle.cookiestash.specs.declared.CookieStash.{CookieStash}
+use Rattle.cookiestash.specs.declared.Seen.{Seen}
 use Rattle.cookiestash.specs.Stash.{getOf, gapOf}
 use Rattle.cookiestash.specs.Whole.{Whole, seenOf}
 use Rattle.cookiestash.proofs.Cookies.{gap-get}
 use Rattle.timer_rules.specs.Poll.{askedOf}
 use Rattle.timer_rules.specs.Decide.{askedWith}
 
+-- k of a length fit where k of them are at most 724 bytes, and no more fit where one more is over
+pub fits-some : (n k : ℕ) → 0 < n → k * n ≤ 724 → k ≤ 724 / n
+fits-some n k p l = le-div-iff-mul-le {k = n} {x = k} {y = 724} p .1 l
+
+pub fits-few : (n k : ℕ) → 0 < n → 724 < (k + 1) * n → 724 / n ≤ k
+fits-few n k p u =
+    let back : k + 1 ≤ 724 / n → (k + 1) * n ≤ 724 = le-div-iff-mul-le {k = n} {x = k + 1} {y = 724} p .0 in
+    elim (decLe (724 / n) k) [
+      | yes l ↦ l
+      | no m ↦ absurd (omega (arith, back (omega arith)))
+    ]
+
+-- the number asked for is the formula for every length and every gap from 0 to 8
+pub asked-formula : (v : Seen) → v .gap ≤ 8 → askedWith v ≡ askedOf (v .gap) (v .len)
+asked-formula v h = omega arith
+
+-- for a larger gap it is what it is for 8
+pub asked-larger : (v : Seen) → 8 ≤ v .gap → askedWith v ≡ askedOf 8 (v .len)
+asked-larger v h = omega arith
+
+-- so of every stash it is the formula, of the gap after the take and the length of the oldest
+pub asked-seen : (s : CookieStash) → askedWith (seenOf 8 s) ≡ askedOf (gapOf 8 (getOf 8 s .stash)) (getOf 8 s .slot .len)
+unfolding gapOf
+asked-seen s = asked-formula (seenOf 8 s) (omega arith)
+
 pub asked-none : (gap len : ℕ) → 724 < len → askedOf gap len ≡ 0
-asked-none gap len h = let z : 724 / max len 1 ≡ 0 = div-eq-of-lt (omega arith) in omega arith
+asked-none gap len h = omega (arith, fits-few (max len 1) 0 (omega arith) (omega arith))
 
 pub asked-some : (gap len : ℕ) → 0 < gap → len ≤ 724 → 0 < askedOf gap len
-asked-some gap len g h =
-    let z : 1 ≤ 724 / max len 1 = le-div-iff-mul-le {k = max len 1} {x = 1} {y = 724} (omega arith) .1 (omega arith) in
-    omega arith
+asked-some gap len g h = omega (arith, fits-some (max len 1) 1 (omega arith) (omega arith))
 
 pub asked-short : (gap len : ℕ) → (askedOf gap len ≡ 0 → ⊥) → len ≤ 724
 asked-short gap len h =
@@ -36,10 +61,10 @@ asked-zero s w h =
     let g : 0 < gap = omega (arith, gap-get 8 s w h) in (
       (λ z.
           elim (decLe len 724) [
-            | yes l ↦ absurd (not-both _ z (asked-some gap len g l))
+            | yes l ↦ absurd (not-both _ z (asked-some (min gap 8) len (omega arith) l))
             | no n ↦ omega arith
           ]),
-      asked-none gap len,
+      asked-none (min gap 8) len,
     )
   where
     not-both : (n : ℕ) → n ≡ 0 → 0 < n → ⊥

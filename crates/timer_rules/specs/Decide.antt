@@ -1,7 +1,7 @@
 -- RULES, part 10: what the timer decides, of the settings, of the state and of what is seen of the stash. In order 32, 31, the rest.
 -- Assumes nothing.
 use mathlib.Core.Bool.{Bool, true, false, cond}
-use Prim.Native.Nat.{ℕ}
+use Prim.Native.Nat.{ℕ, min}
 use lib.Dec.{eqb}
 use Rattle.cookiestash.specs.declared.Seen.{Seen}
 use Rattle.version.specs.Send.{kindOf}
@@ -23,9 +23,9 @@ abbrev pub sendOf : Settings → State → TimerInput → ℕ → ℕ → Bool �
 sendOf g s i len asked takes =
     record { answer = Sent (kindOf (s .version .kind) (g .nts)) (pollOf (i .desired) (s .polls .remote)) len asked; state = sentOf g s i; takes = takes }
 
--- how many new cookies are asked for with the oldest; gap counted after the take
+-- how many new cookies are asked for with the oldest; gap counted after the take; no stash has a gap over 8, and one would count as 8 (No. 4)
 abbrev pub askedWith : Seen → ℕ
-askedWith v = askedOf (v .gap) (v .len)
+askedWith v = askedOf (min (v .gap) 8) (v .len)
 
 -- with NTS: take a cookie or 23; zero asked for is 24, cookie gone
 unfoldable pub decideNts : Settings → State → Seen → TimerInput → Decision
