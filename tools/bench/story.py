@@ -165,7 +165,7 @@ def measured(step):
 
 def made(step):
     g = step.given
-    return ('polls every %s to %s, gives up after %s unanswered tries, waits %s for a reply; version %s, %s NTS, source %s'
+    return ('polls every %s to %s, gives up from %s tries on where none of the last eight polls was answered, waits %s for a reply; version %s, %s NTS, source %s'
             % (every(g['min']), every(g['max']), g['startup'], human.span(int(g['window'])), g['start'], 'with' if g['nts'] == 'yes' else 'no', human.address(g['source'])))
 
 
