@@ -18,7 +18,7 @@ use Rattle.cookielist.proofs.Reader.{Placed, placed, ended, read-cookie
 
 -- ---- what is written is read
 
-entry-end : (l : List ℕ) (at : ℕ) → at ≡ length l → entryAt l at ≡ End
+pub entry-end : (l : List ℕ) (at : ℕ) → at ≡ length l → entryAt l at ≡ End
 unfolding entryAt
 entry-end l at e = simp (le-ltb (length l) at (omega arith), eq-eqb (length l - at) 0 (omega arith))
 
@@ -78,13 +78,13 @@ module _ (l : List ℕ) (bytes : Bytes l) (at start end : ℕ) (w : Placed l at 
   long-again : length (part l start (end - start)) ≡ lengthAt l at
   long-again = length-part l start (end - start) (omega (arith, w .ends, w .within)) ∙ omega (arith, w .ends)
 
-  short-again : length (part l start (end - start)) ≤ 65535
+  pub short-again : length (part l start (end - start)) ≤ 65535
   unfolding lengthAt
   short-again =
       let two : length (part l (at + 2) 2) ≡ 2 = length-part l (at + 2) 2 (omega (arith, w .starts, w .ends, w .within)) in
       omega (arith, long-again, rw two at (be-below (part l (at + 2) 2) (bytes-part l (at + 2) 2 bytes)))
 
-  record-again : recordOf (part l start (end - start)) ++ drop end l ≡ drop at l
+  pub record-again : recordOf (part l start (end - start)) ++ drop end l ≡ drop at l
   unfolding recordOf
   record-again =
       let body = part l start (end - start) in

@@ -8,6 +8,7 @@ use drill_calls::polls;
 use drill_calls::record;
 use drill_calls::replies;
 use drill_calls::requests;
+use drill_calls::salvages;
 use drill_text::print;
 use drill_text::text;
 use drill_text::text::Found;
@@ -46,7 +47,9 @@ mod command {
 
     pub const REQUEST: usize = 10;
 
-    pub const UNKNOWN: usize = 11;
+    pub const SALVAGE: usize = 11;
+
+    pub const UNKNOWN: usize = 12;
 }
 
 // A log as far as it is read: the association, the number of the line, how many bytes of it are there, whether it is too long,
@@ -75,7 +78,7 @@ fn start() -> Log {
 // Which command a line's word is.
 fn command_of(word: &[u8]) -> usize {
     match text::index_of(
-        b"new timer reply reply5 accept collect show cookies blank poke request",
+        b"new timer reply reply5 accept collect show cookies blank poke request salvage",
         word,
     ) {
         Found::At(i) => i,
@@ -97,6 +100,7 @@ fn answer(a: Association, line: &[u8], number: u64, out: &mut [u8]) -> Ran {
         command::BLANK => record::blank(a, line, number, out),
         command::POKE => record::poke(a, line, number, out),
         command::REQUEST => requests::request(a, line, number, out),
+        command::SALVAGE => salvages::salvage(a, line, number, out),
         _ => {
             let end = print::error(out, number, b"unknown command", b"");
             Ran {

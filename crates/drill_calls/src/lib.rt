@@ -6,6 +6,7 @@ pub mod polls;
 pub mod record;
 pub mod replies;
 pub mod requests;
+pub mod salvages;
 
 use association::Association;
 

@@ -1,0 +1,166 @@
+-- `salvage::salvage` meets its contract. The invariant: what is reported and written so far, and that the rest is what the walk from here on reports.
+-- Assumes nothing.
+use borrow.Author.Needs.{needs}
+use borrow.Author.Tests.{le-ltb, lt-ltb, not-true, not-false}
+use native.Mathlib.Omega.{arith}
+use mathlib.Core.Path.{_≡_, refl, sym, _∙_, ap}
+use mathlib.Core.Logic.{⊎-elim}
+use mathlib.Core.List.{List}
+use Prim.Native.Nat.{ℕ, _-_, _≤_, _<_}
+use lib.ListN.{length, take, drop}
+use denote.Ref.{now}
+use Rattle.words.specs.Bytes.{part}
+use Rattle.salvage.specs.declared.Found.the-variants.{Record, Nothing}
+use Rattle.salvage.specs.Walk.{recordAt}
+use Rattle.salvage.specs.Salvage.{cleanOf, salvageOf, bufferOf}
+use Rattle.salvage.proofs.Walks.{Kept, is-kept}
+use Rattle.salvage.proofs.Along.{Along, start, record-long, fits, keep, skip, begin-told, begin-untold, reported, whole-buffer}
+use Rattle.salvage.proofs.salvage.Statement.{statement}
+use Rattle.salvage.proofs.salvage.Tie as tie
+
+abbrev Inv-loop : tie.InvT-loop
+Inv-loop list out₀ places₀ at₀ to₀ kept₀ skipped₀ gaps₀ in-gap₀ out places at to kept skipped gaps in-gap = Along list out₀ out places at to kept skipped gaps in-gap
+
+abbrev μ-loop : tie.MeasureT-loop
+μ-loop list out₀ places₀ at₀ to₀ kept₀ skipped₀ gaps₀ in-gap₀ out places at to kept skipped gaps in-gap = length list - at
+
+-- the record that the pattern bound
+here : (k : tie.After-end Inv-loop μ-loop) →
+    recordAt (now (k .before .before .before .before .before .before .before .before .args .list)) (k .before .before .before .before .loop .at) ≡ Record (k .end .given .0 .0)
+here k = sym (k .before .before .record-at .ensures) ∙ k .end .given .1
+
+found : (k : tie.After-end Inv-loop μ-loop) →
+    Kept (now (k .before .before .before .before .before .before .before .before .args .list)) (k .before .before .before .before .loop .at) (k .end .given .0 .0)
+found k = is-kept _ _ _ (here k)
+
+inside : (k : tie.After-end Inv-loop μ-loop) →
+    k .before .before .before .before .loop .at < length (now (k .before .before .before .before .before .before .before .before .args .list))
+inside k = omega arith
+
+refused-requires : tie.Need-refused-requires Inv-loop μ-loop
+refused-requires c κs = search needs
+
+returns : tie.Need-returns Inv-loop μ-loop
+unfolding salvageOf bufferOf
+returns c =
+    let a = c .before .before .before .before .args in
+    let t = lt-ltb (length (now (a .out))) (length (now (a .list))) (omega arith) in
+    (c .refused .ensures ∙ rw t, rw t)
+
+loop-holds : tie.Need-loop-holds Inv-loop μ-loop
+loop-holds c = let a = c .before .before .before .args in start (now (a .list)) (now (a .out))
+
+record-at-requires : tie.Need-record-at-requires Inv-loop μ-loop
+record-at-requires c κs = search needs
+
+enum-known-end : tie.Need-enum-known-end Inv-loop μ-loop
+enum-known-end c = search needs
+
+sub-put-bytes : tie.Need-sub-put-bytes Inv-loop μ-loop
+sub-put-bytes c = let k = found (c .before .before) in omega (arith, k .headed)
+
+part-put-bytes-start : tie.Need-part-put-bytes-start Inv-loop μ-loop
+part-put-bytes-start c = let k = found (c .before .before) in omega (arith, k .headed)
+
+part-put-bytes-end : tie.Need-part-put-bytes-end Inv-loop μ-loop
+part-put-bytes-end c = let k = found (c .before .before) in omega (arith, k .headed, k .within)
+
+put-bytes-requires : tie.Need-put-bytes-requires Inv-loop μ-loop
+unfolding part
+put-bytes-requires c κs =
+    let k = c .before .before .before in
+    let i = k .before .before .before .before .loop .inv in
+    let h = inside k in
+    omega (arith, fits _ _ _ _ _ _ _ _ _ _ i _ h (here k) (omega arith), record-long _ _ _ _ _ _ _ _ _ _ i _ h (here k))
+
+add-kept : tie.Need-add-kept Inv-loop μ-loop
+add-kept c = omega (arith, c .before .before .before .before .before .before .before .before .before .before .loop .inv .keptFew)
+
+loop-less : tie.Need-loop-less Inv-loop μ-loop
+loop-less c = let k = found (c .before .before .before .before .before .before) in omega (arith, k .headed, k .within)
+
+loop-again : tie.Need-loop-again Inv-loop μ-loop
+unfolding part
+loop-again c =
+    let k = c .before .before .before .before .before .before in
+    let i = k .before .before .before .before .loop .inv in
+    let h = inside k in
+    let r = c .before .before .put-bytes in
+    let n = record-long _ _ _ _ _ _ _ _ _ _ i _ h (here k) in
+    keep _ _ _ _ _ _ _ _ _ _ i _ h (here k) (r .last .0) (r .result) (rw n at (r .ensures .0)) (rw n at (r .ensures .1)) (r .kept .0)
+
+enum-told : tie.Need-enum-told Inv-loop μ-loop
+enum-told c = search needs
+
+mul-places : tie.Need-mul-places Inv-loop μ-loop
+mul-places c = search needs
+
+array-write-places : tie.Need-array-write-places Inv-loop μ-loop
+array-write-places c = search needs
+
+add-gaps : tie.Need-add-gaps Inv-loop μ-loop
+add-gaps c = omega (arith, c .before .before .before .before .before .before .loop .inv .gapsFew)
+
+add-skipped : tie.Need-add-skipped Inv-loop μ-loop
+add-skipped c = omega (arith, c .before .before .before .before .before .loop .inv .skippedFew)
+
+add-at : tie.Need-add-at Inv-loop μ-loop
+add-at c = search needs
+
+loop-less-2 : tie.Need-loop-less-2 Inv-loop μ-loop
+loop-less-2 c = omega arith
+
+loop-again-2 : tie.Need-loop-again-2 Inv-loop μ-loop
+loop-again-2 c =
+    let i = c .before .before .before .before .before .loop .inv in
+    let e = sym (c .before .before .before .record-at .ensures) ∙ c .before .enum-told .given .1 in
+    let h : c .before .before .before .before .before .loop .at < length (now (c .before .before .before .before .before .before .before .before .before .args .list)) = omega arith in
+    ⊎-elim
+    (λ w.
+    ⊎-elim
+    (λ v. rw (w .2, w .3, v .1) (begin-told _ _ _ _ _ _ _ _ _ _ i h e (not-true _ (w .0 .taken)) (v .0 .taken)))
+    (λ v. rw (w .2, w .3, v .1) (begin-untold _ _ _ _ _ _ _ _ _ _ i h e (not-true _ (w .0 .taken)) (v .0 .left)))
+    (w .1 .came))
+    (λ w. rw (w .1, w .2) (skip _ _ _ _ _ _ _ _ _ _ i h e (not-false _ (w .0 .left))))
+    (c .if2 .came)
+
+same-length : tie.Need-same-length Inv-loop μ-loop
+same-length c = c .before .loop .inv .long
+
+returns-2 : tie.Need-returns-2 Inv-loop μ-loop
+unfolding salvageOf bufferOf
+returns-2 c =
+    let a = c .before .before .before .before .before .args in
+    let i = c .before .loop .inv in
+    let h : length (now (a .list)) ≤ c .before .loop .at = omega arith in
+    let t = le-ltb (length (now (a .out))) (length (now (a .list))) (omega arith) in
+    (rw t (reported _ _ _ _ _ _ _ _ _ _ i h), rw t (whole-buffer _ _ _ _ _ _ _ _ _ _ i h))
+
+pub salvage-spec : {M : Type 1} → statement M
+salvage-spec =
+    tie.close
+    (tie.spec
+    Inv-loop
+    μ-loop
+    refused-requires
+    returns
+    loop-holds
+    record-at-requires
+    enum-known-end
+    sub-put-bytes
+    part-put-bytes-start
+    part-put-bytes-end
+    put-bytes-requires
+    add-kept
+    loop-less
+    loop-again
+    enum-told
+    mul-places
+    array-write-places
+    add-gaps
+    add-skipped
+    add-at
+    loop-less-2
+    loop-again-2
+    same-length
+    returns-2)

@@ -1,0 +1,74 @@
+-- What salvaging reports and writes (RULES, No. 9), all of it from the walk.
+-- Assumes nothing.
+use Prim.Native.Nat.{ℕ, suc, _+_, _-_}
+use mathlib.Core.List.{List, [], _∷_, _++_}
+use mathlib.Core.Bool.{Bool, true, false, cond}
+use lib.ListN.{length, take, drop, replicate}
+use lib.Dec.{ltb}
+use Rattle.words.specs.Bytes.{part}
+use Rattle.salvage.specs.Walk.{Step, kept, skipped, walkOf}
+use Rattle.salvage.specs.declared.Salvaged.{Salvaged}
+
+-- kept records
+abbrev pub keptIn : List Step → ℕ
+keptIn [] = 0
+keptIn (kept start end ∷ w) = suc (keptIn w)
+keptIn (skipped at ∷ w) = keptIn w
+
+-- lengths kept: of each cookie, and of its head of four bytes
+abbrev pub lengthsIn : List Step → ℕ
+lengthsIn [] = 0
+lengthsIn (kept start end ∷ w) = 4 + (end - (start + 4)) + lengthsIn w
+lengthsIn (skipped at ∷ w) = lengthsIn w
+
+-- skipped bytes
+abbrev pub skippedIn : List Step → ℕ
+skippedIn [] = 0
+skippedIn (kept start end ∷ w) = skippedIn w
+skippedIn (skipped at ∷ w) = suc (skippedIn w)
+
+-- the place of each gap, which is where a run of skipped bytes starts; true: the byte before was skipped
+abbrev pub gapsFrom : Bool → List Step → List ℕ
+gapsFrom inGap [] = []
+gapsFrom inGap (kept start end ∷ w) = gapsFrom false w
+gapsFrom inGap (skipped at ∷ w) = cond inGap (gapsFrom true w) (at ∷ gapsFrom true w)
+
+abbrev pub gapsIn : List Step → List ℕ
+gapsIn w = gapsFrom false w
+
+-- the places that are told: those of the first 32 gaps, and zeros
+unfoldable pub placesOf : List ℕ → List ℕ
+placesOf gaps = take 32 gaps ++ drop (length gaps) (replicate 32 0)
+
+-- the records kept, in order, byte for byte
+abbrev pub recordsIn : List ℕ → List Step → List ℕ
+recordsIn l [] = []
+recordsIn l (kept start end ∷ w) = part l start (end - start) ++ recordsIn l w
+recordsIn l (skipped at ∷ w) = recordsIn l w
+
+-- their cookies, each behind its head
+abbrev pub cookiesKept : List ℕ → List Step → List (List ℕ)
+cookiesKept l [] = []
+cookiesKept l (kept start end ∷ w) = part l (start + 4) (end - (start + 4)) ∷ cookiesKept l w
+cookiesKept l (skipped at ∷ w) = cookiesKept l w
+
+-- the clean list of a damaged one
+unfoldable pub cleanOf : List ℕ → List ℕ
+cleanOf l = recordsIn l (walkOf l)
+
+-- a refusal: its number, and all else zero
+abbrev pub refusedOf : Salvaged
+refusedOf = record { number = 70; kept = 0; skipped = 0; gaps = 0; places = replicate 32 0; len = 0 }
+
+-- what a walk is reported as
+abbrev pub reportOf : List ℕ → List Step → Salvaged
+reportOf l w =
+    record { number = 0; kept = keptIn w; skipped = skippedIn w; gaps = length (gapsIn w); places = placesOf (gapsIn w); len = length (recordsIn l w) }
+
+-- 70: the buffer is shorter than the input
+unfoldable pub salvageOf : List ℕ → ℕ → Salvaged
+salvageOf l room = cond (ltb room (length l)) refusedOf (reportOf l (walkOf l))
+
+-- nothing is written then; else the clean list from the start on, and the bytes past it untouched
+unfoldable pub bufferOf : List ℕ → List ℕ → List ℕ
+bufferOf l out = cond (ltb (length out) (length l)) out (cleanOf l ++ drop (length (cleanOf l)) out)
