@@ -36,6 +36,8 @@ A log has a command to a line; empty lines and lines that begin with # are skipp
   collect plain= room=[4096]
   request kind= poll= id= mark=[0000000000000000] uid=[-] cookie=[-] asked=[0] room=[6144]
   salvage list= room=[4096]
+  calendar cap= entries=
+  plan cap= repeats=
   show, cookies, blank, poke key= value=
 
 Times may be written as 03:00:00, 5s or 250ms, wall clocks as 2026-11-15T03:00:00.04Z, addresses as 192.0.2.1.

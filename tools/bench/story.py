@@ -13,7 +13,8 @@ KIND_ERROR = 'caller'
 # How an answer's first word is told: where the number is good, and where it is not.
 TOLD = {'new': ('association made', 'association refused'), 'timer': ('poll sent', 'no poll'), 'reply': ('reply measured', 'reply refused'),
         'reply5': ('reply measured', 'reply refused'), 'accept': ('source accepted', 'source not accepted'), 'collect': ('cookies collected', 'cookies not collected'),
-        'request': ('request written', 'request refused'), 'salvage': ('list salvaged', 'salvage refused')}
+        'request': ('request written', 'request refused'), 'salvage': ('list salvaged', 'salvage refused'),
+        'calendar': ('calendar accepted', 'calendar refused'), 'plan': ('starts planned', 'no plan')}
 REPLIES = ('reply', 'reply5')
 
 

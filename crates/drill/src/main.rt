@@ -3,6 +3,7 @@
 // Rule: the language is docs/DRILL.md's, the numbers are those of RULES.
 use association::Association;
 use drill_calls::Ran;
+use drill_calls::calendars;
 use drill_calls::calls;
 use drill_calls::polls;
 use drill_calls::record;
@@ -49,7 +50,11 @@ mod command {
 
     pub const SALVAGE: usize = 11;
 
-    pub const UNKNOWN: usize = 12;
+    pub const CALENDAR: usize = 12;
+
+    pub const PLAN: usize = 13;
+
+    pub const UNKNOWN: usize = 14;
 }
 
 // A log as far as it is read: the association, the number of the line, how many bytes of it are there, whether it is too long,
@@ -78,7 +83,7 @@ fn start() -> Log {
 // Which command a line's word is.
 fn command_of(word: &[u8]) -> usize {
     match text::index_of(
-        b"new timer reply reply5 accept collect show cookies blank poke request salvage",
+        b"new timer reply reply5 accept collect show cookies blank poke request salvage calendar plan",
         word,
     ) {
         Found::At(i) => i,
@@ -101,6 +106,8 @@ fn answer(a: Association, line: &[u8], number: u64, out: &mut [u8]) -> Ran {
         command::POKE => record::poke(a, line, number, out),
         command::REQUEST => requests::request(a, line, number, out),
         command::SALVAGE => salvages::salvage(a, line, number, out),
+        command::CALENDAR => calendars::calendar(a, line, number, out),
+        command::PLAN => calendars::plan(a, line, number, out),
         _ => {
             let end = print::error(out, number, b"unknown command", b"");
             Ran {

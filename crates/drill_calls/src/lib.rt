@@ -1,6 +1,7 @@
 // The commands of the drill. Each reads its keys from the line, makes its call and writes the answer; a line that is refused leaves the association as it was.
 // Promises: every function ends and stays in its bounds; the answers are those of the proved calls. What is printed is tested, not proved (docs/EXCEPTIONS.md).
 // Rule: the commands are docs/DRILL.md's.
+pub mod calendars;
 pub mod calls;
 pub mod polls;
 pub mod record;

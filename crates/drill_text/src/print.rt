@@ -74,6 +74,30 @@ pub fn bytes(out: &mut [u8], from: usize, s: &[u8]) -> usize {
     at
 }
 
+// The comma before a number of a list: the first has none.
+fn comma(out: &mut [u8], at: usize, i: usize) -> usize {
+    if 0 < i { byte(out, at, b',') } else { at }
+}
+
+fn wide(n: u16) -> u64 {
+    n as u64
+}
+
+// Numbers joined by commas, or '-' for none.
+pub fn joined(out: &mut [u8], from: usize, s: &[u16]) -> usize {
+    if s.len() == 0 {
+        return byte(out, from, b'-');
+    }
+    let mut at = from;
+    let mut i = 0;
+    while i < s.len() {
+        at = comma(out, at, i);
+        at = decimal(out, at, wide(s[i]));
+        i += 1;
+    }
+    at
+}
+
 // A key, with the '=' and the space before it, and its number.
 pub fn number(out: &mut [u8], at: usize, key: &[u8], n: u64) -> usize {
     let next = text(out, at, key);

@@ -10,6 +10,7 @@
 //   v a version: its place among the names, and for upgrading the tries
 //   y no or yes, g absent, agree or disagree, m none, absent or present, e a kind of request: the place among the names
 //   p a byte of a cookie slot, SLOT/AT/BYTE: three decimal numbers, each with its bits
+//   j entries of a calendar, START/REPEAT each, joined by commas; z repeats joined by commas; or '-': how many there are
 //   t any text
 // Leading zeros are allowed, a sign '+' is not, and no value is empty.
 use crate::names::kiss;
@@ -35,6 +36,9 @@ pub const COLLECT_ROOM: usize = 4096;
 // The most that the request writer is lent.
 pub const REQUEST_ROOM: usize = 6144;
 
+// The most entries of a calendar: twice those that it may have, so that more can be asked of it.
+pub const MAX_ENTRIES: usize = 128;
+
 // The bytes of a request's unique identifier.
 pub const UID_BYTES: usize = 32;
 
@@ -54,6 +58,9 @@ pub const SLOT_SHIFT: u64 = 32;
 
 pub const PLACE_SHIFT: u64 = 8;
 
+// Where the start of a calendar's entry stands in its number; the repeat is below it.
+const START_SHIFT: u64 = 16;
+
 // The hexadecimal digits of a byte.
 const BYTE_DIGITS: usize = 2;
 
@@ -72,6 +79,8 @@ const DECIMAL: u64 = 10;
 const MAX_TENTH: u64 = u64::MAX / DECIMAL;
 
 const MAX_U8: u64 = u8::MAX as u64;
+
+const MAX_U16: u64 = u16::MAX as u64;
 
 // How far down signed numbers of 8 bits reach.
 const HALF_I8: u64 = 1 << 7;
@@ -304,6 +313,83 @@ fn identifier_count(s: &[u8]) -> Number {
     identifiers(s, &mut out)
 }
 
+fn store16(out: &mut [u16], i: usize, n: u64) {
+    if i < out.len() {
+        out[i] = low16(n);
+    }
+}
+
+// An entry of a calendar: a start and a repeat with a stroke between them, the start above the repeat's bits.
+fn entry(s: &[u8]) -> Number {
+    let stroke = text::find(s, 0, b'/', b'/');
+    if s.len() <= stroke {
+        return Number::Bad;
+    }
+    let Number::Is(start) = decimal(text::part(s, 0, stroke), 0, MAX_U16) else {
+        return Number::Bad;
+    };
+    let Number::Is(repeat) = decimal(text::part(s, stroke + 1, s.len()), 0, MAX_U16) else {
+        return Number::Bad;
+    };
+    Number::Is((start << START_SHIFT) | repeat)
+}
+
+// Entries joined by commas: how many there are. As many as there is room for go into the buffers.
+pub fn entries(s: &[u8], starts: &mut [u16], repeats: &mut [u16]) -> Number {
+    if is_dash(s) {
+        return Number::Is(0);
+    }
+    let mut n: usize = 0;
+    let mut at = 0;
+    while n < MAX_ENTRIES {
+        let end = text::find(s, at, b',', b',');
+        let Number::Is(both) = entry(text::part(s, at, end)) else {
+            return Number::Bad;
+        };
+        store16(starts, n, both >> START_SHIFT);
+        store16(repeats, n, both);
+        n += 1;
+        if s.len() <= end {
+            return Number::Is(n as u64);
+        }
+        at = end + 1;
+    }
+    Number::Bad
+}
+
+fn entry_count(s: &[u8]) -> Number {
+    let mut starts = [0u16; 1];
+    let mut repeats = [0u16; 1];
+    entries(s, &mut starts, &mut repeats)
+}
+
+// Repeats joined by commas: how many there are. As many as there is room for go into the buffer.
+pub fn repeats(s: &[u8], out: &mut [u16]) -> Number {
+    if is_dash(s) {
+        return Number::Is(0);
+    }
+    let mut n: usize = 0;
+    let mut at = 0;
+    while n < MAX_ENTRIES {
+        let end = text::find(s, at, b',', b',');
+        let Number::Is(repeat) = decimal(text::part(s, at, end), 0, MAX_U16) else {
+            return Number::Bad;
+        };
+        store16(out, n, repeat);
+        n += 1;
+        if s.len() <= end {
+            return Number::Is(n as u64);
+        }
+        at = end + 1;
+    }
+    Number::Bad
+}
+
+fn repeat_count(s: &[u8]) -> Number {
+    let mut out = [0u16; 1];
+    repeats(s, &mut out)
+}
+
 // A version: upgrading has its tries behind a colon, and the others have none.
 fn version(s: &[u8]) -> Number {
     let colon = text::find(s, 0, b':', b':');
@@ -368,6 +454,8 @@ pub fn parse(kind: u8, s: &[u8]) -> Number {
         b'k' => kisses(s),
         b'v' => version(s),
         b'p' => slot_byte(s),
+        b'j' => entry_count(s),
+        b'z' => repeat_count(s),
         b'y' => place(s, b"no yes"),
         b'g' => place(s, b"absent agree disagree"),
         b'm' => place(s, b"none absent present"),
@@ -379,6 +467,10 @@ pub fn parse(kind: u8, s: &[u8]) -> Number {
 // The low bits of a number.
 pub fn low8(n: u64) -> u8 {
     (n % 0x100) as u8
+}
+
+fn low16(n: u64) -> u16 {
+    (n % 0x1_0000) as u16
 }
 
 pub fn low32(n: u64) -> u32 {
