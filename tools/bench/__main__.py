@@ -38,6 +38,7 @@ A log has a command to a line; empty lines and lines that begin with # are skipp
   salvage list= room=[4096]
   calendar cap= entries=
   plan cap= repeats=
+  metered, profile: the keys of new
   show, cookies, blank, poke key= value=
 
 Times may be written as 03:00:00, 5s or 250ms, wall clocks as 2026-11-15T03:00:00.04Z, addresses as 192.0.2.1.

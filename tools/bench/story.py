@@ -14,7 +14,8 @@ KIND_ERROR = 'caller'
 TOLD = {'new': ('association made', 'association refused'), 'timer': ('poll sent', 'no poll'), 'reply': ('reply measured', 'reply refused'),
         'reply5': ('reply measured', 'reply refused'), 'accept': ('source accepted', 'source not accepted'), 'collect': ('cookies collected', 'cookies not collected'),
         'request': ('request written', 'request refused'), 'salvage': ('list salvaged', 'salvage refused'),
-        'calendar': ('calendar accepted', 'calendar refused'), 'plan': ('starts planned', 'no plan')}
+        'calendar': ('calendar accepted', 'calendar refused'), 'plan': ('starts planned', 'no plan'),
+        'metered': ('metered association made', 'metered association refused'), 'profile': ('the metered profile is met', 'the metered profile is not met')}
 REPLIES = ('reply', 'reply5')
 
 
@@ -141,9 +142,24 @@ def why_undecodable(step):
     return 'its extension fields, or its authenticated end (auth=%s), cannot be' % step.given.get('auth', '48')
 
 
+def cookie_lengths(step):
+    """the lengths of a whole cookie list's cookies"""
+    octets, out = bytes.fromhex(step.given['list']), []
+    while octets:
+        out.append(int.from_bytes(octets[2:4], 'big'))
+        octets = octets[4 + out[-1]:]
+    return out
+
+
+# The rules of the metered profile.
+PROFILE = {34: lambda s: 'the lower poll limit is %s, and has to be 8 (256 s) or more' % s.given['min'],
+           35: lambda s: 'the startup limit is %s, and has to be 3 or less' % s.given['startup'],
+           36: lambda s: 'the start version is %s, and the profile has no upgrading' % s.given['start'],
+           37: lambda s: 'a cookie of the first list has %d bytes, and may have 100' % next(n for n in cookie_lengths(s) if n > 100)}
 WHY = {('reply', 1): why_undecodable,
        ('reply', 2): why_version, ('reply', 3): why_not_awaited, ('reply', 4): why_foreign, ('reply', 14): why_not_awaited,
        ('reply', 10): lambda s: 'its stratum is %d' % octets(s)[1] if s.head == 'reply' else 'its stratum is %s' % s.given['stratum'],
+       **{(call, number): why for call in ('metered', 'profile') for number, why in PROFILE.items()},
        ('accept', 40): lambda s: 'its stratum is %s, ours is %s' % (s.before['stratum'], s.given['stratum'])
        + ('; nothing was measured yet' if s.before['stratum'] == '16' else '')}
 
@@ -175,7 +191,7 @@ def sent(step):
     return '%s, the next in %s%s' % (step.gave['send'], every(step.gave['poll']), '' if until == '-' else ', a reply is awaited until ' + human.clock(int(until.split('/')[2])))
 
 
-GOOD = {'new': made, 'timer': sent, 'reply': measured, 'reply5': measured}
+GOOD = {'new': made, 'metered': made, 'timer': sent, 'reply': measured, 'reply5': measured}
 
 
 def rest(step):

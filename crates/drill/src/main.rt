@@ -6,6 +6,7 @@ use drill_calls::Ran;
 use drill_calls::calendars;
 use drill_calls::calls;
 use drill_calls::polls;
+use drill_calls::profiles;
 use drill_calls::record;
 use drill_calls::replies;
 use drill_calls::requests;
@@ -54,7 +55,11 @@ mod command {
 
     pub const PLAN: usize = 13;
 
-    pub const UNKNOWN: usize = 14;
+    pub const METERED: usize = 14;
+
+    pub const PROFILE: usize = 15;
+
+    pub const UNKNOWN: usize = 16;
 }
 
 // A log as far as it is read: the association, the number of the line, how many bytes of it are there, whether it is too long,
@@ -83,7 +88,7 @@ fn start() -> Log {
 // Which command a line's word is.
 fn command_of(word: &[u8]) -> usize {
     match text::index_of(
-        b"new timer reply reply5 accept collect show cookies blank poke request salvage calendar plan",
+        b"new timer reply reply5 accept collect show cookies blank poke request salvage calendar plan metered profile",
         word,
     ) {
         Found::At(i) => i,
@@ -108,6 +113,8 @@ fn answer(a: Association, line: &[u8], number: u64, out: &mut [u8]) -> Ran {
         command::SALVAGE => salvages::salvage(a, line, number, out),
         command::CALENDAR => calendars::calendar(a, line, number, out),
         command::PLAN => calendars::plan(a, line, number, out),
+        command::METERED => profiles::metered(a, line, number, out),
+        command::PROFILE => profiles::profile(a, line, number, out),
         _ => {
             let end = print::error(out, number, b"unknown command", b"");
             Ran {

@@ -20,8 +20,8 @@ use version::Version;
 // More identifiers than a line has room for.
 const MAX_IDENTIFIERS: usize = 4096;
 
-// The keys of each call, by their places in its table.
-mod new_key {
+// The keys of each call, by their places in its table; those of new are metered's and profile's too.
+pub mod new_key {
     pub const MIN: usize = 0;
 
     pub const MAX: usize = 1;
@@ -73,7 +73,7 @@ fn version_of(n: u64) -> Version {
     }
 }
 
-fn settings_of(v: Values) -> Settings {
+pub fn settings_of(v: Values) -> Settings {
     Settings {
         min: PollInterval(v.signed8(new_key::MIN)),
         max: PollInterval(v.signed8(new_key::MAX)),
@@ -86,13 +86,18 @@ fn settings_of(v: Values) -> Settings {
     }
 }
 
-pub fn new(a: Association, line: &[u8], number: u64, out: &mut [u8]) -> Ran {
-    let v = keys::read(
+// What a line says of an association to be made: its settings and its first cookie list.
+pub fn new_values(line: &[u8], number: u64, out: &mut [u8]) -> Values {
+    keys::read(
         line,
         number,
         b"min:b max:b startup:u window:n mark:x start:v nts:y source:f list:h=-",
         out,
-    );
+    )
+}
+
+pub fn new(a: Association, line: &[u8], number: u64, out: &mut [u8]) -> Ran {
+    let v = new_values(line, number, out);
     if v.refused {
         return Ran {
             association: a,

@@ -4,6 +4,7 @@
 pub mod calendars;
 pub mod calls;
 pub mod polls;
+pub mod profiles;
 pub mod record;
 pub mod replies;
 pub mod requests;

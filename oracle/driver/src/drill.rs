@@ -162,6 +162,8 @@ pub struct Log {
     steps: u64,
     /// The record is shown after one step in so many, and the cookies after another.
     pub shown: (u64, u64),
+    /// `metered` makes the associations: the record that it gives is the one that `new` makes.
+    pub metered: bool,
     /// How often each command and number is there.
     pub numbers: BTreeMap<String, u64>,
     failures: u64,
@@ -179,6 +181,7 @@ impl Log {
             line: 0,
             steps: 0,
             shown: (1, 1),
+            metered: false,
             numbers: BTreeMap::new(),
             failures: 0,
         })
@@ -220,7 +223,10 @@ impl Log {
             return step;
         }
         let (c, r) = (&step.of_crate, &step.of_rules);
-        for command in commands(op, &step) {
+        for mut command in commands(op, &step) {
+            if self.metered && matches!(op, Op::New { .. }) {
+                command = command.replacen("new", "metered", 1);
+            }
             let word = command.split(' ').next().unwrap();
             self.put(&command, &answer(word, &c.0), &answer(word, &r.0), step.reason);
         }

@@ -18,8 +18,8 @@ use state::Op;
 use std::collections::BTreeMap;
 use std::process::ExitCode;
 
-const USAGE: &str = "driver log SEED CASES STEPS [wild] [set] [nts|plain] OUT.drill OUT.expected
-driver check SEED CASES STEPS [wild] [set] [nts|plain]
+const USAGE: &str = "driver log SEED CASES STEPS [wild] [set] [metered] [nts|plain] OUT.drill OUT.expected
+driver check SEED CASES STEPS [wild] [set] [metered] [nts|plain]
 driver limits OUT.drill OUT.expected
 driver own OUT.drill OUT.expected
 driver requests SEED COUNT OUT.drill OUT.expected
@@ -49,6 +49,7 @@ fn cases(seed: u64, cases: u64, steps: u64, manner: Manner, mut run: impl FnMut(
 }
 
 fn write_cases(log: &mut Log, seed: u64, count: u64, steps: u64, manner: Manner) {
+    log.metered = manner.metered;
     cases(seed, count, steps, manner, |both, op, i| {
         let step = log.step(both, op);
         if i % 4 == 1 {
@@ -105,7 +106,7 @@ fn sample(log: &mut Log) {
     limits::write(log);
     for (i, nts) in [false, true].into_iter().enumerate() {
         for (j, (wild, set)) in [(false, false), (true, false), (true, true)].into_iter().enumerate() {
-            let manner = Manner { wild, set, nts: Some(nts), small: true };
+            let manner = Manner { wild, set, nts: Some(nts), small: true, metered: false };
             log.comment(&format!("random steps: nts {nts}, wild {wild}, set {set}"));
             write_cases(log, (3 * i + j) as u64, 12, 40, manner);
         }
@@ -137,11 +138,11 @@ fn write_log(drill: &str, expected: &str, write: impl FnOnce(&mut Log)) -> ExitC
 }
 
 fn main() -> ExitCode {
-    const MANNERS: [&str; 4] = ["wild", "set", "nts", "plain"];
+    const MANNERS: [&str; 5] = ["wild", "set", "metered", "nts", "plain"];
     let args: Vec<String> = std::env::args().skip(1).collect();
     let has = |name: &str| args.iter().any(|a| a == name);
     let nts = if has("nts") { Some(true) } else { has("plain").then_some(false) };
-    let manner = Manner { wild: has("wild"), set: has("set"), nts, small: false };
+    let manner = Manner { wild: has("wild"), set: has("set"), nts, small: false, metered: has("metered") };
     let rest: Vec<&str> = args.iter().map(String::as_str).filter(|a| !MANNERS.contains(a)).collect();
     let numbers: Vec<u64> = rest.iter().skip(1).map_while(|a| a.parse().ok()).collect();
     match (rest.as_slice(), numbers.as_slice()) {

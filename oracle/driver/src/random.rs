@@ -53,6 +53,8 @@ pub struct Manner {
     pub nts: Option<bool>,
     /// Short cookies only, for a log that is kept.
     pub small: bool,
+    /// Settings and first cookies that meet the metered profile (RULES, No. 11).
+    pub metered: bool,
 }
 
 pub struct Random {
@@ -151,7 +153,14 @@ impl Random {
         let window = if self.r.one_in(2) { 5_000_000_000 } else { self.r.pick(&[1, 5000, 60_000_000_000]) };
         let startup = if self.r.one_in(2) { 3 } else { 1 + self.r.below(8) as u8 };
         let start = self.version();
-        let cookies = if self.nts { self.cookies(11, false, HELD) } else { vec![] };
+        let mut cookies = if self.nts { self.cookies(11, false, HELD) } else { vec![] };
+        let (min, max, startup, start) = if self.manner.metered {
+            cookies.iter_mut().for_each(|c| c.truncate(100));
+            let start = if matches!(start, Version::V4UpgradingToV5 { .. }) { Version::V4 } else { start };
+            (min.max(8), max.max(8), startup.min(3), start)
+        } else {
+            (min, max, startup, start)
+        };
         Op::New { nts: self.nts, min, max, startup, window, start, source: self.source, cookies }
     }
 

@@ -1,0 +1,20 @@
+-- `is_broken` meets its contract: the list is read with NTS only.
+-- Assumes nothing.
+use mathlib.Core.Bool.{not}
+use mathlib.Core.Path.{ap, sym, _∙_}
+use borrow.Author.Needs.{needs}
+use Rattle.words.proofs.Tests.{passes}
+use Rattle.metered.proofs.is_broken.Statement.{statement}
+use Rattle.metered.proofs.is_broken.Tie as tie
+
+list-whole-requires : tie.Need-list-whole-requires
+list-whole-requires c κs = search needs
+
+returns : tie.Need-returns
+returns c = rw (c .before .if1 .taken, c .list-whole .ensures)
+
+returns-2 : tie.Need-returns-2
+returns-2 c = search needs
+
+pub is-broken-spec : {M : Type 1} → statement M
+is-broken-spec = tie.close (tie.spec list-whole-requires returns returns-2)

@@ -1,0 +1,74 @@
+-- RULES, No. 11: the metered profile, in order 30, 33, 34, 35, 36, 37, 0, and the call that makes a metered association.
+-- Assumes nothing.
+use mathlib.Core.Bool.{Bool, true, false, _&&_, _||_, cond}
+use mathlib.Core.List.{List, [], _∷_}
+use Prim.Native.Nat.{ℕ}
+use lib.Dec.{ltb, eqb}
+use lib.IntN.{pos}
+use lib.ListN.{length}
+use lib.Signed.{ltZ}
+use Rattle.cookielist.specs.List.{Listed, whole, broken, cookiesIn, listBroken}
+use Rattle.version.specs.declared.ProtocolVersion.{ProtocolVersion}
+use Rattle.version.specs.declared.ProtocolVersion.the-variants.{V4, Upgrading, Upgraded, V5}
+use Rattle.association.specs.declared.Settings.{Settings}
+use Rattle.association.specs.Settings.{settingsValid}
+use Rattle.association.specs.Record.{blankOf}
+use Rattle.association.specs.New.{newOf}
+use Rattle.metered.specs.declared.ProfileAnswer.{ProfileAnswer}
+use Rattle.metered.specs.declared.ProfileAnswer.the-variants.{Met, BadSettings, BrokenList, LowPollMin, HighStartup, UpgradingStart, LongCookie}
+use Rattle.metered.specs.declared.MeteredOut.{MeteredOut}
+
+-- 0 the profile is met; 30 settings outside the ranges; 33 broken cookie list; 34 to 37 the four rules, in their order
+abbrev pub numberOf : ProfileAnswer → ℕ
+numberOf Met = 0
+numberOf BadSettings = 30
+numberOf BrokenList = 33
+numberOf LowPollMin = 34
+numberOf HighStartup = 35
+numberOf UpgradingStart = 36
+numberOf LongCookie = 37
+
+-- 34: poll min is not at least 8
+abbrev pub lowPollMin : Settings → Bool
+lowPollMin s = ltZ (s .min .0) (pos 8)
+
+-- 35: the startup limit is not at most 3
+abbrev pub highStartup : Settings → Bool
+highStartup s = ltb 3 (s .startup)
+
+-- 36: an upgrading start version
+abbrev pub isUpgrading : ProtocolVersion → Bool
+isUpgrading V4 = false
+isUpgrading (Upgrading tries) = true
+isUpgrading Upgraded = false
+isUpgrading V5 = false
+
+-- a cookie among those of a list is over so many bytes
+abbrev pub anyLonger : ℕ → List (List ℕ) → Bool
+anyLonger most [] = false
+anyLonger most (c ∷ cs) = ltb most (length c) || anyLonger most cs
+
+abbrev pub longerIn : ℕ → Listed → Bool
+longerIn most (whole cs) = anyLonger most cs
+longerIn most broken = false
+
+-- 37: with NTS, a cookie of the first list is over 100 bytes
+abbrev pub longCookie : Bool → List ℕ → Bool
+longCookie nts list = nts && longerIn 100 (cookiesIn list)
+
+-- the first of the four rules that is broken
+abbrev pub firstBroken : (low high upgrading long : Bool) → ProfileAnswer
+firstBroken low high upgrading long = cond low LowPollMin (cond high HighStartup (cond upgrading UpgradingStart (cond long LongCookie Met)))
+
+-- the check: 30 and 33 as `new` has them, then the four rules
+unfoldable pub profileOf : Settings → List ℕ → ProfileAnswer
+profileOf s list =
+    cond (settingsValid s)
+    (cond (listBroken (s .nts) list) BrokenList
+    (firstBroken (lowPollMin s) (highStartup s) (isUpgrading (s .start .kind)) (longCookie (s .nts) list)))
+    BadSettings
+
+-- the call: the check's answer; on 0 the record is the one that `new` makes, on any other number it is the blank one
+unfoldable pub meteredOf : Settings → List ℕ → MeteredOut
+meteredOf s list =
+    record { answer = profileOf s list; association = cond (eqb (numberOf (profileOf s list)) 0) (newOf s list .association) blankOf }

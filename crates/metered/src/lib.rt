@@ -1,0 +1,159 @@
+// A profile for metered links, where every packet is paid for: the check that names the first rule broken, and the call that makes such an association.
+// Promises: each number exactly under its rule, in its order; on 0 the record that `Association::new` makes, and the blank one on any other number.
+// Rule: RULES, No. 11; definitions in specs/Profile.antt, number by number in specs/Numbers.antt.
+use association::Association;
+use association::Settings;
+use cookielist::Entry;
+use version::ProtocolVersion;
+use version::Version;
+ghost use mathlib.Core.Path.{_≡_};
+ghost use Rattle.cookielist.specs.List.{cookiesIn, listBroken};
+ghost use Rattle.metered.specs.Profile.{numberOf, isUpgrading, longerIn, longCookie, profileOf, meteredOf};
+
+// The least that the lower poll limit may be: a poll in some four minutes.
+pub const LEAST_POLL: i8 = 8;
+
+// The most polls that may be sent before the association gives up.
+pub const MOST_STARTUP: u8 = 3;
+
+// The longest cookie that the first list may have.
+pub const LONGEST_COOKIE: usize = 100;
+
+// The profile is met, or the first rule that is broken.
+pub enum ProfileAnswer {
+    Met,
+    BadSettings,
+    BrokenList,
+    LowPollMin,
+    HighStartup,
+    UpgradingStart,
+    LongCookie,
+}
+
+impl ProfileAnswer {
+    pub fn number(self) -> u8
+        ensures { λ r. ⌜ r ≡ numberOf self ⌝ }
+    {
+        match self {
+            ProfileAnswer::Met => 0,
+            ProfileAnswer::BadSettings => 30,
+            ProfileAnswer::BrokenList => 33,
+            ProfileAnswer::LowPollMin => 34,
+            ProfileAnswer::HighStartup => 35,
+            ProfileAnswer::UpgradingStart => 36,
+            ProfileAnswer::LongCookie => 37,
+        }
+    }
+}
+
+// Whether a version is on the way from V4 to V5.
+fn is_upgrading(version: Version) -> bool
+    ensures { λ r. ⌜ r ≡ isUpgrading (version .kind) ⌝ }
+{
+    let kind = version.kind;
+    match kind {
+        ProtocolVersion::V4 => false,
+        ProtocolVersion::Upgrading(_) => true,
+        ProtocolVersion::Upgraded => false,
+        ProtocolVersion::V5 => false,
+    }
+}
+
+// Whether a list is broken, which matters with NTS only.
+fn is_broken(nts: bool, list: &[u8]) -> bool
+    ensures { λ r. ⌜ r ≡ listBroken nts (now (list .entry)) ⌝ }
+{
+    if nts {
+        !cookielist::list_whole(list)
+    } else {
+        false
+    }
+}
+
+// Whether a whole cookie list has a cookie of more than so many bytes.
+fn has_longer(most: usize, list: &[u8]) -> bool
+    ensures { λ r. ⌜ r ≡ longerIn most (cookiesIn (now (list .entry))) ⌝ }
+{
+    let mut at: usize = 0;
+    let mut longer = false;
+    loop {
+        match cookielist::entry_at(list, at) {
+            Entry::Cookie { start, end } => {
+                if most < end - start {
+                    longer = true;
+                }
+                at = end;
+            }
+            Entry::End => {
+                return longer;
+            }
+            Entry::Broken => {
+                return false;
+            }
+        }
+    }
+}
+
+// Whether a list has a cookie over the profile's length, which matters with NTS only.
+fn has_long_cookie(nts: bool, list: &[u8]) -> bool
+    ensures { λ r. ⌜ r ≡ longCookie nts (now (list .entry)) ⌝ }
+{
+    if nts {
+        has_longer(LONGEST_COOKIE, list)
+    } else {
+        false
+    }
+}
+
+// Whether settings and first cookie list meet the profile, and if not, which rule is the first that they break. The list counts with NTS only.
+pub fn profile(settings: Settings, list: &[u8]) -> ProfileAnswer
+    ensures { λ r. ⌜ r ≡ profileOf settings (now (list .entry)) ⌝ }
+{
+    if !settings.valid() {
+        return ProfileAnswer::BadSettings;
+    }
+    if is_broken(settings.nts, list) {
+        return ProfileAnswer::BrokenList;
+    }
+    let min = settings.min;
+    if min.0 < LEAST_POLL {
+        return ProfileAnswer::LowPollMin;
+    }
+    if MOST_STARTUP < settings.startup {
+        return ProfileAnswer::HighStartup;
+    }
+    let start = settings.start;
+    if is_upgrading(start) {
+        return ProfileAnswer::UpgradingStart;
+    }
+    if has_long_cookie(settings.nts, list) {
+        return ProfileAnswer::LongCookie;
+    }
+    ProfileAnswer::Met
+}
+
+// What `metered` gives: the profile's answer, and the association, blank where it was refused.
+pub struct MeteredOut {
+    pub answer: ProfileAnswer,
+    pub association: Association,
+}
+
+// Makes an association that meets the profile: the one that `Association::new` makes.
+pub fn metered(settings: Settings, list: &[u8]) -> MeteredOut
+    ensures { λ r. ⌜ r ≡ meteredOf settings (now (list .entry)) ⌝ }
+{
+    let answer = profile(settings, list);
+    if answer.number() != 0 {
+        let blank = Association::blank();
+        return MeteredOut {
+            answer,
+            association: blank,
+        };
+    }
+    let made = Association::new(settings, list);
+    let association = made.association;
+    MeteredOut {
+        answer,
+        association,
+    }
+}

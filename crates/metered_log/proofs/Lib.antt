@@ -1,0 +1,3 @@
+-- What holds of a metered association along any log.
+pub mod Polls
+pub mod Plain

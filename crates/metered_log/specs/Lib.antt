@@ -1,0 +1,2 @@
+-- Statements over logs of a metered association.
+pub mod Polls
