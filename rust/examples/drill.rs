@@ -2,9 +2,9 @@
 //! logs without bad lines from standard input and answers a line at a time. What the drill does not show is looked at here: a refusal leaves record and buffer as they
 //! were, and nothing is written past what is handed out; else the answer ends with `CHANGED`.
 use reckonstile::{
-    collect, write_request, Association, Bloom, DecodedReply, Kisses, Measurement, NtpDuration, NtpInstant, NtpLeapIndicator,
-    NtpTimestamp, Packet, PollInterval, PollIntervalLimits, ProtocolVersion, Record, ReferenceId, SendKind, Settings, Times,
-    Uid,
+    check_calendar, collect, plan_calendar, salvage, write_request, Association, Bloom, CheckRefused, DecodedReply, Kisses,
+    Measurement, NtpDuration, NtpInstant, NtpLeapIndicator, NtpTimestamp, Packet, PlanRefused, PollInterval,
+    PollIntervalLimits, ProtocolVersion, Record, ReferenceId, SendKind, Settings, Times, Uid,
 };
 use std::collections::HashMap;
 use std::fmt::Write as _;
@@ -298,6 +298,73 @@ impl Drill {
         }
     }
 
+    fn salvage(p: &Pairs) -> String {
+        let mut out = vec![FILL; number(p.or("room", "4096"))];
+        let said = match salvage(&p.bytes("list"), &mut out) {
+            Ok(s) => {
+                let places: Vec<String> = s.places().iter().map(ToString::to_string).collect();
+                let at = if places.is_empty() { "-".into() } else { places.join(",") };
+                let line =
+                    format!("salvage 0 kept={} skipped={} gaps={} at={at} list={}", s.kept, s.skipped, s.gaps, hex(s.list));
+                Ok((line, s.list.len()))
+            }
+            Err(refused) => Err(refused.number()),
+        };
+        match said {
+            Ok((line, length)) => line + kept(filled(&out[length..])),
+            Err(number) => format!("salvage {number}{}", kept(filled(&out))),
+        }
+    }
+
+    fn calendar(p: &Pairs) -> String {
+        let (starts, repeats): (Vec<u16>, Vec<u16>) = match p.text("entries") {
+            "-" => Default::default(),
+            entries => entries
+                .split(',')
+                .map(|entry| entry.split_once('/').expect("a stroke"))
+                .map(|(start, repeat)| (number::<u16>(start), number::<u16>(repeat)))
+                .unzip(),
+        };
+        match check_calendar(p.number("cap"), &starts, &repeats) {
+            Ok(()) => "calendar 0".into(),
+            Err(refused) => {
+                let place = match refused {
+                    CheckRefused::BadRepeat { entry } | CheckRefused::LateStart { entry } => format!(" entry={entry}"),
+                    CheckRefused::OverCap { minute } => format!(" minute={minute}"),
+                    _ => String::new(),
+                };
+                format!("calendar {}{place}", refused.number())
+            }
+        }
+    }
+
+    fn plan(p: &Pairs) -> String {
+        let repeats: Vec<u16> = match p.text("repeats") {
+            "-" => Vec::new(),
+            repeats => repeats.split(',').map(number).collect(),
+        };
+        // One start more than there are repeats: the last stays as it was.
+        let mut buffer = vec![u16::MAX; repeats.len() + 1];
+        let said = match plan_calendar(p.number("cap"), &repeats, &mut buffer) {
+            Ok(starts) => {
+                let starts: Vec<String> = starts.iter().map(ToString::to_string).collect();
+                let line = format!("plan 0 starts={}", if starts.is_empty() { "-".into() } else { starts.join(",") });
+                Ok((line, starts.len()))
+            }
+            Err(refused) => {
+                let place = match refused {
+                    PlanRefused::BadRepeat { entry } | PlanRefused::NoFit { entry } => format!(" entry={entry}"),
+                    _ => String::new(),
+                };
+                Err(format!("plan {}{place}", refused.number()))
+            }
+        };
+        match said {
+            Ok((line, count)) => line + kept(buffer[count..].iter().all(|start| *start == u16::MAX)),
+            Err(line) => line + kept(buffer.iter().all(|start| *start == u16::MAX)),
+        }
+    }
+
     fn show(&self) -> String {
         let Record { stash, state, .. } = self.a.record();
         let version = match state.version {
@@ -380,6 +447,9 @@ impl Drill {
             "accept" => self.accept(&p),
             "collect" => Drill::collect(&p),
             "request" => Drill::request(&p),
+            "salvage" => Drill::salvage(&p),
+            "calendar" => Drill::calendar(&p),
+            "plan" => Drill::plan(&p),
             "show" => self.show(),
             "cookies" => self.cookies(),
             "poke" => self.poke(&p),

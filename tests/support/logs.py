@@ -134,6 +134,30 @@ class Logs:
             rng.choice(('v4', 'v4-upgrade', 'v5', 'nts-v4', 'nts-v4', 'nts-v4', 'nts-v5')), rng.randint(-128, 127), self.bytes(8).hex(), self.bytes(8).hex(), self.bytes(32).hex(),
             hexed(cookie), rng.choice((0, 1, 3, 7, 8, 9, rng.randrange(256))), rng.choice((6144, 6144, 852, 47, 48, rng.randrange(1000))))
 
+    def salvage(self):
+        rng, damaged = self.rng, self.list()
+        for _ in range(rng.choice((0, 1, 1, 3, 40))):  # bytes lost, changed or put in
+            at = rng.randrange(len(damaged) + 1)
+            damaged = damaged[:at] + rng.choice((b'', b'\xc0', b'\xc0\x0e', self.bytes(1))) + damaged[at + rng.randrange(2):]
+        damaged = damaged[:4096]
+        return 'salvage list=%s room=%d' % (hexed(damaged), rng.choice((4096, len(damaged), max(len(damaged) - 1, 0))))
+
+    def repeats(self):
+        """mostly ones that divide 1440, the small ones more often: they crowd the day"""
+        rng = self.rng
+        few = (1, 2, 3, 4, 5, 6, 8, 9, 10, 12, 15, 16, 20, 60)
+        count = rng.choice((0, 64, 65, 128)) if rng.random() < 0.1 else rng.randrange(1, 12)
+        some = [rng.choice(few + (24, 30, 90, 144, 720, 1440)) if rng.random() < 0.99 else rng.choice((0, 7, 1441, 2880, 65535)) for _ in range(count)]
+        return [rng.choice((60, 720, 1440)) for _ in some] if count > 60 and rng.random() < 0.5 else some
+
+    def calendar(self):
+        rng = self.rng
+        entries = ['%d/%d' % (rng.randrange(r) if r and rng.random() < 0.99 else rng.choice((r, 1440, 65535)), r) for r in self.repeats()]
+        return 'calendar cap=%d entries=%s' % (rng.choice((0, 1, 1, 2, 3, 5, 64, 255)), ','.join(entries) or '-')
+
+    def plan(self):
+        return 'plan cap=%d repeats=%s' % (self.rng.choice((0, 1, 1, 2, 3, 5, 64, 255)), ','.join(map(str, self.repeats())) or '-')
+
     def poke(self):
         rng = self.rng
         key = rng.choice(('reach', 'tries', 'last', 'remote', 'stratum', 'refid', 'read', 'held', 'min', 'max', 'startup', 'window', 'id', 'uid', 'deadline', 'slotbyte'))
@@ -157,7 +181,7 @@ class Logs:
                 line = self.new()
             else:
                 line = rng.choice((self.timer,) * 5 + (self.reply,) * 9 + (self.reply5,) * (8 if self.record.version[0] in ('upgraded', 'v5') else 1)
-                                  + (self.accept,) * 2 + (self.collect, self.request))()
+                                  + (self.accept,) * 2 + (self.collect, self.request, self.salvage, self.calendar, self.plan))()
                 if rng.random() < 0.02:
                     line = rng.choice((self.poke, self.poke, self.poke, lambda: 'blank'))()
             left -= 1

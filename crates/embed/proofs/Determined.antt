@@ -15,6 +15,9 @@ use Rattle.embed.proofs.reckonstile_size.Reads as size
 use Rattle.embed.proofs.reckonstile_align.Reads as align
 use Rattle.embed.proofs.reckonstile_collect.Reads as collect
 use Rattle.embed.proofs.reckonstile_write_request.Reads as write-request
+use Rattle.embed.proofs.reckonstile_salvage.Reads as salvage
+use Rattle.embed.proofs.reckonstile_check_calendar.Reads as check-calendar
+use Rattle.embed.proofs.reckonstile_plan_calendar.Reads as plan-calendar
 use Rattle.embed.proofs.reckonstile_blank as blank
 use Rattle.embed.proofs.reckonstile_new as new
 use Rattle.embed.proofs.reckonstile_timer as timer
@@ -35,6 +38,15 @@ collect-determined κs a y z e f p q = (p .0 ∙ sym (q .0), p .1 ∙ sym (q .1)
 
 pub write-request-determined : DeterminedLent write-request.Post (λ κs e. now (e .1 .1 .1 .1 .1 .1 .1 .0))
 write-request-determined κs a y z e f p q = (p .0 ∙ sym (q .0), p .1 ∙ sym (q .1))
+
+pub salvage-determined : DeterminedLent salvage.Post (λ κs e. now (e .1 .0))
+salvage-determined κs a y z e f p q = (p .0 ∙ sym (q .0), p .1 ∙ sym (q .1))
+
+pub check-calendar-determined : Determined check-calendar.Post
+check-calendar-determined κs a y z e f p q = p ∙ sym q
+
+pub plan-calendar-determined : DeterminedLent plan-calendar.Post (λ κs e. now (e .1 .1 .0))
+plan-calendar-determined κs a y z e f p q = (p .0 ∙ sym (q .0), p .1 ∙ sym (q .1))
 
 -- ---- what is proved by hand
 
