@@ -4,7 +4,7 @@
    calls but in the record, and no call starts a thread. A record belongs to one caller at a time; two records have nothing to do with each other.
 
    The order of calls of a client:
-     reckonstile_new            once, with the settings
+     reckonstile_new            once, with the settings (reckonstile_metered where the link is paid by the packet)
      reckonstile_timer          when it is time to poll; on 20 a request is to be sent
      reckonstile_write_request  the bytes of that request
      reckonstile_reply          for each datagram that comes back (V5: reckonstile_reply_decoded); on 0 there is a measurement
@@ -48,7 +48,7 @@ extern "C" {
 
 /* ---- numbers: what a call answers */
 
-#define RECKONSTILE_OK 0            /* new: made. reply: measured. accept, check_calendar: accepted. collect, write_request, salvage, plan_calendar: written */
+#define RECKONSTILE_OK 0            /* new, metered: made. profile: met. reply: measured. accept, check_calendar: accepted. collect, write_request, salvage, plan_calendar: written */
 #define RECKONSTILE_UNDECODABLE 1   /* reply: not a reply. collect: broken fields */
 #define RECKONSTILE_VERSION 2       /* reply: of a version that is not expected */
 #define RECKONSTILE_NO_REQUEST 3    /* reply: no request is pending, or its time is over */
@@ -65,10 +65,14 @@ extern "C" {
 #define RECKONSTILE_DEMOBILIZE 22   /* timer: no answer, and service was denied. Give the source up */
 #define RECKONSTILE_NO_COOKIE 23    /* timer: no cookie is left. Exchange keys and make the association anew */
 #define RECKONSTILE_COOKIE_SIZE 24  /* timer: the cookie is too large to send. As 23 */
-#define RECKONSTILE_SETTINGS 30     /* new: a setting is outside its range, or a code of no kind */
+#define RECKONSTILE_SETTINGS 30     /* new, metered: a setting is outside its range, or a code of no kind */
 #define RECKONSTILE_SHORT_BUFFER 31 /* timer: with NTS, a buffer under 724 bytes. collect, plan_calendar: what would be written is longer than the buffer */
 #define RECKONSTILE_NOT_WHOLE 32    /* timer, reply, accept: the record is none that a call has made. Nothing is changed */
-#define RECKONSTILE_BROKEN_LIST 33  /* new, reply, with NTS: the cookie list is broken */
+#define RECKONSTILE_BROKEN_LIST 33  /* new, metered, reply, with NTS: the cookie list is broken */
+#define RECKONSTILE_LOW_POLL_MIN 34 /* metered: the lower poll limit is below 8 */
+#define RECKONSTILE_HIGH_STARTUP 35 /* metered: the startup limit is over 3 */
+#define RECKONSTILE_UPGRADING_START 36 /* metered: the start version is upgrading */
+#define RECKONSTILE_LONG_COOKIE 37  /* metered, with NTS: a cookie of the list has over 100 bytes */
 #define RECKONSTILE_STRATUM 40      /* accept: the source is not below our own stratum */
 #define RECKONSTILE_LOOP 41         /* accept: the source gets its time from us */
 #define RECKONSTILE_UNREACHABLE 42  /* accept: none of the last eight polls was answered */
@@ -263,6 +267,15 @@ uint32_t reckonstile_blank(struct reckonstile_association *a);
    it), and without NTS the list is not read.
    0 made; 30 a setting is outside its range, or a code of no kind; 33 with NTS, the list is broken. On 30 and 33 the record is blank. */
 uint32_t reckonstile_new(struct reckonstile_association *a, struct reckonstile_settings settings, const uint8_t *list, size_t list_len);
+
+/* The same for a link that is paid by the packet: the settings and the list have to meet the metered profile besides, and the record is then the one that
+   reckonstile_new makes. No poll that its timer sends has an exponent below 8.
+   0 made; 30 and 33 as reckonstile_new; then the first rule of the profile that is broken: 34 min is below 8; 35 startup is over 3; 36 start is
+   RECKONSTILE_UPGRADING; 37 with NTS, a cookie of the list has over 100 bytes. On every number but 0 the record is blank. */
+uint32_t reckonstile_metered(struct reckonstile_association *a, struct reckonstile_settings settings, const uint8_t *list, size_t list_len);
+
+/* The number that reckonstile_metered gives for these settings and this list. */
+uint32_t reckonstile_profile(struct reckonstile_settings settings, const uint8_t *list, size_t list_len);
 
 /* It is time to poll. `desired` is the poll exponent that the clock steering asks for; it is raised to what the source asks for, and not held to the limits
    of the settings. `id` and `uid` are fresh random bits (uid counts only with NTS). With NTS the cookie to send is written to the buffer, which has room for

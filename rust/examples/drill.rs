@@ -125,14 +125,14 @@ struct Drill {
 }
 
 impl Drill {
-    fn new(&mut self, p: &Pairs) -> String {
+    fn settings(p: &Pairs) -> Settings {
         let version = match p.text("start") {
             "v4" => ProtocolVersion::V4,
             "upgraded" => ProtocolVersion::UpgradedToV5,
             "v5" => ProtocolVersion::V5,
             upgrading => ProtocolVersion::V4UpgradingToV5 { tries_left: number(&upgrading["upgrading:".len()..]) },
         };
-        let settings = Settings {
+        Settings {
             poll_interval_limits: PollIntervalLimits {
                 min: PollInterval::new(p.number("min")),
                 max: PollInterval::new(p.number("max")),
@@ -143,8 +143,11 @@ impl Drill {
             version,
             nts: p.text("nts") == "yes",
             source: ReferenceId::from_bits(p.bits("source") as u32),
-        };
-        match Association::new(&settings, &p.bytes("list")) {
+        }
+    }
+
+    fn new(&mut self, p: &Pairs) -> String {
+        match Association::new(&Self::settings(p), &p.bytes("list")) {
             Ok(a) => {
                 self.a = a;
                 "new 0".into()
@@ -154,6 +157,24 @@ impl Drill {
                 format!("new {}", refused.number())
             }
         }
+    }
+
+    fn metered(&mut self, p: &Pairs) -> String {
+        match Association::metered(&Self::settings(p), &p.bytes("list")) {
+            Ok(a) => {
+                self.a = a;
+                "metered 0".into()
+            }
+            Err(refused) => {
+                self.a = Association::from_record(Record::BLANK);
+                format!("metered {}", refused.number())
+            }
+        }
+    }
+
+    fn profile(&mut self, p: &Pairs) -> String {
+        let number = Association::profile(&Self::settings(p), &p.bytes("list")).map_or_else(|refused| refused.number(), |()| 0);
+        format!("profile {number}")
     }
 
     fn timer(&mut self, p: &Pairs) -> String {
@@ -441,6 +462,8 @@ impl Drill {
         let p = Pairs(words.map(|word| word.split_once('=').expect("a pair")).collect());
         match command {
             "new" => self.new(&p),
+            "metered" => self.metered(&p),
+            "profile" => self.profile(&p),
             "timer" => self.timer(&p),
             "reply" => self.reply(&p),
             "reply5" => self.reply5(&p),

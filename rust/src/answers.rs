@@ -60,6 +60,25 @@ numbered! {
 }
 
 numbered! {
+    /// Why there is no metered association: the first rule of the profile for links that are paid by the packet that settings or cookie list break.
+    ///
+    /// ```
+    /// use reckonstile::{Association, MeteredRefused, Settings};
+    /// let refused = Association::metered(&Settings::default(), &[]).unwrap_err();
+    /// assert_eq!((refused, refused.number()), (MeteredRefused::LowPollMin, 34));
+    /// assert_eq!(Association::profile(&Settings::default(), &[]), Err(refused));
+    /// ```
+    MeteredRefused {
+        Settings = 30, "a setting is outside its range";
+        BrokenList = 33, "with NTS, the cookie list is broken";
+        LowPollMin = 34, "the lower poll limit is below 8";
+        HighStartup = 35, "the startup limit is over 3";
+        UpgradingStart = 36, "the start version is upgrading";
+        LongCookie = 37, "with NTS, a cookie of the first list has over 100 bytes";
+    }
+}
+
+numbered! {
     /// Why the timer sends nothing.
     ///
     /// ```
@@ -448,9 +467,10 @@ impl Measurement {
 #[cfg(feature = "std")]
 mod errors {
     use super::{
-        AcceptRefused, CheckRefused, CollectRefused, NewRefused, PlanRefused, ReplyRefused, RequestRefused, SalvageRefused,
-        TimerRefused,
+        AcceptRefused, CheckRefused, CollectRefused, MeteredRefused, NewRefused, PlanRefused, ReplyRefused, RequestRefused,
+        SalvageRefused, TimerRefused,
     };
+    impl std::error::Error for MeteredRefused {}
     impl std::error::Error for NewRefused {}
     impl std::error::Error for TimerRefused {}
     impl std::error::Error for ReplyRefused {}

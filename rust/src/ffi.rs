@@ -235,6 +235,8 @@ mod c {
         pub fn reckonstile_size() -> usize;
         pub fn reckonstile_align() -> usize;
         pub fn reckonstile_new(a: *mut Record, settings: Settings, list: *const u8, list_len: usize) -> u32;
+        pub fn reckonstile_metered(a: *mut Record, settings: Settings, list: *const u8, list_len: usize) -> u32;
+        pub fn reckonstile_profile(settings: Settings, list: *const u8, list_len: usize) -> u32;
         pub fn reckonstile_timer(
             a: *mut Record,
             time: u64,
@@ -307,6 +309,16 @@ pub(crate) fn layout() -> (usize, usize) {
 pub(crate) fn new(a: &mut Record, settings: Settings, list: &[u8]) -> u32 {
     // SAFETY: `a` is lent exclusively; `list` is a pointer that is not null and its length.
     unsafe { c::reckonstile_new(a, settings, list.as_ptr(), list.len()) }
+}
+
+pub(crate) fn metered(a: &mut Record, settings: Settings, list: &[u8]) -> u32 {
+    // SAFETY: `a` is lent exclusively; `list` is a pointer that is not null and its length.
+    unsafe { c::reckonstile_metered(a, settings, list.as_ptr(), list.len()) }
+}
+
+pub(crate) fn profile(settings: Settings, list: &[u8]) -> u32 {
+    // SAFETY: `list` is a pointer that is not null and its length, and nothing is written.
+    unsafe { c::reckonstile_profile(settings, list.as_ptr(), list.len()) }
 }
 
 pub(crate) fn timer(a: &mut Record, time: u64, desired: i8, id: u64, uid: [u8; 32], buffer: &mut [u8]) -> Timed {

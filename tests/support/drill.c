@@ -71,9 +71,7 @@ static uint8_t group(const char *key) {
 
 /* ---- the commands */
 
-static void new_(void) {
-    uint8_t list[MOST];
-    size_t n = bytes(or_text("list", "-"), list);
+static struct reckonstile_settings settings(void) {
     struct reckonstile_settings s;
     memset(&s, 0, sizeof s);
     s.window = natural(text("window"));
@@ -86,7 +84,25 @@ static void new_(void) {
     s.startup = (uint8_t)natural(text("startup"));
     s.min = (int8_t)integer(text("min"));
     s.max = (int8_t)integer(text("max"));
-    printf("new %" PRIu32 "\n", reckonstile_new(&a, s, list, n));
+    return s;
+}
+
+static void new_(void) {
+    uint8_t list[MOST];
+    size_t n = bytes(or_text("list", "-"), list);
+    printf("new %" PRIu32 "\n", reckonstile_new(&a, settings(), list, n));
+}
+
+static void metered(void) {
+    uint8_t list[MOST];
+    size_t n = bytes(or_text("list", "-"), list);
+    printf("metered %" PRIu32 "\n", reckonstile_metered(&a, settings(), list, n));
+}
+
+static void profile(void) {
+    uint8_t list[MOST];
+    size_t n = bytes(or_text("list", "-"), list);
+    printf("profile %" PRIu32 "\n", reckonstile_profile(settings(), list, n));
 }
 
 static void timer(void) {
@@ -335,8 +351,8 @@ static void blank(void) { puts(reckonstile_blank(&a) == RECKONSTILE_OK ? "blank"
 
 int main(void) {
     static const struct { const char *word; void (*call)(void); } commands[] = {
-        { "new", new_ }, { "timer", timer }, { "reply", reply }, { "reply5", reply5 }, { "accept", accept_ }, { "collect", collect }, { "request", request },
-        { "salvage", salvage }, { "calendar", calendar }, { "plan", plan }, { "show", show }, { "cookies", cookies }, { "poke", poke }, { "blank", blank },
+        { "new", new_ }, { "metered", metered }, { "profile", profile }, { "timer", timer }, { "reply", reply }, { "reply5", reply5 }, { "accept", accept_ }, { "collect", collect },
+        { "request", request }, { "salvage", salvage }, { "calendar", calendar }, { "plan", plan }, { "show", show }, { "cookies", cookies }, { "poke", poke }, { "blank", blank },
     };
     static char line[65536];
     reckonstile_blank(&a);

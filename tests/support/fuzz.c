@@ -296,6 +296,13 @@ int main(int argc, char **argv) {
         int good = version_ok(s.start, s.left) && s.nts <= 1 && settings_ok(&s);
         expect(good ? n == 0 || (n == 33 && s.nts) : n == 30, "new", n);
         expect(n == 0 ? whole(&lent.a) && settings_kept() : zeros((const uint8_t *)&lent.a, sizeof lent.a), "new's record", n);
+
+        /* the same for a metered link: the plain record where the profile is met, and the check's number */
+        struct reckonstile_association plain = lent.a;
+        uint32_t told = reckonstile_profile(s, list, list_len), m = reckonstile_metered(&lent.a, s, list, list_len);
+        int slow = s.min >= 8 && s.startup <= 3 && s.start != RECKONSTILE_UPGRADING;
+        expect(m == told && (n != 0 ? m == n : m == 0 ? slow : m >= 34 && m <= 37 && (!slow || (m == 37 && s.nts))), "metered", m);
+        expect(m == 0 ? !memcmp(&lent.a, &plain, sizeof plain) : zeros((const uint8_t *)&lent.a, sizeof lent.a), "metered's record", m);
     }
     printf("%lu of the records were whole\n%lu passed, %lu failed\n", wholes, passed, failed);
     return failed != 0;

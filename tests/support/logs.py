@@ -39,10 +39,10 @@ class Logs:
         n = self.rng.choice((0, 1, 4, 20, 100, 100, 100, 104, 723, 724, 725, 1000) if self.rng.random() < 0.2 else (96, 100, 104, 180))
         return self.bytes(n)
 
-    def list(self):
+    def list(self, longest=1000):
         found = b''
         for _ in range(self.rng.choice((0, 1, 1, 2, 7, 8, 9))):
-            cookie = self.cookie_of()
+            cookie = self.cookie_of()[:longest]
             if len(found) + 4 + len(cookie) <= 4000:
                 found += b'\xc0\x0e' + len(cookie).to_bytes(2, 'big') + cookie
         if self.rng.random() < 0.04:  # broken, but where the cut is between two cookies
@@ -51,17 +51,19 @@ class Logs:
 
     # ---- commands
 
-    def new(self):
-        rng = self.rng
-        low = rng.choice((0, 4, 4, 6))
+    def new(self, word='new'):
+        """the keys of `new`, which are those of `metered` and `profile`; for these two they mostly meet the metered profile"""
+        rng, metered = self.rng, word != 'new'
+        low = rng.choice((8, 8, 8, 10, 7) if metered else (0, 4, 4, 6))
         good = rng.random() < 0.95
-        start = rng.choice(('v4', 'v4', 'v4', 'upgrading:8', 'upgrading:1', 'upgrading:0', 'upgraded', 'v5'))
+        start = rng.choice(('v4', 'v4', 'v4', 'upgraded', 'v5') + (('upgrading:8',) if metered else ('upgrading:8', 'upgrading:1', 'upgrading:0')))
         nts = rng.random() < 0.6
-        self.now = rng.choice((0, rng.randrange(10**12), MAX64 - 10**10))
-        return 'new min=%d max=%d startup=%d window=%d mark=%s start=%s nts=%s source=%08x list=%s' % (
-            low if good else rng.choice((-128, -1, 18, low)), rng.choice((low, 10, 17)) if good else rng.choice((18, 127, -1, 10)),
-            rng.choice((1, 3, 8)) if good else rng.choice((0, 9, 255, 3)), rng.choice((1, 5 * 10**9, 60 * 10**9)) if good else rng.choice((0, 60 * 10**9 + 1, MAX64)),
-            '4e54503544524654', start, 'yes' if nts else 'no', rng.choice((0, 1, 0x7f000001, 0xffffffff)), hexed(self.list()))
+        if word != 'profile':
+            self.now = rng.choice((0, rng.randrange(10**12), MAX64 - 10**10))
+        return word + ' min=%d max=%d startup=%d window=%d mark=%s start=%s nts=%s source=%08x list=%s' % (
+            low if good else rng.choice((-128, -1, 18, low)), rng.choice((low, max(low, 10), 17)) if good else rng.choice((18, 127, -1, 10)),
+            rng.choice((1, 3, 3, 3, 4) if metered else (1, 3, 8)) if good else rng.choice((0, 9, 255, 3)), rng.choice((1, 5 * 10**9, 60 * 10**9)) if good else rng.choice((0, 60 * 10**9 + 1, MAX64)),
+            '4e54503544524654', start, 'yes' if nts else 'no', rng.choice((0, 1, 0x7f000001, 0xffffffff)), hexed(self.list(100 if metered and rng.random() < 0.7 else 1000)))
 
     def timer(self):
         rng = self.rng
@@ -173,15 +175,15 @@ class Logs:
     # ---- a log
 
     def steps(self, count):
-        """lines of so many steps, each with what it leaves shown behind it; the first is a `new`"""
+        """lines of so many steps, each with what it leaves shown behind it; the first is a `new` or a `metered`"""
         rng, left = self.rng, 0
         for _ in range(count):
             if left == 0:
                 left = rng.choice((10, 30, 60))
-                line = self.new()
+                line = self.new(rng.choice(('new', 'new', 'metered')))
             else:
                 line = rng.choice((self.timer,) * 5 + (self.reply,) * 9 + (self.reply5,) * (8 if self.record.version[0] in ('upgraded', 'v5') else 1)
-                                  + (self.accept,) * 2 + (self.collect, self.request, self.salvage, self.calendar, self.plan))()
+                                  + (self.accept,) * 2 + (self.collect, self.request, self.salvage, self.calendar, self.plan, lambda: self.new('profile')))()
                 if rng.random() < 0.02:
                     line = rng.choice((self.poke, self.poke, self.poke, lambda: 'blank'))()
             left -= 1

@@ -22,6 +22,8 @@ static volatile uint32_t number;
 
 static void nothing(void) { number = 0; }
 static void new_(void) { number = reckonstile_new(&a, settings, list, sizeof list); }
+static void metered(void) { number = reckonstile_metered(&a, settings, list, sizeof list); }
+static void profile(void) { number = reckonstile_profile(settings, list, sizeof list); }
 static void timer(void) { number = reckonstile_timer(&a, 1000, 6, 1, uid, buffer, sizeof buffer).number; }
 static void reply(void) { number = reckonstile_reply(&a, packet, sizeof packet, 84, decrypted, sizeof decrypted, list, 104, 1, 2, 2000).number; }
 static void reply_decoded(void) { number = reckonstile_reply_decoded(&a, decoded, list, 104, 1, 2, 2000).number; }
@@ -47,15 +49,15 @@ static size_t deepest(void (*call)(void)) {
 
 int main(void) {
     static const struct { const char *name; void (*call)(void); uint32_t number; } calls[] = {
-        { "new", new_, 0 }, { "timer", timer, 20 }, { "reply", reply, 0 }, { "timer", timer, 20 }, { "reply_decoded", reply_decoded, 2 }, { "accept", accept_, 0 },
-        { "collect", collect, 0 }, { "write_request", request, 0 }, { "salvage", salvage, 0 }, { "check_calendar", check_calendar, 0 },
+        { "new", new_, 0 }, { "profile", profile, 0 }, { "metered", metered, 0 }, { "timer", timer, 20 }, { "reply", reply, 0 }, { "timer", timer, 20 }, { "reply_decoded", reply_decoded, 2 },
+        { "accept", accept_, 0 }, { "collect", collect, 0 }, { "write_request", request, 0 }, { "salvage", salvage, 0 }, { "check_calendar", check_calendar, 0 },
         { "plan_calendar", plan_calendar, 0 },
     };
     int passed = 0, failed = 0;
     settings.window = 5000;
     settings.nts = 1;
     settings.startup = 3;
-    settings.min = 4;
+    settings.min = 8;
     settings.max = 10;
     for (size_t k = 0; k < 8; k++) memcpy(list + 104 * k, "\xC0\x0E\x00\x64", 4);
     for (size_t k = 0; k < RECKONSTILE_ENTRIES; k++) repeats[k] = 1;

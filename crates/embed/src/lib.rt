@@ -21,7 +21,7 @@ ghost use lib.ListN.{length};
 ghost use Rattle.reply_clauses.specs.After.{arrival};
 ghost use Rattle.collector.specs.Collector.{collectOf, bufferOf as listed};
 ghost use Rattle.request.specs.Answer.{requestOf, bufferOf as requested};
-ghost use Rattle.embed_rules.specs.Rules.{input, blankMade, makeOf};
+ghost use Rattle.embed_rules.specs.Rules.{input, blankMade, makeOf, profiledOf, makeMeteredOf};
 ghost use Rattle.salvage.specs.Salvage.{salvageOf, bufferOf as cleaned};
 ghost use Rattle.calendar.specs.Calendar.{checkOf};
 ghost use Rattle.calendar.specs.Plan.{planOf, bufferOf as planned};
@@ -62,6 +62,24 @@ pub extern "C" fn reckonstile_new(a: &mut CAssociation, settings: CSettings, lis
     let out = embed_rules::make(settings, list);
     *a = out.association;
     out.number
+}
+
+// The record becomes a metered association: 0. Blank where it is refused: 30, 33 to 37.
+#[no_mangle]
+pub extern "C" fn reckonstile_metered(a: &mut CAssociation, settings: CSettings, list: &[u8]) -> u32
+    ensures { λ r. ⌜ (r ≡ makeMeteredOf settings (now (list .entry)) .number) × (now (a .exit) ≡ makeMeteredOf settings (now (list .entry)) .association) ⌝ }
+{
+    let out = embed_rules::make_metered(settings, list);
+    *a = out.association;
+    out.number
+}
+
+// The number that `reckonstile_metered` gives; there is no record.
+#[no_mangle]
+pub extern "C" fn reckonstile_profile(settings: CSettings, list: &[u8]) -> u32
+    ensures { λ r. ⌜ r ≡ profiledOf settings (now (list .entry)) ⌝ }
+{
+    embed_rules::profile(settings, list)
 }
 
 // The timer: 20 to 24, 31, 32. What changes of the record is stored where it lies.
