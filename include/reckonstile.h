@@ -4,12 +4,16 @@
    calls but in the record, and no call starts a thread. A record belongs to one caller at a time; two records have nothing to do with each other.
 
    The order of calls of a client:
-     reckonstile_new            once, with the settings
+     reckonstile_new            once, with the settings (reckonstile_metered where the link is paid by the packet)
      reckonstile_timer          when it is time to poll; on 20 a request is to be sent
      reckonstile_write_request  the bytes of that request
      reckonstile_reply          for each datagram that comes back (V5: reckonstile_reply_decoded); on 0 there is a measurement
      reckonstile_collect        with NTS, before reckonstile_reply: the new cookies of a reply, as the list that reckonstile_reply takes
      reckonstile_accept         whether the source may be used
+   Beside it, with no record at all:
+     reckonstile_salvage        a damaged cookie list made clean
+     reckonstile_check_calendar whether a calendar of polls keeps to a modem's cap
+     reckonstile_plan_calendar  a start for each entry of such a calendar
 
    Pointers. A record, and each buffer, is at a valid address and lent to one call at a time. What is read and what is written by a call does not overlap.
    Where a length is 0 the pointer is not read, but it is not NULL either: pass the address of any byte. A length is at most PTRDIFF_MAX.
@@ -36,10 +40,15 @@ extern "C" {
 #define RECKONSTILE_COOKIE_BYTES 724
 /* A buffer of this size holds any request that a timer's 20 asks for. */
 #define RECKONSTILE_REQUEST_BYTES 852
+/* How many gaps of a damaged cookie list have their places told. */
+#define RECKONSTILE_PLACES 32
+/* The most entries of a calendar, and the minutes of its day. */
+#define RECKONSTILE_ENTRIES 64
+#define RECKONSTILE_MINUTES 1440
 
 /* ---- numbers: what a call answers */
 
-#define RECKONSTILE_OK 0            /* new: made. reply: measured. accept: accepted. collect, write_request: written */
+#define RECKONSTILE_OK 0            /* new, metered: made. profile: met. reply: measured. accept, check_calendar: accepted. collect, write_request, salvage, plan_calendar: written */
 #define RECKONSTILE_UNDECODABLE 1   /* reply: not a reply. collect: broken fields */
 #define RECKONSTILE_VERSION 2       /* reply: of a version that is not expected */
 #define RECKONSTILE_NO_REQUEST 3    /* reply: no request is pending, or its time is over */
@@ -56,16 +65,26 @@ extern "C" {
 #define RECKONSTILE_DEMOBILIZE 22   /* timer: no answer, and service was denied. Give the source up */
 #define RECKONSTILE_NO_COOKIE 23    /* timer: no cookie is left. Exchange keys and make the association anew */
 #define RECKONSTILE_COOKIE_SIZE 24  /* timer: the cookie is too large to send. As 23 */
-#define RECKONSTILE_SETTINGS 30     /* new: a setting is outside its range, or a code of no kind */
-#define RECKONSTILE_SHORT_BUFFER 31 /* timer: with NTS, a buffer under 724 bytes. collect: a list longer than the buffer */
+#define RECKONSTILE_SETTINGS 30     /* new, metered: a setting is outside its range, or a code of no kind */
+#define RECKONSTILE_SHORT_BUFFER 31 /* timer: with NTS, a buffer under 724 bytes. collect, plan_calendar: what would be written is longer than the buffer */
 #define RECKONSTILE_NOT_WHOLE 32    /* timer, reply, accept: the record is none that a call has made. Nothing is changed */
-#define RECKONSTILE_BROKEN_LIST 33  /* new, reply, with NTS: the cookie list is broken */
+#define RECKONSTILE_BROKEN_LIST 33  /* new, metered, reply, with NTS: the cookie list is broken */
+#define RECKONSTILE_LOW_POLL_MIN 34 /* metered: the lower poll limit is below 8 */
+#define RECKONSTILE_HIGH_STARTUP 35 /* metered: the startup limit is over 3 */
+#define RECKONSTILE_UPGRADING_START 36 /* metered: the start version is upgrading */
+#define RECKONSTILE_LONG_COOKIE 37  /* metered, with NTS: a cookie of the list has over 100 bytes */
 #define RECKONSTILE_STRATUM 40      /* accept: the source is not below our own stratum */
 #define RECKONSTILE_LOOP 41         /* accept: the source gets its time from us */
 #define RECKONSTILE_UNREACHABLE 42  /* accept: none of the last eight polls was answered */
 #define RECKONSTILE_NOT_WRITTEN 50  /* write_request: V5, or a kind of no kind */
 #define RECKONSTILE_SHORT_OUT 51    /* write_request: the buffer is too short */
 #define RECKONSTILE_ASK 52          /* write_request: with NTS, a cookie over 724 bytes, or not 1 to 8 new ones asked for */
+#define RECKONSTILE_SALVAGE_ROOM 70 /* salvage: the buffer is shorter than the damaged list */
+#define RECKONSTILE_TOO_MANY 80     /* check_calendar, plan_calendar: more than 64 entries */
+#define RECKONSTILE_BAD_REPEAT 81   /* check_calendar, plan_calendar: a repeat is 0 or does not divide 1440 */
+#define RECKONSTILE_LATE_START 82   /* check_calendar: a start is at or past its repeat */
+#define RECKONSTILE_OVER_CAP 83     /* check_calendar: a minute has more polls than the cap */
+#define RECKONSTILE_NO_FIT 84       /* plan_calendar: no start fits an entry behind those placed before */
 
 /* ---- codes */
 
@@ -197,6 +216,23 @@ struct reckonstile_written {
     size_t length;    /* how many bytes are written from the buffer's start on */
 };
 
+/* What a salvage reports. The lengths kept (each with its head of four bytes) are `length`, and `length` and `skipped` add up to the damaged list. */
+struct reckonstile_salvaged {
+    uint32_t number; /* 0, 70; on 70 the buffer is as it was and all below is zero */
+    uint32_t told;   /* how many of the places below are told: as many as there are gaps, up to 32 */
+    size_t kept;     /* how many records (cookies) were kept */
+    size_t skipped;  /* how many bytes were skipped */
+    size_t gaps;     /* how many runs of skipped bytes there are, with a record kept between two of them */
+    size_t length;   /* how many bytes from the buffer's start on are the clean list */
+    size_t places[RECKONSTILE_PLACES]; /* where the first gaps start in the damaged list, in order; 0 past those told */
+};
+
+struct reckonstile_calendar_answer {
+    uint32_t number; /* check_calendar: 0, 80, 81, 82, 83; plan_calendar: 0, 80, 81, 84, 31 */
+    uint32_t named;  /* 1 where the answer names an entry (81, 82, 84) or a minute (83); else 0 */
+    size_t place;    /* that entry or minute, the lowest, counted from 0; else 0 */
+};
+
 /* The layout. A compiler that lays a struct out otherwise stops here: each size is the sum of its fields. */
 RECKONSTILE_ASSERT(sizeof(size_t) == 8, "reckonstile: 64-bit targets only");
 RECKONSTILE_ASSERT(sizeof(struct reckonstile_settings) == 32 && offsetof(struct reckonstile_settings, left) == 28, "reckonstile: layout of settings");
@@ -213,6 +249,10 @@ RECKONSTILE_ASSERT(sizeof(struct reckonstile_reply_answer) == 56 && offsetof(str
 RECKONSTILE_ASSERT(sizeof(struct reckonstile_decoded) == 56 && offsetof(struct reckonstile_decoded, mode) == 40 &&
                    offsetof(struct reckonstile_decoded, untrusted) == 55, "reckonstile: layout of a decoded reply");
 RECKONSTILE_ASSERT(sizeof(struct reckonstile_written) == 16, "reckonstile: layout of what is written");
+RECKONSTILE_ASSERT(sizeof(struct reckonstile_salvaged) == 296 && offsetof(struct reckonstile_salvaged, kept) == 8 &&
+                   offsetof(struct reckonstile_salvaged, places) == 40, "reckonstile: layout of a salvage's report");
+RECKONSTILE_ASSERT(sizeof(struct reckonstile_calendar_answer) == 16 && offsetof(struct reckonstile_calendar_answer, place) == 8,
+                   "reckonstile: layout of a calendar's answer");
 
 /* ---- calls */
 
@@ -227,6 +267,15 @@ uint32_t reckonstile_blank(struct reckonstile_association *a);
    it), and without NTS the list is not read.
    0 made; 30 a setting is outside its range, or a code of no kind; 33 with NTS, the list is broken. On 30 and 33 the record is blank. */
 uint32_t reckonstile_new(struct reckonstile_association *a, struct reckonstile_settings settings, const uint8_t *list, size_t list_len);
+
+/* The same for a link that is paid by the packet: the settings and the list have to meet the metered profile besides, and the record is then the one that
+   reckonstile_new makes. No poll that its timer sends has an exponent below 8.
+   0 made; 30 and 33 as reckonstile_new; then the first rule of the profile that is broken: 34 min is below 8; 35 startup is over 3; 36 start is
+   RECKONSTILE_UPGRADING; 37 with NTS, a cookie of the list has over 100 bytes. On every number but 0 the record is blank. */
+uint32_t reckonstile_metered(struct reckonstile_association *a, struct reckonstile_settings settings, const uint8_t *list, size_t list_len);
+
+/* The number that reckonstile_metered gives for these settings and this list. */
+uint32_t reckonstile_profile(struct reckonstile_settings settings, const uint8_t *list, size_t list_len);
 
 /* It is time to poll. `desired` is the poll exponent that the clock steering asks for; it is raised to what the source asks for, and not held to the limits
    of the settings. `id` and `uid` are fresh random bits (uid counts only with NTS). With NTS the cookie to send is written to the buffer, which has room for
@@ -264,6 +313,28 @@ struct reckonstile_written reckonstile_collect(const uint8_t *decrypted, size_t 
    0 written; 50 V5, or a kind of no kind; 52 a cookie or a count that no request has; 51 the buffer is too short. */
 struct reckonstile_written reckonstile_write_request(uint8_t kind, int8_t poll, uint64_t id, uint64_t upgrademark, struct reckonstile_uid uid,
                                                      const uint8_t *cookie, size_t cookie_len, uint8_t asked, uint8_t *out, size_t room);
+
+/* A damaged cookie list, of which cheap flash has lost bytes, made clean: what is left of it is written to the buffer, as a list for reckonstile_new. Each
+   place is tried in turn. Where a mark (C0 0E), a length of two bytes and that many bytes fit, and the end or another mark follows, the record is kept and
+   reading goes on behind it; else one byte is skipped. A list without damage comes out byte for byte, and so does a clean list that is salvaged again. Bytes
+   of the buffer past the clean list stay as they were.
+   0 written; 70 the buffer is shorter than the damaged list, whatever would be written. */
+struct reckonstile_salvaged reckonstile_salvage(const uint8_t *list, size_t list_len, uint8_t *out, size_t room);
+
+/* Whether a calendar of polls keeps to a modem's cap. Entry k polls at minute m of the day, 0 to 1439, exactly if m modulo repeats[k] is starts[k]. Both
+   counts are of entries, not of bytes, and are the same: where they are not, the longer list counts, and a repeat that is missing is read as 0 (81), a start as
+   1440 (82). No entries are accepted.
+   In this order, each with the lowest entry or minute: 80 more than 64 entries; 81 a repeat is 0 or does not divide 1440; 82 a start is at or past its repeat;
+   83 a minute has more polls than the cap; 0 accepted. */
+struct reckonstile_calendar_answer reckonstile_check_calendar(uint8_t cap, const uint16_t *starts, size_t starts_count, const uint16_t *repeats,
+                                                              size_t repeats_count);
+
+/* A start for each entry, written to the buffer: the entries are placed one by one, each at the earliest start that fits behind those before. It does not
+   look back, so 84 may be given where another plan exists. What is planned, reckonstile_check_calendar accepts. Starts of the buffer past the plan stay as they
+   were. `room` is a number of starts, not of bytes.
+   In this order: 80; 81; 84 no start fits the entry that is named; 31 there is a plan, and room is below the number of entries; 0 written. On every number but
+   0 nothing is written. */
+struct reckonstile_calendar_answer reckonstile_plan_calendar(uint8_t cap, const uint16_t *repeats, size_t repeats_count, uint16_t *starts, size_t room);
 
 #ifdef __cplusplus
 }

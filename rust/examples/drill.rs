@@ -2,9 +2,9 @@
 //! logs without bad lines from standard input and answers a line at a time. What the drill does not show is looked at here: a refusal leaves record and buffer as they
 //! were, and nothing is written past what is handed out; else the answer ends with `CHANGED`.
 use reckonstile::{
-    collect, write_request, Association, Bloom, DecodedReply, Kisses, Measurement, NtpDuration, NtpInstant, NtpLeapIndicator,
-    NtpTimestamp, Packet, PollInterval, PollIntervalLimits, ProtocolVersion, Record, ReferenceId, SendKind, Settings, Times,
-    Uid,
+    check_calendar, collect, plan_calendar, salvage, write_request, Association, Bloom, CheckRefused, DecodedReply, Kisses,
+    Measurement, NtpDuration, NtpInstant, NtpLeapIndicator, NtpTimestamp, Packet, PlanRefused, PollInterval,
+    PollIntervalLimits, ProtocolVersion, Record, ReferenceId, SendKind, Settings, Times, Uid,
 };
 use std::collections::HashMap;
 use std::fmt::Write as _;
@@ -125,14 +125,14 @@ struct Drill {
 }
 
 impl Drill {
-    fn new(&mut self, p: &Pairs) -> String {
+    fn settings(p: &Pairs) -> Settings {
         let version = match p.text("start") {
             "v4" => ProtocolVersion::V4,
             "upgraded" => ProtocolVersion::UpgradedToV5,
             "v5" => ProtocolVersion::V5,
             upgrading => ProtocolVersion::V4UpgradingToV5 { tries_left: number(&upgrading["upgrading:".len()..]) },
         };
-        let settings = Settings {
+        Settings {
             poll_interval_limits: PollIntervalLimits {
                 min: PollInterval::new(p.number("min")),
                 max: PollInterval::new(p.number("max")),
@@ -143,8 +143,11 @@ impl Drill {
             version,
             nts: p.text("nts") == "yes",
             source: ReferenceId::from_bits(p.bits("source") as u32),
-        };
-        match Association::new(&settings, &p.bytes("list")) {
+        }
+    }
+
+    fn new(&mut self, p: &Pairs) -> String {
+        match Association::new(&Self::settings(p), &p.bytes("list")) {
             Ok(a) => {
                 self.a = a;
                 "new 0".into()
@@ -154,6 +157,24 @@ impl Drill {
                 format!("new {}", refused.number())
             }
         }
+    }
+
+    fn metered(&mut self, p: &Pairs) -> String {
+        match Association::metered(&Self::settings(p), &p.bytes("list")) {
+            Ok(a) => {
+                self.a = a;
+                "metered 0".into()
+            }
+            Err(refused) => {
+                self.a = Association::from_record(Record::BLANK);
+                format!("metered {}", refused.number())
+            }
+        }
+    }
+
+    fn profile(&mut self, p: &Pairs) -> String {
+        let number = Association::profile(&Self::settings(p), &p.bytes("list")).map_or_else(|refused| refused.number(), |()| 0);
+        format!("profile {number}")
     }
 
     fn timer(&mut self, p: &Pairs) -> String {
@@ -298,6 +319,73 @@ impl Drill {
         }
     }
 
+    fn salvage(p: &Pairs) -> String {
+        let mut out = vec![FILL; number(p.or("room", "4096"))];
+        let said = match salvage(&p.bytes("list"), &mut out) {
+            Ok(s) => {
+                let places: Vec<String> = s.places().iter().map(ToString::to_string).collect();
+                let at = if places.is_empty() { "-".into() } else { places.join(",") };
+                let line =
+                    format!("salvage 0 kept={} skipped={} gaps={} at={at} list={}", s.kept, s.skipped, s.gaps, hex(s.list));
+                Ok((line, s.list.len()))
+            }
+            Err(refused) => Err(refused.number()),
+        };
+        match said {
+            Ok((line, length)) => line + kept(filled(&out[length..])),
+            Err(number) => format!("salvage {number}{}", kept(filled(&out))),
+        }
+    }
+
+    fn calendar(p: &Pairs) -> String {
+        let (starts, repeats): (Vec<u16>, Vec<u16>) = match p.text("entries") {
+            "-" => Default::default(),
+            entries => entries
+                .split(',')
+                .map(|entry| entry.split_once('/').expect("a stroke"))
+                .map(|(start, repeat)| (number::<u16>(start), number::<u16>(repeat)))
+                .unzip(),
+        };
+        match check_calendar(p.number("cap"), &starts, &repeats) {
+            Ok(()) => "calendar 0".into(),
+            Err(refused) => {
+                let place = match refused {
+                    CheckRefused::BadRepeat { entry } | CheckRefused::LateStart { entry } => format!(" entry={entry}"),
+                    CheckRefused::OverCap { minute } => format!(" minute={minute}"),
+                    _ => String::new(),
+                };
+                format!("calendar {}{place}", refused.number())
+            }
+        }
+    }
+
+    fn plan(p: &Pairs) -> String {
+        let repeats: Vec<u16> = match p.text("repeats") {
+            "-" => Vec::new(),
+            repeats => repeats.split(',').map(number).collect(),
+        };
+        // One start more than there are repeats: the last stays as it was.
+        let mut buffer = vec![u16::MAX; repeats.len() + 1];
+        let said = match plan_calendar(p.number("cap"), &repeats, &mut buffer) {
+            Ok(starts) => {
+                let starts: Vec<String> = starts.iter().map(ToString::to_string).collect();
+                let line = format!("plan 0 starts={}", if starts.is_empty() { "-".into() } else { starts.join(",") });
+                Ok((line, starts.len()))
+            }
+            Err(refused) => {
+                let place = match refused {
+                    PlanRefused::BadRepeat { entry } | PlanRefused::NoFit { entry } => format!(" entry={entry}"),
+                    _ => String::new(),
+                };
+                Err(format!("plan {}{place}", refused.number()))
+            }
+        };
+        match said {
+            Ok((line, count)) => line + kept(buffer[count..].iter().all(|start| *start == u16::MAX)),
+            Err(line) => line + kept(buffer.iter().all(|start| *start == u16::MAX)),
+        }
+    }
+
     fn show(&self) -> String {
         let Record { stash, state, .. } = self.a.record();
         let version = match state.version {
@@ -374,12 +462,17 @@ impl Drill {
         let p = Pairs(words.map(|word| word.split_once('=').expect("a pair")).collect());
         match command {
             "new" => self.new(&p),
+            "metered" => self.metered(&p),
+            "profile" => self.profile(&p),
             "timer" => self.timer(&p),
             "reply" => self.reply(&p),
             "reply5" => self.reply5(&p),
             "accept" => self.accept(&p),
             "collect" => Drill::collect(&p),
             "request" => Drill::request(&p),
+            "salvage" => Drill::salvage(&p),
+            "calendar" => Drill::calendar(&p),
+            "plan" => Drill::plan(&p),
             "show" => self.show(),
             "cookies" => self.cookies(),
             "poke" => self.poke(&p),

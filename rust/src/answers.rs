@@ -60,6 +60,25 @@ numbered! {
 }
 
 numbered! {
+    /// Why there is no metered association: the first rule of the profile for links that are paid by the packet that settings or cookie list break.
+    ///
+    /// ```
+    /// use reckonstile::{Association, MeteredRefused, Settings};
+    /// let refused = Association::metered(&Settings::default(), &[]).unwrap_err();
+    /// assert_eq!((refused, refused.number()), (MeteredRefused::LowPollMin, 34));
+    /// assert_eq!(Association::profile(&Settings::default(), &[]), Err(refused));
+    /// ```
+    MeteredRefused {
+        Settings = 30, "a setting is outside its range";
+        BrokenList = 33, "with NTS, the cookie list is broken";
+        LowPollMin = 34, "the lower poll limit is below 8";
+        HighStartup = 35, "the startup limit is over 3";
+        UpgradingStart = 36, "the start version is upgrading";
+        LongCookie = 37, "with NTS, a cookie of the first list has over 100 bytes";
+    }
+}
+
+numbered! {
     /// Why the timer sends nothing.
     ///
     /// ```
@@ -143,6 +162,103 @@ numbered! {
         VersionFive = 50, "V5 requests are the caller's to write";
         ShortBuffer = 51, "the buffer is too short";
         CookieOrCount = 52, "with NTS, a cookie over 724 bytes, or not 1 to 8 new ones asked for";
+    }
+}
+
+numbered! {
+    /// Why a cookie list is not salvaged; nothing is written.
+    ///
+    /// ```
+    /// use reckonstile::{salvage, SalvageRefused};
+    /// assert_eq!(salvage(&[1, 2, 3], &mut [0; 2]).unwrap_err(), SalvageRefused::ShortBuffer);
+    /// assert_eq!(SalvageRefused::ShortBuffer.number(), 70);
+    /// ```
+    SalvageRefused {
+        ShortBuffer = 70, "the buffer is shorter than the damaged list";
+    }
+}
+
+/// Makes an enum of a calendar's refusals, from one table: of each the number, the entry or minute that it names where it names one, and its words.
+macro_rules! naming {
+    ($(#[$meta:meta])* $name:ident { $($variant:ident $({ $place:ident })? = $number:literal, $words:literal;)* }) => {
+        $(#[$meta])*
+        #[derive(Clone, Copy, Debug, PartialEq, Eq, Hash)]
+        #[non_exhaustive]
+        #[must_use]
+        pub enum $name {
+            $(
+                #[doc = concat!("**", stringify!($number), "**: ", $words, ".")]
+                $variant $({
+                    #[doc = concat!("The lowest such ", stringify!($place), ", counted from 0.")]
+                    $place: usize,
+                })?,
+            )*
+            /// A number that this crate does not know: the library is of another version.
+            Other(u32),
+        }
+
+        impl $name {
+            pub(crate) const fn from_answer(answer: &ffi::Scheduled) -> Self {
+                match answer.number {
+                    $($number => $name::$variant $({ $place: answer.place })?,)*
+                    other => $name::Other(other),
+                }
+            }
+
+            /// The number of this answer.
+            #[must_use]
+            pub const fn number(self) -> u32 {
+                match self {
+                    $($name::$variant $({ $place: _ })? => $number,)*
+                    $name::Other(other) => other,
+                }
+            }
+        }
+
+        impl fmt::Display for $name {
+            fn fmt(&self, f: &mut fmt::Formatter<'_>) -> fmt::Result {
+                match self {
+                    $($name::$variant $({ $place })? => {
+                        $(write!(f, concat!(stringify!($place), " {}: "), $place)?;)?
+                        write!(f, "{} ({})", $words, $number)
+                    })*
+                    $name::Other(other) => write!(f, "a number of another version of the library ({other})"),
+                }
+            }
+        }
+    };
+}
+
+naming! {
+    /// Why a calendar is not accepted.
+    ///
+    /// ```
+    /// use reckonstile::{check_calendar, CheckRefused};
+    /// let refused = check_calendar(1, &[15, 15], &[60, 60]).unwrap_err();
+    /// assert_eq!((refused, refused.number()), (CheckRefused::OverCap { minute: 15 }, 83));
+    /// assert_eq!(refused.to_string(), "minute 15: more polls than the cap (83)");
+    /// ```
+    CheckRefused {
+        TooMany = 80, "more than 64 entries";
+        BadRepeat { entry } = 81, "a repeat that is 0 or does not divide 1440";
+        LateStart { entry } = 82, "a start at or past its repeat";
+        OverCap { minute } = 83, "more polls than the cap";
+    }
+}
+
+naming! {
+    /// Why there is no plan; nothing is written.
+    ///
+    /// ```
+    /// use reckonstile::{plan_calendar, PlanRefused};
+    /// let refused = plan_calendar(1, &[4, 4, 2], &mut [0; 3]).unwrap_err();
+    /// assert_eq!((refused, refused.number()), (PlanRefused::NoFit { entry: 2 }, 84));
+    /// ```
+    PlanRefused {
+        TooMany = 80, "more than 64 entries";
+        BadRepeat { entry } = 81, "a repeat that is 0 or does not divide 1440";
+        NoFit { entry } = 84, "no start fits behind those placed before";
+        ShortBuffer = 31, "the buffer has fewer starts than there are entries";
     }
 }
 
@@ -350,11 +466,18 @@ impl Measurement {
 
 #[cfg(feature = "std")]
 mod errors {
-    use super::{AcceptRefused, CollectRefused, NewRefused, ReplyRefused, RequestRefused, TimerRefused};
+    use super::{
+        AcceptRefused, CheckRefused, CollectRefused, MeteredRefused, NewRefused, PlanRefused, ReplyRefused, RequestRefused,
+        SalvageRefused, TimerRefused,
+    };
+    impl std::error::Error for MeteredRefused {}
     impl std::error::Error for NewRefused {}
     impl std::error::Error for TimerRefused {}
     impl std::error::Error for ReplyRefused {}
     impl std::error::Error for AcceptRefused {}
     impl std::error::Error for CollectRefused {}
     impl std::error::Error for RequestRefused {}
+    impl std::error::Error for SalvageRefused {}
+    impl std::error::Error for CheckRefused {}
+    impl std::error::Error for PlanRefused {}
 }

@@ -1,7 +1,7 @@
 //! The association and its calls.
 use crate::answers::{
-    AcceptRefused, CollectRefused, Measurement, NewRefused, NtpLeapIndicator, Poll, ReplyRefused, RequestRefused, SendKind,
-    TimerRefused,
+    AcceptRefused, CollectRefused, Measurement, MeteredRefused, NewRefused, NtpLeapIndicator, Poll, ReplyRefused,
+    RequestRefused, SendKind, TimerRefused,
 };
 use crate::ffi::{self, Record};
 use crate::time::{NtpDuration, NtpInstant, NtpTimestamp, PollInterval, PollIntervalLimits};
@@ -373,6 +373,30 @@ impl Association {
         match ffi::new(&mut record, settings.numbers(), list) {
             0 => Ok(Association { record }),
             number => Err(NewRefused::from_number(number)),
+        }
+    }
+
+    /// A new association for a link that is paid by the packet (0): the one that [`Association::new`] makes, where settings and list meet the metered profile.
+    /// No poll that it sends has an exponent below 8.
+    ///
+    /// # Errors
+    /// [`MeteredRefused`]: 30, 33 to 37.
+    pub fn metered(settings: &Settings, list: &[u8]) -> Result<Self, MeteredRefused> {
+        let mut record = Record::BLANK;
+        match ffi::metered(&mut record, settings.numbers(), list) {
+            0 => Ok(Association { record }),
+            number => Err(MeteredRefused::from_number(number)),
+        }
+    }
+
+    /// Whether settings and list meet the metered profile, as [`Association::metered`] would say.
+    ///
+    /// # Errors
+    /// [`MeteredRefused`]: 30, 33 to 37.
+    pub fn profile(settings: &Settings, list: &[u8]) -> Result<(), MeteredRefused> {
+        match ffi::profile(settings.numbers(), list) {
+            0 => Ok(()),
+            number => Err(MeteredRefused::from_number(number)),
         }
     }
 

@@ -185,6 +185,26 @@ pub(crate) struct Written {
     pub length: usize,
 }
 
+#[repr(C)]
+#[derive(Clone, Copy)]
+pub(crate) struct Salvaged {
+    pub number: u32,
+    pub told: u32,
+    pub kept: usize,
+    pub skipped: usize,
+    pub gaps: usize,
+    pub length: usize,
+    pub places: [usize; 32],
+}
+
+#[repr(C)]
+#[derive(Clone, Copy, Default)]
+pub(crate) struct Scheduled {
+    pub number: u32,
+    pub named: u32,
+    pub place: usize,
+}
+
 // The layout that the library has; another one stops the build. `tests/embed` holds the header to the same numbers and to the library's own answers.
 const _: () = {
     assert!(size_of::<Settings>() == 32 && offset_of!(Settings, left) == 28);
@@ -205,14 +225,18 @@ const _: () = {
     assert!(size_of::<Replied>() == 56 && offset_of!(Replied, delay) == 8);
     assert!(size_of::<Decoded>() == 56 && offset_of!(Decoded, mode) == 40 && offset_of!(Decoded, untrusted) == 55);
     assert!(size_of::<Written>() == 16 && offset_of!(Written, length) == 8);
+    assert!(size_of::<Salvaged>() == 296 && offset_of!(Salvaged, kept) == 8 && offset_of!(Salvaged, places) == 40);
+    assert!(size_of::<Scheduled>() == 16 && offset_of!(Scheduled, place) == 8);
 };
 
 mod c {
-    use super::{Decoded, Record, Replied, Settings, Timed, Uid, Written};
+    use super::{Decoded, Record, Replied, Salvaged, Scheduled, Settings, Timed, Uid, Written};
     extern "C" {
         pub fn reckonstile_size() -> usize;
         pub fn reckonstile_align() -> usize;
         pub fn reckonstile_new(a: *mut Record, settings: Settings, list: *const u8, list_len: usize) -> u32;
+        pub fn reckonstile_metered(a: *mut Record, settings: Settings, list: *const u8, list_len: usize) -> u32;
+        pub fn reckonstile_profile(settings: Settings, list: *const u8, list_len: usize) -> u32;
         pub fn reckonstile_timer(
             a: *mut Record,
             time: u64,
@@ -258,6 +282,21 @@ mod c {
             out: *mut u8,
             room: usize,
         ) -> Written;
+        pub fn reckonstile_salvage(list: *const u8, list_len: usize, out: *mut u8, room: usize) -> Salvaged;
+        pub fn reckonstile_check_calendar(
+            cap: u8,
+            starts: *const u16,
+            starts_count: usize,
+            repeats: *const u16,
+            repeats_count: usize,
+        ) -> Scheduled;
+        pub fn reckonstile_plan_calendar(
+            cap: u8,
+            repeats: *const u16,
+            repeats_count: usize,
+            starts: *mut u16,
+            room: usize,
+        ) -> Scheduled;
     }
 }
 
@@ -270,6 +309,16 @@ pub(crate) fn layout() -> (usize, usize) {
 pub(crate) fn new(a: &mut Record, settings: Settings, list: &[u8]) -> u32 {
     // SAFETY: `a` is lent exclusively; `list` is a pointer that is not null and its length.
     unsafe { c::reckonstile_new(a, settings, list.as_ptr(), list.len()) }
+}
+
+pub(crate) fn metered(a: &mut Record, settings: Settings, list: &[u8]) -> u32 {
+    // SAFETY: `a` is lent exclusively; `list` is a pointer that is not null and its length.
+    unsafe { c::reckonstile_metered(a, settings, list.as_ptr(), list.len()) }
+}
+
+pub(crate) fn profile(settings: Settings, list: &[u8]) -> u32 {
+    // SAFETY: `list` is a pointer that is not null and its length, and nothing is written.
+    unsafe { c::reckonstile_profile(settings, list.as_ptr(), list.len()) }
 }
 
 pub(crate) fn timer(a: &mut Record, time: u64, desired: i8, id: u64, uid: [u8; 32], buffer: &mut [u8]) -> Timed {
@@ -347,4 +396,19 @@ pub(crate) fn write_request(
             out.len(),
         )
     }
+}
+
+pub(crate) fn salvage(list: &[u8], out: &mut [u8]) -> Salvaged {
+    // SAFETY: `out` is lent exclusively, so it does not overlap with the list; no more than its length is written.
+    unsafe { c::reckonstile_salvage(list.as_ptr(), list.len(), out.as_mut_ptr(), out.len()) }
+}
+
+pub(crate) fn check_calendar(cap: u8, starts: &[u16], repeats: &[u16]) -> Scheduled {
+    // SAFETY: both are only read; the lengths count their numbers, as the call wants it.
+    unsafe { c::reckonstile_check_calendar(cap, starts.as_ptr(), starts.len(), repeats.as_ptr(), repeats.len()) }
+}
+
+pub(crate) fn plan_calendar(cap: u8, repeats: &[u16], starts: &mut [u16]) -> Scheduled {
+    // SAFETY: `starts` is lent exclusively, so it does not overlap with the repeats; no more than its length, in numbers, is written.
+    unsafe { c::reckonstile_plan_calendar(cap, repeats.as_ptr(), repeats.len(), starts.as_mut_ptr(), starts.len()) }
 }

@@ -24,10 +24,11 @@ mod answers;
 mod association;
 mod ffi;
 mod time;
+mod tools;
 
 pub use answers::{
-    AcceptRefused, Action, CollectRefused, Measurement, NewRefused, NtpLeapIndicator, Poll, ReplyRefused, RequestRefused,
-    SendKind, TimerRefused,
+    AcceptRefused, Action, CheckRefused, CollectRefused, Measurement, MeteredRefused, NewRefused, NtpLeapIndicator,
+    PlanRefused, Poll, ReplyRefused, RequestRefused, SalvageRefused, SendKind, TimerRefused,
 };
 pub use association::{
     collect, cookie_list, layout, write_request, Association, Bloom, DecodedReply, Kisses, Packet, ProtocolVersion,
@@ -35,6 +36,7 @@ pub use association::{
 };
 pub use ffi::Record;
 pub use time::{NtpDuration, NtpInstant, NtpTimestamp, PollInterval, PollIntervalLimits};
+pub use tools::{check_calendar, plan_calendar, salvage, Salvaged, ENTRIES};
 
 /// The parts of a [`Record`].
 pub mod record {

@@ -1,7 +1,8 @@
 //! The crate's own words, held to what docs/CALLERS.md and the cases of RULES say; the behaviour behind them is held to the drill by `tests/embed`.
 use reckonstile::{
-    cookie_list, Action, Association, Bloom, NewRefused, NtpInstant, NtpTimestamp, Packet, PollInterval, ProtocolVersion,
-    Record, ReferenceId, ReplyRefused, RequestRefused, SendKind, Settings, TimerRefused, Times, COOKIE_BYTES, REQUEST_BYTES,
+    check_calendar, cookie_list, plan_calendar, salvage, Action, Association, Bloom, CheckRefused, NewRefused, NtpInstant,
+    NtpTimestamp, Packet, PlanRefused, PollInterval, ProtocolVersion, Record, ReferenceId, ReplyRefused, RequestRefused,
+    SalvageRefused, SendKind, Settings, TimerRefused, Times, COOKIE_BYTES, ENTRIES, REQUEST_BYTES,
 };
 use std::time::{Duration, SystemTime, UNIX_EPOCH};
 
@@ -143,4 +144,60 @@ fn an_association_may_go_to_another_thread() {
     let mut a = Association::new(&Settings::default(), &[]).unwrap();
     let kind = std::thread::spawn(move || tick(&mut a, 0, 1)).join().unwrap();
     assert_eq!(kind, Ok(SendKind::V4));
+}
+
+#[test]
+fn a_damaged_list_starts_an_association() {
+    let mut list = [0; 64];
+    let length = cookie_list([&[1; 20][..], &[2; 20]], &mut list).unwrap();
+    let settings = Settings { nts: true, ..Settings::default() };
+    list[2] = 9; // the length of the first cookie, which no longer fits
+    assert_eq!(Association::new(&settings, &list[..length]).unwrap_err(), NewRefused::BrokenList);
+    let mut out = [0xEE; 64];
+    let salvaged = salvage(&list[..length], &mut out).unwrap();
+    assert_eq!((salvaged.kept, salvaged.skipped, salvaged.gaps, salvaged.places()), (1, 24, 1, &[0][..]));
+    assert_eq!(salvaged.list, &list[24..length]);
+    assert_eq!(Association::new(&settings, salvaged.list).unwrap().cookies(), 1);
+    assert_eq!(out[24..], [0xEE; 40]);
+    assert_eq!(salvage(&list[..length], &mut out[..length - 1]).unwrap_err(), SalvageRefused::ShortBuffer);
+}
+
+#[test]
+fn places_are_told_of_32_gaps() {
+    // A stray byte before each of 40 records: a record before a stray byte is not kept, so that all but the last is lost, in one gap.
+    let one = [0xFF, 0xC0, 0x0E, 0, 0];
+    let mut out = [0; 400];
+    let lost = salvage(&one.repeat(40), &mut out).unwrap();
+    assert_eq!((lost.kept, lost.skipped, lost.gaps, lost.places().len()), (1, 196, 1, 1));
+    // A stray byte before each two records keeps the first of them.
+    let two = [0xFF, 0xC0, 0x0E, 0, 0, 0xC0, 0x0E, 0, 0];
+    let kept = salvage(&two.repeat(40), &mut out).unwrap();
+    assert_eq!((kept.kept, kept.gaps, kept.places().len()), (41, 40, 32));
+    assert_eq!(kept.places()[..3], [0, 5, 14]);
+}
+
+#[test]
+fn a_calendar_names_its_faults() {
+    let hourly = [60u16; ENTRIES + 1];
+    let starts: [u16; ENTRIES + 1] = core::array::from_fn(|k| k as u16 % 60);
+    assert_eq!(check_calendar(1, &[], &[]), Ok(()));
+    assert_eq!(check_calendar(1, &starts[..60], &hourly[..60]), Ok(()));
+    assert_eq!(check_calendar(1, &starts[..61], &hourly[..61]), Err(CheckRefused::OverCap { minute: 0 }));
+    assert_eq!(check_calendar(2, &starts, &hourly), Err(CheckRefused::TooMany));
+    // Lists of unequal length: the first entry that lacks its repeat, or its start.
+    assert_eq!(check_calendar(1, &starts[..3], &hourly[..2]), Err(CheckRefused::BadRepeat { entry: 2 }));
+    assert_eq!(check_calendar(1, &starts[..2], &hourly[..3]), Err(CheckRefused::LateStart { entry: 2 }));
+    assert_eq!(CheckRefused::LateStart { entry: 2 }.to_string(), "entry 2: a start at or past its repeat (82)");
+}
+
+#[test]
+fn a_plan_is_written_whole_or_not_at_all() {
+    let mut starts = [7; 4];
+    assert_eq!(plan_calendar(1, &[4, 4, 2], &mut starts), Err(PlanRefused::NoFit { entry: 2 }));
+    assert_eq!(plan_calendar(1, &[4, 0], &mut starts), Err(PlanRefused::BadRepeat { entry: 1 }));
+    assert_eq!(plan_calendar(1, &[2, 4, 4], &mut starts[..2]), Err(PlanRefused::ShortBuffer));
+    assert_eq!(plan_calendar(1, &[60; ENTRIES + 1], &mut starts), Err(PlanRefused::TooMany));
+    assert_eq!(starts, [7; 4]);
+    assert_eq!(plan_calendar(1, &[2, 4, 4], &mut starts), Ok(&[0, 1, 3][..]));
+    assert_eq!(starts, [0, 1, 3, 7]);
 }

@@ -71,9 +71,7 @@ static uint8_t group(const char *key) {
 
 /* ---- the commands */
 
-static void new_(void) {
-    uint8_t list[MOST];
-    size_t n = bytes(or_text("list", "-"), list);
+static struct reckonstile_settings settings(void) {
     struct reckonstile_settings s;
     memset(&s, 0, sizeof s);
     s.window = natural(text("window"));
@@ -86,7 +84,25 @@ static void new_(void) {
     s.startup = (uint8_t)natural(text("startup"));
     s.min = (int8_t)integer(text("min"));
     s.max = (int8_t)integer(text("max"));
-    printf("new %" PRIu32 "\n", reckonstile_new(&a, s, list, n));
+    return s;
+}
+
+static void new_(void) {
+    uint8_t list[MOST];
+    size_t n = bytes(or_text("list", "-"), list);
+    printf("new %" PRIu32 "\n", reckonstile_new(&a, settings(), list, n));
+}
+
+static void metered(void) {
+    uint8_t list[MOST];
+    size_t n = bytes(or_text("list", "-"), list);
+    printf("metered %" PRIu32 "\n", reckonstile_metered(&a, settings(), list, n));
+}
+
+static void profile(void) {
+    uint8_t list[MOST];
+    size_t n = bytes(or_text("list", "-"), list);
+    printf("profile %" PRIu32 "\n", reckonstile_profile(settings(), list, n));
 }
 
 static void timer(void) {
@@ -203,6 +219,75 @@ static void request(void) {
                                       (uint8_t)natural(or_text("asked", "0")), out, natural(or_text("room", "6144"))));
 }
 
+/* ---- the tools, which have no record */
+
+static void salvage(void) {
+    static uint8_t list[MOST], out[MOST];
+    size_t n = bytes(text("list"), list);
+    memset(out, FILL, sizeof out);
+    struct reckonstile_salvaged s = reckonstile_salvage(list, n, out, natural(or_text("room", "4096")));
+    printf("salvage %" PRIu32, s.number);
+    if (s.number == RECKONSTILE_OK) {
+        printf(" kept=%zu skipped=%zu gaps=%zu at=", s.kept, s.skipped, s.gaps);
+        if (!s.told) putchar('-');
+        for (size_t k = 0; k < s.told; k++) printf("%s%zu", k ? "," : "", s.places[k]);
+        printf(" list=");
+        hex(out, s.length);
+    }
+    int zero = s.told == (s.gaps < RECKONSTILE_PLACES ? s.gaps : RECKONSTILE_PLACES) && (!s.number || (!s.kept && !s.skipped && !s.gaps && !s.length));
+    for (size_t k = s.told; k < RECKONSTILE_PLACES; k++) zero &= !s.places[k];
+    end(zero && filled(out + s.length, sizeof out - s.length) && same());
+}
+
+/* numbers joined by commas, each perhaps with a second one behind a stroke; how many there are */
+static size_t minutes(const char *s, uint16_t *first, uint16_t *second) {
+    size_t n = 0;
+    if (!strcmp(s, "-")) return 0;
+    for (;; s++) {
+        char *rest;
+        if (n == MOST) die("too many entries", s);
+        first[n] = (uint16_t)strtoul(s, &rest, 10);
+        if (second) second[n] = (uint16_t)strtoul(rest + 1, NULL, 10);
+        n++;
+        if (!(s = strchr(s, ','))) return n;
+    }
+}
+
+static void scheduled(const char *word, struct reckonstile_calendar_answer r) {
+    printf("%s %" PRIu32, word, r.number);
+    if (r.named) printf(" %s=%zu", r.number == RECKONSTILE_OVER_CAP ? "minute" : "entry", r.place);
+}
+
+static void calendar(void) {
+    static uint16_t starts[MOST], repeats[MOST];
+    size_t n = minutes(text("entries"), starts, repeats);
+    struct reckonstile_calendar_answer r = reckonstile_check_calendar((uint8_t)natural(text("cap")), starts, n, repeats, n);
+    scheduled("calendar", r);
+    end((r.named || !r.place) && same());
+}
+
+static void plan(void) {
+    static uint16_t starts[MOST], repeats[MOST];
+    uint8_t cap = (uint8_t)natural(text("cap"));
+    size_t n = minutes(text("repeats"), repeats, NULL);
+    memset(starts, FILL, sizeof starts);
+    struct reckonstile_calendar_answer r = reckonstile_plan_calendar(cap, repeats, n, starts, n);
+    size_t written = r.number == RECKONSTILE_OK ? n : 0;
+    scheduled("plan", r);
+    if (r.number == RECKONSTILE_OK) {
+        printf(" starts=%s", n ? "" : "-");
+        for (size_t k = 0; k < n; k++) printf("%s%u", k ? "," : "", (unsigned)starts[k]);
+    }
+    int right = filled((const uint8_t *)(starts + written), sizeof *starts * (MOST - written)) && (r.named || !r.place);
+    /* one start too few: 31 where there is a plan, and the same number where there is none; nothing is written */
+    if (n) {
+        memset(starts, FILL, sizeof starts);
+        struct reckonstile_calendar_answer less = reckonstile_plan_calendar(cap, repeats, n, starts, n - 1);
+        right &= less.number == (r.number ? r.number : RECKONSTILE_SHORT_BUFFER) && filled((const uint8_t *)starts, sizeof starts);
+    }
+    end(right && same());
+}
+
 static void show(void) {
     const struct reckonstile_state *s = &a.state;
     printf("record reach=%u tries=%u version=%s", (unsigned)s->reach, (unsigned)s->tries, versions[s->version]);
@@ -266,8 +351,8 @@ static void blank(void) { puts(reckonstile_blank(&a) == RECKONSTILE_OK ? "blank"
 
 int main(void) {
     static const struct { const char *word; void (*call)(void); } commands[] = {
-        { "new", new_ }, { "timer", timer }, { "reply", reply }, { "reply5", reply5 }, { "accept", accept_ }, { "collect", collect }, { "request", request },
-        { "show", show }, { "cookies", cookies }, { "poke", poke }, { "blank", blank },
+        { "new", new_ }, { "metered", metered }, { "profile", profile }, { "timer", timer }, { "reply", reply }, { "reply5", reply5 }, { "accept", accept_ }, { "collect", collect },
+        { "request", request }, { "salvage", salvage }, { "calendar", calendar }, { "plan", plan }, { "show", show }, { "cookies", cookies }, { "poke", poke }, { "blank", blank },
     };
     static char line[65536];
     reckonstile_blank(&a);

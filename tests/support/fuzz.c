@@ -1,6 +1,7 @@
 /* Any bytes whatever as a record: random ones, and records that calls have made with bytes of them changed. Each call gives 32 exactly where the record is not whole
    (the test below is written from docs/CALLERS.md's papers, not from the library), or a number of its own; what it must not change stays: the whole record after 32 and
-   the other refusals, the settings always, and the bytes around the record and the buffers. fuzz SEED ROUNDS */
+   the other refusals, the settings always, and the bytes around the record and the buffers. The tools, which have no record, are held to a second reading of their rules
+   on random damaged lists, calendars and plans. fuzz SEED ROUNDS */
 #include "reckonstile.h"
 #include <stdio.h>
 #include <stdlib.h>
@@ -139,6 +140,91 @@ static size_t packet_of(uint8_t *packet) {
     return n;
 }
 
+/* ---- the tools: what they say, against a second reading of docs/RULES.md, No. 9 and No. 13 */
+
+static int marked(const uint8_t *l, size_t n, size_t at) { return n - at >= 2 && l[at] == 0xC0 && l[at + 1] == 0x0E; }
+static size_t kept_end(const uint8_t *l, size_t n, size_t at) { /* where the record that is kept at a place ends; 0 where there is none */
+    if (n - at < 4 || !marked(l, n, at)) return 0;
+    size_t end = at + 4 + ((size_t)l[at + 2] << 8 | l[at + 3]);
+    return end <= n && (end == n || marked(l, n, end)) ? end : 0;
+}
+static void salvaged(void) {
+    static uint8_t list[1024], clean[1024];
+    size_t n = list_of(list, below(2) ? sizeof list : 40), room, length = 0, kept = 0, gaps = 0, places[RECKONSTILE_PLACES] = { 0 };
+    for (uint64_t k = below(4) ? below(4) : below(200); n && k; k--) list[below(n)] = (uint8_t)(below(2) ? next() : below(2) ? 0xC0 : 0x0E);
+    room = below(8) ? n + below(100) : below(n + 1);
+    for (size_t at = 0, gap = 0, end; at < n;) {
+        if ((end = kept_end(list, n, at))) {
+            memcpy(clean + length, list + at, end - at);
+            length += end - at;
+            kept++;
+            at = end;
+            gap = 0;
+        } else {
+            if (!gap && gaps++ < RECKONSTILE_PLACES) places[gaps - 1] = at;
+            gap = 1;
+            at++;
+        }
+    }
+    memset(out.bytes, 0xAA, sizeof out.bytes);
+    struct reckonstile_salvaged s = reckonstile_salvage(list, n, out.bytes, room);
+    int refused = room < n, right = s.number == (refused ? 70 : 0), untouched = 1;
+    if (refused) length = kept = gaps = 0, memset(places, 0, sizeof places);
+    right &= s.kept == kept && s.skipped == (refused ? 0 : n - length) && s.gaps == gaps && s.told == (gaps < RECKONSTILE_PLACES ? gaps : RECKONSTILE_PLACES) && s.length == length;
+    expect(right && !memcmp(s.places, places, sizeof places) && !memcmp(out.bytes, clean, length), "salvage", s.number);
+    for (size_t i = length; i < sizeof out.bytes; i++) untouched &= out.bytes[i] == 0xAA;
+    expect(untouched, "salvage: the buffer past the clean list changed", s.number);
+}
+
+static const uint16_t divisors[] = { 1, 2, 3, 4, 5, 6, 8, 9, 10, 12, 15, 16, 18, 20, 24, 30, 60, 90, 144, 720, 1440 };
+static unsigned polls(const uint16_t *starts, const uint16_t *repeats, size_t n, unsigned minute) {
+    unsigned count = 0;
+    for (size_t k = 0; k < n; k++) count += minute % repeats[k] == starts[k];
+    return count;
+}
+static uint32_t fits(uint8_t cap, const uint16_t *starts, const uint16_t *repeats, size_t n, size_t *place) {
+    *place = 0;
+    if (n > RECKONSTILE_ENTRIES) return 80;
+    for (size_t k = 0; k < n; k++)
+        if (!repeats[k] || 1440 % repeats[k]) return *place = k, 81;
+    for (size_t k = 0; k < n; k++)
+        if (starts[k] >= repeats[k]) return *place = k, 82;
+    for (unsigned m = 0; m < 1440; m++)
+        if (polls(starts, repeats, n, m) > cap) return *place = m, 83;
+    return 0;
+}
+static void scheduled(void) {
+    static uint16_t starts[130], repeats[130];
+    size_t n = below(16) ? below(6) : below(130), place, at;
+    uint8_t cap = (uint8_t)(below(4) ? below(4) : next());
+    for (size_t k = 0; k < n; k++) {
+        repeats[k] = below(64) ? divisors[below(sizeof divisors / sizeof *divisors)] : (uint16_t)next();
+        starts[k] = (uint16_t)(repeats[k] && below(64) ? below(repeats[k]) : next());
+    }
+    uint32_t number = fits(cap, starts, repeats, n, &place);
+    struct reckonstile_calendar_answer r = reckonstile_check_calendar(cap, starts, n, repeats, n);
+    expect(r.number == number && r.place == place && r.named == (number >= 81), "check_calendar", r.number);
+
+    /* a plan is accepted, and each of its starts is the earliest that fits behind those before; the buffer is as it was but for the plan */
+    size_t room = below(8) ? n + below(4) : below(n + 1);
+    for (size_t k = 0; k < 130; k++) starts[k] = 0xAAAA;
+    r = reckonstile_plan_calendar(cap, repeats, n, starts, room);
+    int right = r.number == 0 || r.number == 31 || r.number == 80 || r.number == 81 || r.number == 84, untouched = 1;
+    for (size_t k = r.number ? 0 : n; k < 130; k++) untouched &= starts[k] == 0xAAAA;
+    if (r.number == 0) {
+        right &= room >= n && !fits(cap, starts, repeats, n, &at);
+        for (size_t k = 0; k < n && k < 6; k++) {
+            uint16_t was = starts[k];
+            for (starts[k] = 0; starts[k] < was; starts[k]++) right &= fits(cap, starts, repeats, k + 1, &at) == 83;
+        }
+    } else if (r.number == 31)
+        right &= room < n;
+    else if (r.number != 84)
+        right &= number == r.number && place == r.place;
+    expect(right && r.named == (r.number > 80) && (r.named || !r.place), "plan_calendar", r.number);
+    expect(untouched, "plan_calendar: the buffer past the plan changed", r.number);
+}
+
 int main(int argc, char **argv) {
     if (argc != 3) {
         fprintf(stderr, "usage: fuzz SEED ROUNDS\n");
@@ -201,12 +287,22 @@ int main(int argc, char **argv) {
         expect(settings_kept() && (is_whole ? n <= 11 || n == 33 : n == 32) && (!is_whole || whole(&lent.a)), "reply_decoded", n);
         expect(n == 0 || (n >= 5 && n <= 11) || kept(), "reply_decoded: a refusal changed the record", n);
 
+        salvaged();
+        if (!below(16)) scheduled();
+
         /* settings of any kind: made and whole, or blank */
         struct reckonstile_settings s = before.settings;
         n = reckonstile_new(&lent.a, s, list, list_len);
         int good = version_ok(s.start, s.left) && s.nts <= 1 && settings_ok(&s);
         expect(good ? n == 0 || (n == 33 && s.nts) : n == 30, "new", n);
         expect(n == 0 ? whole(&lent.a) && settings_kept() : zeros((const uint8_t *)&lent.a, sizeof lent.a), "new's record", n);
+
+        /* the same for a metered link: the plain record where the profile is met, and the check's number */
+        struct reckonstile_association plain = lent.a;
+        uint32_t told = reckonstile_profile(s, list, list_len), m = reckonstile_metered(&lent.a, s, list, list_len);
+        int slow = s.min >= 8 && s.startup <= 3 && s.start != RECKONSTILE_UPGRADING;
+        expect(m == told && (n != 0 ? m == n : m == 0 ? slow : m >= 34 && m <= 37 && (!slow || (m == 37 && s.nts))), "metered", m);
+        expect(m == 0 ? !memcmp(&lent.a, &plain, sizeof plain) : zeros((const uint8_t *)&lent.a, sizeof lent.a), "metered's record", m);
     }
     printf("%lu of the records were whole\n%lu passed, %lu failed\n", wholes, passed, failed);
     return failed != 0;

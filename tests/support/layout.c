@@ -162,6 +162,38 @@ int main(void) {
     a.state.reach = 0;
     EXPECT(reckonstile_accept(&a, 17, local, 0, RECKONSTILE_BLOOM_NONE) == RECKONSTILE_UNREACHABLE);
 
+    /* salvage: each field of the report in its place. A stray byte, two cookies, a head whose length does not fit, a cookie. */
+    uint8_t damaged[] = { 7, 0xC0, 0x0E, 0, 3, 1, 2, 3, 0xC0, 0x0E, 0, 0, 0xC0, 0x0E, 9, 9, 0xC0, 0x0E, 0, 0 }, out[sizeof damaged];
+    memset(out, 0xEE, sizeof out);
+    struct reckonstile_salvaged v = reckonstile_salvage(damaged, sizeof damaged, out, sizeof out);
+    EXPECT(v.number == RECKONSTILE_OK && v.kept == 3 && v.skipped == 5 && v.gaps == 2 && v.told == 2 && v.length == 15 && v.places[0] == 0 && v.places[1] == 12 && v.places[31] == 0);
+    EXPECT(!memcmp(out, damaged + 1, 11) && !memcmp(out + 11, damaged + 16, 4) && out[15] == 0xEE);
+    v = reckonstile_salvage(damaged, sizeof damaged, out, sizeof out - 1);
+    EXPECT(v.number == RECKONSTILE_SALVAGE_ROOM && !v.kept && !v.skipped && !v.gaps && !v.told && !v.length && out[15] == 0xEE);
+
+    /* the calendar: the lists in their order, the numbers, and what each answer names */
+    uint16_t starts[] = { 0, 15, 1439 }, repeats[] = { 60, 720, 1440 }, same[] = { 0, 15, 15 }, hourly[] = { 60, 720, 60 }, zero[] = { 60, 0, 7 }, planned[] = { 7, 7, 7, 7 };
+    struct reckonstile_calendar_answer c = reckonstile_check_calendar(1, starts, 3, repeats, 3);
+    EXPECT(c.number == RECKONSTILE_OK && !c.named && !c.place);
+    c = reckonstile_check_calendar(1, starts, 3, zero, 3);
+    EXPECT(c.number == RECKONSTILE_BAD_REPEAT && c.named == 1 && c.place == 1);
+    c = reckonstile_check_calendar(1, repeats, 3, starts, 3);
+    EXPECT(c.number == RECKONSTILE_BAD_REPEAT && c.named == 1 && c.place == 0);
+    c = reckonstile_check_calendar(1, starts, 3, hourly, 3);
+    EXPECT(c.number == RECKONSTILE_LATE_START && c.named == 1 && c.place == 2);
+    c = reckonstile_check_calendar(1, same, 3, hourly, 3);
+    EXPECT(c.number == RECKONSTILE_OVER_CAP && c.named == 1 && c.place == 15);
+    c = reckonstile_check_calendar(1, starts, 3, repeats, 2);
+    EXPECT(c.number == RECKONSTILE_BAD_REPEAT && c.named == 1 && c.place == 2);
+    c = reckonstile_check_calendar(1, starts, 2, repeats, 3);
+    EXPECT(c.number == RECKONSTILE_LATE_START && c.named == 1 && c.place == 2);
+    c = reckonstile_plan_calendar(1, repeats, 3, planned, 4);
+    EXPECT(c.number == RECKONSTILE_OK && !c.named && planned[0] == 0 && planned[1] == 1 && planned[2] == 2 && planned[3] == 7);
+    c = reckonstile_plan_calendar(0, repeats, 3, planned, 4);
+    EXPECT(c.number == RECKONSTILE_NO_FIT && c.named == 1 && c.place == 0 && planned[3] == 7);
+    c = reckonstile_plan_calendar(1, repeats, 3, planned + 3, 1);
+    EXPECT(c.number == RECKONSTILE_SHORT_BUFFER && !c.named && !c.place && planned[3] == 7);
+
     printf("%d passed, %d failed\n", passed, failed);
     return failed != 0;
 }

@@ -39,10 +39,10 @@ class Logs:
         n = self.rng.choice((0, 1, 4, 20, 100, 100, 100, 104, 723, 724, 725, 1000) if self.rng.random() < 0.2 else (96, 100, 104, 180))
         return self.bytes(n)
 
-    def list(self):
+    def list(self, longest=1000):
         found = b''
         for _ in range(self.rng.choice((0, 1, 1, 2, 7, 8, 9))):
-            cookie = self.cookie_of()
+            cookie = self.cookie_of()[:longest]
             if len(found) + 4 + len(cookie) <= 4000:
                 found += b'\xc0\x0e' + len(cookie).to_bytes(2, 'big') + cookie
         if self.rng.random() < 0.04:  # broken, but where the cut is between two cookies
@@ -51,17 +51,19 @@ class Logs:
 
     # ---- commands
 
-    def new(self):
-        rng = self.rng
-        low = rng.choice((0, 4, 4, 6))
+    def new(self, word='new'):
+        """the keys of `new`, which are those of `metered` and `profile`; for these two they mostly meet the metered profile"""
+        rng, metered = self.rng, word != 'new'
+        low = rng.choice((8, 8, 8, 10, 7) if metered else (0, 4, 4, 6))
         good = rng.random() < 0.95
-        start = rng.choice(('v4', 'v4', 'v4', 'upgrading:8', 'upgrading:1', 'upgrading:0', 'upgraded', 'v5'))
+        start = rng.choice(('v4', 'v4', 'v4', 'upgraded', 'v5') + (('upgrading:8',) if metered else ('upgrading:8', 'upgrading:1', 'upgrading:0')))
         nts = rng.random() < 0.6
-        self.now = rng.choice((0, rng.randrange(10**12), MAX64 - 10**10))
-        return 'new min=%d max=%d startup=%d window=%d mark=%s start=%s nts=%s source=%08x list=%s' % (
-            low if good else rng.choice((-128, -1, 18, low)), rng.choice((low, 10, 17)) if good else rng.choice((18, 127, -1, 10)),
-            rng.choice((1, 3, 8)) if good else rng.choice((0, 9, 255, 3)), rng.choice((1, 5 * 10**9, 60 * 10**9)) if good else rng.choice((0, 60 * 10**9 + 1, MAX64)),
-            '4e54503544524654', start, 'yes' if nts else 'no', rng.choice((0, 1, 0x7f000001, 0xffffffff)), hexed(self.list()))
+        if word != 'profile':
+            self.now = rng.choice((0, rng.randrange(10**12), MAX64 - 10**10))
+        return word + ' min=%d max=%d startup=%d window=%d mark=%s start=%s nts=%s source=%08x list=%s' % (
+            low if good else rng.choice((-128, -1, 18, low)), rng.choice((low, max(low, 10), 17)) if good else rng.choice((18, 127, -1, 10)),
+            rng.choice((1, 3, 3, 3, 4) if metered else (1, 3, 8)) if good else rng.choice((0, 9, 255, 3)), rng.choice((1, 5 * 10**9, 60 * 10**9)) if good else rng.choice((0, 60 * 10**9 + 1, MAX64)),
+            '4e54503544524654', start, 'yes' if nts else 'no', rng.choice((0, 1, 0x7f000001, 0xffffffff)), hexed(self.list(100 if metered and rng.random() < 0.7 else 1000)))
 
     def timer(self):
         rng = self.rng
@@ -134,6 +136,30 @@ class Logs:
             rng.choice(('v4', 'v4-upgrade', 'v5', 'nts-v4', 'nts-v4', 'nts-v4', 'nts-v5')), rng.randint(-128, 127), self.bytes(8).hex(), self.bytes(8).hex(), self.bytes(32).hex(),
             hexed(cookie), rng.choice((0, 1, 3, 7, 8, 9, rng.randrange(256))), rng.choice((6144, 6144, 852, 47, 48, rng.randrange(1000))))
 
+    def salvage(self):
+        rng, damaged = self.rng, self.list()
+        for _ in range(rng.choice((0, 1, 1, 3, 40))):  # bytes lost, changed or put in
+            at = rng.randrange(len(damaged) + 1)
+            damaged = damaged[:at] + rng.choice((b'', b'\xc0', b'\xc0\x0e', self.bytes(1))) + damaged[at + rng.randrange(2):]
+        damaged = damaged[:4096]
+        return 'salvage list=%s room=%d' % (hexed(damaged), rng.choice((4096, len(damaged), max(len(damaged) - 1, 0))))
+
+    def repeats(self):
+        """mostly ones that divide 1440, the small ones more often: they crowd the day"""
+        rng = self.rng
+        few = (1, 2, 3, 4, 5, 6, 8, 9, 10, 12, 15, 16, 20, 60)
+        count = rng.choice((0, 64, 65, 128)) if rng.random() < 0.1 else rng.randrange(1, 12)
+        some = [rng.choice(few + (24, 30, 90, 144, 720, 1440)) if rng.random() < 0.99 else rng.choice((0, 7, 1441, 2880, 65535)) for _ in range(count)]
+        return [rng.choice((60, 720, 1440)) for _ in some] if count > 60 and rng.random() < 0.5 else some
+
+    def calendar(self):
+        rng = self.rng
+        entries = ['%d/%d' % (rng.randrange(r) if r and rng.random() < 0.99 else rng.choice((r, 1440, 65535)), r) for r in self.repeats()]
+        return 'calendar cap=%d entries=%s' % (rng.choice((0, 1, 1, 2, 3, 5, 64, 255)), ','.join(entries) or '-')
+
+    def plan(self):
+        return 'plan cap=%d repeats=%s' % (self.rng.choice((0, 1, 1, 2, 3, 5, 64, 255)), ','.join(map(str, self.repeats())) or '-')
+
     def poke(self):
         rng = self.rng
         key = rng.choice(('reach', 'tries', 'last', 'remote', 'stratum', 'refid', 'read', 'held', 'min', 'max', 'startup', 'window', 'id', 'uid', 'deadline', 'slotbyte'))
@@ -149,15 +175,15 @@ class Logs:
     # ---- a log
 
     def steps(self, count):
-        """lines of so many steps, each with what it leaves shown behind it; the first is a `new`"""
+        """lines of so many steps, each with what it leaves shown behind it; the first is a `new` or a `metered`"""
         rng, left = self.rng, 0
         for _ in range(count):
             if left == 0:
                 left = rng.choice((10, 30, 60))
-                line = self.new()
+                line = self.new(rng.choice(('new', 'new', 'metered')))
             else:
                 line = rng.choice((self.timer,) * 5 + (self.reply,) * 9 + (self.reply5,) * (8 if self.record.version[0] in ('upgraded', 'v5') else 1)
-                                  + (self.accept,) * 2 + (self.collect, self.request))()
+                                  + (self.accept,) * 2 + (self.collect, self.request, self.salvage, self.calendar, self.plan, lambda: self.new('profile')))()
                 if rng.random() < 0.02:
                     line = rng.choice((self.poke, self.poke, self.poke, lambda: 'blank'))()
             left -= 1

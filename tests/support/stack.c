@@ -14,6 +14,7 @@ static uint8_t painted[STACK] __attribute__((aligned(16)));
 static ucontext_t back, there;
 static struct reckonstile_association a;
 static uint8_t packet[228], decrypted[104], list[8 * 104], buffer[RECKONSTILE_COOKIE_BYTES], out[6144];
+static uint16_t starts[RECKONSTILE_ENTRIES], repeats[RECKONSTILE_ENTRIES];
 static struct reckonstile_uid uid;
 static struct reckonstile_settings settings;
 static struct reckonstile_decoded decoded;
@@ -21,11 +22,16 @@ static volatile uint32_t number;
 
 static void nothing(void) { number = 0; }
 static void new_(void) { number = reckonstile_new(&a, settings, list, sizeof list); }
+static void metered(void) { number = reckonstile_metered(&a, settings, list, sizeof list); }
+static void profile(void) { number = reckonstile_profile(settings, list, sizeof list); }
 static void timer(void) { number = reckonstile_timer(&a, 1000, 6, 1, uid, buffer, sizeof buffer).number; }
 static void reply(void) { number = reckonstile_reply(&a, packet, sizeof packet, 84, decrypted, sizeof decrypted, list, 104, 1, 2, 2000).number; }
 static void reply_decoded(void) { number = reckonstile_reply_decoded(&a, decoded, list, 104, 1, 2, 2000).number; }
 static void accept_(void) { number = reckonstile_accept(&a, 17, (const uint32_t *)(const void *)out, 0, RECKONSTILE_BLOOM_NONE); }
 static void collect(void) { number = reckonstile_collect(decrypted, sizeof decrypted, out, sizeof out).number; }
+static void salvage(void) { number = reckonstile_salvage(list, sizeof list, out, sizeof out).number; }
+static void check_calendar(void) { number = reckonstile_check_calendar(64, starts, 64, repeats, 64).number; }
+static void plan_calendar(void) { number = reckonstile_plan_calendar(64, repeats, 64, starts, 64).number; }
 static void request(void) { number = reckonstile_write_request(RECKONSTILE_SEND_NTS_V4, 6, 1, 0, uid, list + 4, 100, 3, out, sizeof out).number; }
 
 static size_t deepest(void (*call)(void)) {
@@ -43,16 +49,18 @@ static size_t deepest(void (*call)(void)) {
 
 int main(void) {
     static const struct { const char *name; void (*call)(void); uint32_t number; } calls[] = {
-        { "new", new_, 0 }, { "timer", timer, 20 }, { "reply", reply, 0 }, { "timer", timer, 20 }, { "reply_decoded", reply_decoded, 2 }, { "accept", accept_, 0 },
-        { "collect", collect, 0 }, { "write_request", request, 0 },
+        { "new", new_, 0 }, { "profile", profile, 0 }, { "metered", metered, 0 }, { "timer", timer, 20 }, { "reply", reply, 0 }, { "timer", timer, 20 }, { "reply_decoded", reply_decoded, 2 },
+        { "accept", accept_, 0 }, { "collect", collect, 0 }, { "write_request", request, 0 }, { "salvage", salvage, 0 }, { "check_calendar", check_calendar, 0 },
+        { "plan_calendar", plan_calendar, 0 },
     };
     int passed = 0, failed = 0;
     settings.window = 5000;
     settings.nts = 1;
     settings.startup = 3;
-    settings.min = 4;
+    settings.min = 8;
     settings.max = 10;
     for (size_t k = 0; k < 8; k++) memcpy(list + 104 * k, "\xC0\x0E\x00\x64", 4);
+    for (size_t k = 0; k < RECKONSTILE_ENTRIES; k++) repeats[k] = 1;
     memcpy(packet, "\x24\x02\x06\xEC", 4);
     packet[31] = 1;
     memcpy(packet + 48, "\x01\x04\x00\x24", 4);

@@ -168,7 +168,7 @@ next-is r vs g = %s .1 .0
 
 
 REC = ('embed_record', 'CAssociation')
-USES = 'use Rattle.embed_rules.specs.Rules.{blankMade, makeOf}\n'
+USES = 'use Rattle.embed_rules.specs.Rules.{blankMade, makeOf, makeMeteredOf}\n'
 
 
 def reckonstile_blank():
@@ -181,7 +181,13 @@ def reckonstile_new():
                 '(r ≡ makeOf settings (list .now) .number) × (w ≡ makeOf settings (list .now) .association)', 'ap (λ (s : CMade). s .number) e, ap (λ (s : CMade). s .association) e', USES, [('CSettings', 'Set', 'embed_record')])
 
 
-WALKS = {f.__name__: f for f in (reckonstile_blank, reckonstile_new)}
+def reckonstile_metered():
+    return Make('embed', 'reckonstile_metered', REC, [('settings', struct('CSettings', 'Set')), ('list', Slice('shr', 1))],
+                ('embed_rules', 'make_metered', lambda r: '%s ≡ makeMeteredOf settings (list .now)' % r), 'CMade',
+                '(r ≡ makeMeteredOf settings (list .now) .number) × (w ≡ makeMeteredOf settings (list .now) .association)', 'ap (λ (s : CMade). s .number) e, ap (λ (s : CMade). s .association) e', USES, [('CSettings', 'Set', 'embed_record')])
+
+
+WALKS = {f.__name__: f for f in (reckonstile_blank, reckonstile_new, reckonstile_metered)}
 
 if __name__ == '__main__':
     if len(sys.argv) == 1:

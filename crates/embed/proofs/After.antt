@@ -14,6 +14,8 @@ use Rattle.association.specs.Settings.{settingsValid}
 use Rattle.association.specs.New as new
 use Rattle.association.specs.Record.{blankOf}
 use Rattle.cookielist.specs.List.{listBroken}
+use Rattle.metered.specs.Profile as metered
+use Rattle.metered.proofs.Plain.{same-answer, refused-blank}
 use Rattle.timer_rules.specs.Answer as timer-answer
 use Rattle.timer.specs.Timer.{timerOf, timedOf}
 use Rattle.timer.proofs.After.{leaves, record-left, pending-left}
@@ -38,7 +40,7 @@ use Rattle.embed_record.proofs.Laws.{cassociation-back}
 use Rattle.embed_rules.specs.declared.CInput.{CInput}
 use Rattle.embed_rules.specs.declared.CMade.{CMade}
 use Rattle.embed_rules.specs.Answers.{timerAnswer, replyAnswer}
-use Rattle.embed_rules.specs.Rules.{inputIn, madeOut, makeOf}
+use Rattle.embed_rules.specs.Rules.{inputIn, madeOut, makeOf, meteredOut, makeMeteredOf}
 use Rattle.embed_rules.proofs.Laws.{timer-number, reply-number}
 use Rattle.embed.specs.Calls.{TimerCall, timerGave, timerPacked, timerCall, ReplyCall, replyGave, replyPacked, repliedCall}
 use Rattle.embed.specs.Written.{collectedAs, requestedAs}
@@ -99,6 +101,14 @@ module _ (g : CSettings) (list : List ℕ) where
   pub new-refused : Blank (makeOf g list)
   unfolding makeOf
   new-refused = either Blank (settingsOk g) (λ _. made-or-blank (settingsIn g)) (λ _ _. refl)
+
+  metered-or-blank : (s : Settings) → Blank (meteredOut (metered.meteredOf s list))
+  metered-or-blank s z = ap pack (refused-blank s list (λ e. z (ap metered.numberOf (same-answer s list) ∙ e)))
+
+  -- of the metered call 34 to 37 too
+  pub metered-refused : Blank (makeMeteredOf g list)
+  unfolding makeMeteredOf
+  metered-refused = either Blank (settingsOk g) (λ _. metered-or-blank (settingsIn g)) (λ _ _. refl)
 
 -- ---- what is written to a buffer: on every number but 0 nothing
 

@@ -15,8 +15,13 @@ use Rattle.embed.proofs.reckonstile_size.Reads as size
 use Rattle.embed.proofs.reckonstile_align.Reads as align
 use Rattle.embed.proofs.reckonstile_collect.Reads as collect
 use Rattle.embed.proofs.reckonstile_write_request.Reads as write-request
+use Rattle.embed.proofs.reckonstile_salvage.Reads as salvage
+use Rattle.embed.proofs.reckonstile_check_calendar.Reads as check-calendar
+use Rattle.embed.proofs.reckonstile_plan_calendar.Reads as plan-calendar
 use Rattle.embed.proofs.reckonstile_blank as blank
+use Rattle.embed.proofs.reckonstile_profile.Reads as profile
 use Rattle.embed.proofs.reckonstile_new as new
+use Rattle.embed.proofs.reckonstile_metered as metered
 use Rattle.embed.proofs.reckonstile_timer as timer
 use Rattle.embed.proofs.reckonstile_reply as reply
 use Rattle.embed.proofs.reckonstile_reply_decoded as reply-decoded
@@ -36,6 +41,18 @@ collect-determined κs a y z e f p q = (p .0 ∙ sym (q .0), p .1 ∙ sym (q .1)
 pub write-request-determined : DeterminedLent write-request.Post (λ κs e. now (e .1 .1 .1 .1 .1 .1 .1 .0))
 write-request-determined κs a y z e f p q = (p .0 ∙ sym (q .0), p .1 ∙ sym (q .1))
 
+pub salvage-determined : DeterminedLent salvage.Post (λ κs e. now (e .1 .0))
+salvage-determined κs a y z e f p q = (p .0 ∙ sym (q .0), p .1 ∙ sym (q .1))
+
+pub check-calendar-determined : Determined check-calendar.Post
+check-calendar-determined κs a y z e f p q = p ∙ sym q
+
+pub plan-calendar-determined : DeterminedLent plan-calendar.Post (λ κs e. now (e .1 .1 .0))
+plan-calendar-determined κs a y z e f p q = (p .0 ∙ sym (q .0), p .1 ∙ sym (q .1))
+
+pub profile-determined : Determined profile.Post
+profile-determined κs a y z e f p q = p ∙ sym q
+
 -- ---- what is proved by hand
 
 abbrev pub blank-post : (κs : Lfts 1) → ArgsD blank.signature κs → ResD blank.signature κs → AtExit blank.ended κs → Type 0
@@ -49,6 +66,14 @@ new-post = PostOf new.ended (λ w. new.clauses (w .𝓤) (w .H) (w .𝓖 .A) (w 
 
 pub new-determined : DeterminedLent {S = CAssociation} new-post (λ κs e. now (e .0))
 new-determined κs a y z e f p q = (p .0 ∙ sym (q .0), p .1 ∙ sym (q .1))
+
+abbrev pub metered-post : (κs : Lfts 2) → ArgsD metered.signature κs → ResD metered.signature κs → AtExit metered.ended κs → Type 0
+metered-post =
+    PostOf metered.ended (λ w. metered.clauses (w .𝓤) (w .H) (w .𝓖 .A) (w .𝓜 .mem) (w .𝓡 .run)) (λ w κs a. tt)
+    (λ κs a y e. all-models _ (λ w. r-last _) (λ w. refl) (λ w. refl) (λ w. refl))
+
+pub metered-determined : DeterminedLent {S = CAssociation} metered-post (λ κs e. now (e .0))
+metered-determined κs a y z e f p q = (p .0 ∙ sym (q .0), p .1 ∙ sym (q .1))
 
 abbrev pub timer-post : (κs : Lfts 2) → ArgsD timer.signature κs → ResD timer.signature κs → AtExit timer.ended κs → Type 0
 timer-post = PostOf timer.ended (λ w. timer.clauses (w .𝓤) (w .H) (w .𝓖 .A) (w .𝓜 .mem) (w .𝓡 .run)) (λ w κs a. tt) (λ κs a y e. all-models _ (λ w. r-last _) (λ w. refl) (λ w. refl) (λ w. refl))

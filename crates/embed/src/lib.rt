@@ -1,6 +1,6 @@
-// What a caller from C or Rust links: the calls of the association, over a record that the caller lends.
+// What a caller from C or Rust links: the calls of the association, over a record that the caller lends, and the tools beside it.
 // Promises: each is the call behind it on the unpacked record, packed again, and has a defined answer on any bytes whatever.
-// Rule: RULES, parts 7 and 10 to 12, and No. 1; definitions in specs/Calls.antt and specs/Written.antt.
+// Rule: RULES, parts 7 and 10 to 12, and No. 1, No. 9 and No. 13; definitions in specs/Calls.antt and specs/Written.antt, of the tools in embed_tools.
 use collector::Collected;
 use cookiestash::CAPACITY;
 use embed_record::CAssociation;
@@ -10,6 +10,8 @@ use embed_rules::CInput;
 use embed_rules::CReplyAnswer;
 use embed_rules::CTimerAnswer;
 use embed_rules::CUid;
+use embed_tools::CCalendarAnswer;
+use embed_tools::CSalvaged;
 use request::Requested;
 use time_types::NtpTimestamp;
 use time_types::PollInterval;
@@ -19,7 +21,11 @@ ghost use lib.ListN.{length};
 ghost use Rattle.reply_clauses.specs.After.{arrival};
 ghost use Rattle.collector.specs.Collector.{collectOf, bufferOf as listed};
 ghost use Rattle.request.specs.Answer.{requestOf, bufferOf as requested};
-ghost use Rattle.embed_rules.specs.Rules.{input, blankMade, makeOf};
+ghost use Rattle.embed_rules.specs.Rules.{input, blankMade, makeOf, profiledOf, makeMeteredOf};
+ghost use Rattle.salvage.specs.Salvage.{salvageOf, bufferOf as cleaned};
+ghost use Rattle.calendar.specs.Calendar.{checkOf};
+ghost use Rattle.calendar.specs.Plan.{planOf, bufferOf as planned};
+ghost use Rattle.embed_tools.specs.Told.{salvagedAs, checkedAs, plannedAs};
 ghost use Rattle.embed.specs.Calls.{timerGave, timerCall, replyGave, replyCall, decodedCall, acceptCall};
 ghost use Rattle.embed.specs.Written.{unwritten, collectedAs, requestedAs, sendIn};
 
@@ -56,6 +62,24 @@ pub extern "C" fn reckonstile_new(a: &mut CAssociation, settings: CSettings, lis
     let out = embed_rules::make(settings, list);
     *a = out.association;
     out.number
+}
+
+// The record becomes a metered association: 0. Blank where it is refused: 30, 33 to 37.
+#[no_mangle]
+pub extern "C" fn reckonstile_metered(a: &mut CAssociation, settings: CSettings, list: &[u8]) -> u32
+    ensures { λ r. ⌜ (r ≡ makeMeteredOf settings (now (list .entry)) .number) × (now (a .exit) ≡ makeMeteredOf settings (now (list .entry)) .association) ⌝ }
+{
+    let out = embed_rules::make_metered(settings, list);
+    *a = out.association;
+    out.number
+}
+
+// The number that `reckonstile_metered` gives; there is no record.
+#[no_mangle]
+pub extern "C" fn reckonstile_profile(settings: CSettings, list: &[u8]) -> u32
+    ensures { λ r. ⌜ r ≡ profiledOf settings (now (list .entry)) ⌝ }
+{
+    embed_rules::profile(settings, list)
 }
 
 // The timer: 20 to 24, 31, 32. What changes of the record is stored where it lies.
@@ -247,4 +271,36 @@ pub extern "C" fn reckonstile_write_request(
     let bytes = uid.bytes;
     let answer = request::write_request(send, poll, id, upgrademark, bytes, cookie, asked, out);
     requested(answer)
+}
+
+// The clean list of a damaged one, from the buffer's start on: 0, 70.
+#[no_mangle]
+pub extern "C" fn reckonstile_salvage(list: &[u8], out: &mut [u8]) -> CSalvaged
+    ensures { λ r. ⌜ (r ≡ salvagedAs (salvageOf (now (list .entry)) (length (now (out .entry))))) × (now (out .exit) ≡ cleaned (now (list .entry)) (now (out .entry))) ⌝ }
+{
+    embed_tools::salvage(list, out)
+}
+
+// Whether a poll calendar is accepted: 0, 80 to 83.
+#[no_mangle]
+pub extern "C" fn reckonstile_check_calendar(
+    cap: u8,
+    starts: &[u16],
+    repeats: &[u16],
+) -> CCalendarAnswer
+    ensures { λ r. ⌜ r ≡ checkedAs (checkOf cap (now (starts .entry)) (now (repeats .entry))) ⌝ }
+{
+    embed_tools::check(cap, starts, repeats)
+}
+
+// The starts of a plan, from the buffer's start on: 0, 80, 81, 84, 31.
+#[no_mangle]
+pub extern "C" fn reckonstile_plan_calendar(
+    cap: u8,
+    repeats: &[u16],
+    starts: &mut [u16],
+) -> CCalendarAnswer
+    ensures { λ r. ⌜ (r ≡ plannedAs (planOf cap (now (repeats .entry)) (length (now (starts .entry))))) × (now (starts .exit) ≡ planned cap (now (repeats .entry)) (now (starts .entry))) ⌝ }
+{
+    embed_tools::plan(cap, repeats, starts)
 }

@@ -7,6 +7,8 @@ use Rattle.embed_rules.proofs.judge_packet.Reads as judge-packet
 use Rattle.embed_rules.proofs.judge_decoded.Reads as judge-decoded
 use Rattle.embed_rules.proofs.blank.Reads as blank
 use Rattle.embed_rules.proofs.make.Reads as make
+use Rattle.embed_rules.proofs.profile.Reads as profile
+use Rattle.embed_rules.proofs.make_metered.Reads as make-metered
 use Rattle.embed_rules.proofs.accept.Reads as accept
 
 pub decide-determined : Determined decide.Post
@@ -23,6 +25,12 @@ blank-determined κs a y z e f p q = p ∙ sym q
 
 pub make-determined : Determined make.Post
 make-determined κs a y z e f p q = p ∙ sym q
+
+pub profile-determined : Determined profile.Post
+profile-determined κs a y z e f p q = p ∙ sym q
+
+pub make-metered-determined : Determined make-metered.Post
+make-metered-determined κs a y z e f p q = p ∙ sym q
 
 pub accept-determined : Determined accept.Post
 accept-determined κs a y z e f p q = p ∙ sym q

@@ -7,6 +7,7 @@ use Prim.Native.Nat.{ℕ}
 use Rattle.cookiestash.specs.declared.Seen.{Seen}
 use Rattle.association.specs.New as new
 use Rattle.association.specs.Record.{blankOf, wholeSeen}
+use Rattle.metered.specs.Profile as metered
 use Rattle.timer_rules.specs.declared.TimerAnswer.{TimerAnswer}
 use Rattle.timer_rules.specs.declared.TimerAnswer.the-variants as T
 use Rattle.timer_rules.specs.Answer as timer-answer
@@ -29,7 +30,7 @@ use Rattle.embed_rules.specs.declared.CInput.{CInput}
 use Rattle.embed_rules.specs.declared.CDecoded.{CDecoded}
 use Rattle.embed_rules.specs.Answers.{timerAnswer, unmeasured, replyAnswer, bloomIn}
 use Rattle.embed_rules.specs.Decoded.{decodedOk, decodedIn, decodedRead}
-use Rattle.embed_rules.specs.Rules.{inputIn, decisionOut, decideOf, verdictOut, judgeOf, madeOut, makeOf, acceptedOf}
+use Rattle.embed_rules.specs.Rules.{inputIn, decisionOut, decideOf, verdictOut, judgeOf, madeOut, makeOf, profiledOf, meteredOut, makeMeteredOf, acceptedOf}
 
 -- ---- the numbers
 
@@ -107,3 +108,30 @@ module _ (g : CSettings) (list : List ℕ) where
   pub makes-none : settingsOk g ≡ false → makeOf g list ≡ record { number = 30; association = pack blankOf }
   unfolding makeOf
   makes-none e = rw e
+
+  pub profiles : settingsOk g ≡ true → profiledOf g list ≡ metered.numberOf (metered.profileOf (settingsIn g) list)
+  unfolding profiledOf
+  profiles e = rw e
+
+  pub profiles-none : settingsOk g ≡ false → profiledOf g list ≡ 30
+  unfolding profiledOf
+  profiles-none e = rw e
+
+  pub makes-metered : settingsOk g ≡ true → makeMeteredOf g list ≡ meteredOut (metered.meteredOf (settingsIn g) list)
+  unfolding makeMeteredOf
+  makes-metered e = rw e
+
+  pub makes-no-metered : settingsOk g ≡ false → makeMeteredOf g list ≡ record { number = 30; association = pack blankOf }
+  unfolding makeMeteredOf
+  makes-no-metered e = rw e
+
+  -- the call gives the check's number
+  pub metered-number : makeMeteredOf g list .number ≡ profiledOf g list
+  unfolding makeMeteredOf profiledOf metered.meteredOf
+  metered-number = by (settingsOk g)
+    where
+      by : (b : Bool) →
+          cond b (meteredOut (metered.meteredOf (settingsIn g) list)) (record { number = 30; association = pack blankOf }) .number
+          ≡ cond b (metered.numberOf (metered.profileOf (settingsIn g) list)) 30
+      by true = refl
+      by false = refl

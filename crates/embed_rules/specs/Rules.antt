@@ -8,6 +8,8 @@ use Rattle.time_types.specs.declared.PollInterval.{PollInterval}
 use Rattle.association.specs.declared.NewOut.{NewOut}
 use Rattle.association.specs.New as new
 use Rattle.association.specs.Record.{blankOf}
+use Rattle.metered.specs.declared.MeteredOut.{MeteredOut}
+use Rattle.metered.specs.Profile as metered
 use Rattle.timer_rules.specs.declared.TimerInput.{TimerInput}
 use Rattle.timer_rules.specs.declared.Decision.{Decision}
 use Rattle.timer_rules.specs.Poll.{timerInput}
@@ -71,6 +73,18 @@ madeOut o = record { number = new.numberOf (o .answer); association = pack (o .a
 -- where a code of the settings is of no kind: 30, and blank
 unfoldable pub makeOf : CSettings → List ℕ → CMade
 makeOf g list = cond (settingsOk g) (madeOut (new.newOf (settingsIn g) list)) (record { number = 30; association = pack blankOf })
+
+-- ---- the metered profile
+
+-- where a code of the settings is of no kind: 30
+unfoldable pub profiledOf : CSettings → List ℕ → ℕ
+profiledOf g list = cond (settingsOk g) (metered.numberOf (metered.profileOf (settingsIn g) list)) 30
+
+abbrev pub meteredOut : MeteredOut → CMade
+meteredOut o = record { number = metered.numberOf (o .answer); association = pack (o .association) }
+
+unfoldable pub makeMeteredOf : CSettings → List ℕ → CMade
+makeMeteredOf g list = cond (settingsOk g) (meteredOut (metered.meteredOf (settingsIn g) list)) (record { number = 30; association = pack blankOf })
 
 -- ---- accept
 

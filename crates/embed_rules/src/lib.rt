@@ -27,7 +27,7 @@ ghost use lib.Dec.{leb, eqb};
 ghost use Rattle.reply_clauses.specs.After.{arrival};
 ghost use Rattle.embed_rules.specs.Answers.{sendCode, unsent, timerAnswer, unmeasured, measuredAs, replyAnswer, bloomIn};
 ghost use Rattle.embed_rules.specs.Decoded.{leapIn, modeIn, uidIn, bitsOk, kissesIn, uidsOk, decodedOk, decodedIn, decodedRead};
-ghost use Rattle.embed_rules.specs.Rules.{decideOf, verdictOut, judgeOf, packetRead, blankMade, makeOf, acceptedOf};
+ghost use Rattle.embed_rules.specs.Rules.{decideOf, verdictOut, judgeOf, packetRead, blankMade, makeOf, profiledOf, makeMeteredOf, acceptedOf};
 
 // ---- the timer
 
@@ -531,6 +531,47 @@ pub fn make(settings: CSettings, list: &[u8]) -> CMade
     }
     let inner = g.settings;
     let made = Association::new(inner, list);
+    let told = made.answer;
+    let fresh = made.association;
+    let number = told.number();
+    let association = embed_record::pack(fresh);
+    CMade {
+        number: number as u32,
+        association,
+    }
+}
+
+// ---- the metered profile
+
+// The number that `make_metered` gives; where a code of the settings is of no kind: 30.
+pub fn profile(settings: CSettings, list: &[u8]) -> u32
+    ensures { λ r. ⌜ r ≡ profiledOf settings (now (list .entry)) ⌝ }
+{
+    let g = embed_record::unpack_settings(settings);
+    if !g.ok {
+        return 30;
+    }
+    let inner = g.settings;
+    let told = metered::profile(inner, list);
+    let number = told.number();
+    number as u32
+}
+
+// A metered association; where a code of the settings is of no kind: 30, and blank, as `make` has it.
+pub fn make_metered(settings: CSettings, list: &[u8]) -> CMade
+    ensures { λ r. ⌜ r ≡ makeMeteredOf settings (now (list .entry)) ⌝ }
+{
+    let g = embed_record::unpack_settings(settings);
+    if !g.ok {
+        let fresh = Association::blank();
+        let association = embed_record::pack(fresh);
+        return CMade {
+            number: 30,
+            association,
+        };
+    }
+    let inner = g.settings;
+    let made = metered::metered(inner, list);
     let told = made.answer;
     let fresh = made.association;
     let number = told.number();
