@@ -51,7 +51,6 @@ extern "C" {
 #define RECKONSTILE_OK 0            /* new, metered: made. profile: met. reply: measured. accept, check_calendar: accepted. collect, write_request, salvage, plan_calendar: written */
 #define RECKONSTILE_UNDECODABLE 1   /* reply: not a reply. collect: broken fields */
 #define RECKONSTILE_VERSION 2       /* reply: of a version that is not expected */
-#define RECKONSTILE_NO_REQUEST 3    /* reply: no request is pending, or its time is over */
 #define RECKONSTILE_NO_MATCH 4      /* reply: it answers another request */
 #define RECKONSTILE_RATE 5          /* reply: the source asks for a slower poll, which the record now has */
 #define RECKONSTILE_DENIED 6        /* reply: denied without NTS; it is noted */
@@ -60,6 +59,9 @@ extern "C" {
 #define RECKONSTILE_OTHER_KISS 9    /* reply: another kiss */
 #define RECKONSTILE_BAD_STRATUM 10  /* reply: stratum over 16 */
 #define RECKONSTILE_NOT_SERVER 11   /* reply: not a server's */
+#define RECKONSTILE_NEVER_SENT 12   /* reply: nothing was sent yet */
+#define RECKONSTILE_ALREADY_MEASURED 13 /* reply: the last poll was answered already */
+#define RECKONSTILE_EXPIRED 14      /* reply: too late, the deadline of the pending request is before now */
 #define RECKONSTILE_SENT 20         /* timer: send the poll, and set the timer again */
 #define RECKONSTILE_RESET 21        /* timer: no answer to so many polls. Make the association anew */
 #define RECKONSTILE_DEMOBILIZE 22   /* timer: no answer, and service was denied. Give the source up */
@@ -157,10 +159,11 @@ struct reckonstile_state {
     uint8_t left;      /* as in the settings */
     uint8_t stratum;   /* the source's; 16 until a reply is measured */
     uint8_t denial;    /* 0 or 1: service was denied since */
-    uint8_t present;   /* 0 or 1: a request is pending. Where not, what follows is zero */
+    uint8_t present;   /* 0 or 1: a request is pending. Where not, id, deadline and uid are zero */
     uint64_t id;       /* the pending request's 64 bits */
     uint64_t deadline; /* until when its reply is awaited */
     uint8_t uid[32];   /* its unique identifier; zero without NTS */
+    uint64_t answered; /* 0 or 1: a reply was measured since the last sent poll. Never 1 while a request is pending */
 };
 
 struct reckonstile_association {
@@ -184,7 +187,7 @@ struct reckonstile_timer_answer {
 };
 
 struct reckonstile_reply_answer {
-    uint32_t number;   /* 0 to 11, 32, 33; where it is not 0 all below is zero */
+    uint32_t number;   /* 0, 1, 2, 4 to 14, 32, 33; where it is not 0 all below is zero */
     uint8_t measured;  /* 1 where the number is 0 */
     uint8_t leap;      /* RECKONSTILE_LEAP_NO_WARNING .. RECKONSTILE_LEAP_UNSYNCHRONIZED */
     uint8_t stratum;
@@ -237,9 +240,10 @@ struct reckonstile_calendar_answer {
 RECKONSTILE_ASSERT(sizeof(size_t) == 8, "reckonstile: 64-bit targets only");
 RECKONSTILE_ASSERT(sizeof(struct reckonstile_settings) == 32 && offsetof(struct reckonstile_settings, left) == 28, "reckonstile: layout of settings");
 RECKONSTILE_ASSERT(sizeof(struct reckonstile_slot) == 726 && sizeof(struct reckonstile_stash) == 5824, "reckonstile: layout of the stash");
-RECKONSTILE_ASSERT(sizeof(struct reckonstile_state) == 64 && offsetof(struct reckonstile_state, version) == 8 &&
-                   offsetof(struct reckonstile_state, id) == 16 && offsetof(struct reckonstile_state, uid) == 32, "reckonstile: layout of the state");
-RECKONSTILE_ASSERT(sizeof(struct reckonstile_association) == 5920 && offsetof(struct reckonstile_association, stash) == 32 &&
+RECKONSTILE_ASSERT(sizeof(struct reckonstile_state) == 72 && offsetof(struct reckonstile_state, version) == 8 &&
+                   offsetof(struct reckonstile_state, id) == 16 && offsetof(struct reckonstile_state, uid) == 32 &&
+                   offsetof(struct reckonstile_state, answered) == 64, "reckonstile: layout of the state");
+RECKONSTILE_ASSERT(sizeof(struct reckonstile_association) == 5928 && offsetof(struct reckonstile_association, stash) == 32 &&
                    offsetof(struct reckonstile_association, state) == 5856, "reckonstile: layout of the record");
 RECKONSTILE_ASSERT(sizeof(struct reckonstile_uid) == 32, "reckonstile: layout of a uid");
 RECKONSTILE_ASSERT(sizeof(struct reckonstile_timer_answer) == 16 && offsetof(struct reckonstile_timer_answer, length) == 8,
@@ -288,8 +292,8 @@ struct reckonstile_timer_answer reckonstile_timer(struct reckonstile_association
 /* A reply of V3 or V4, as bytes. `end` is where its authenticated part ends: the offset of the head of its authenticator field (type 0404); 48 where there is
    none, without NTS and in V3; 0 where the authenticator does not hold (the answer is then 1). `decrypted` are the decrypted bytes of that field and `list` the
    new cookies among them (reckonstile_collect), both empty where there is none; they count only with NTS. The caller has checked the authenticator.
-   In this order: 32, 1, 33, 2, 3, 4: the record is as it was. 5 to 11: a matching reply that is not measured; what of it counts the record has. 0 measured:
-   the request is no longer pending, and with NTS the list's cookies are stored. */
+   In this order: 32, 1, 33, 2, then 12, 13 or 14, then 4: the record is as it was. 5 to 11: a matching reply that is not measured; what of it counts the
+   record has. 0 measured: the request is no longer pending but answered, and with NTS the list's cookies are stored. */
 struct reckonstile_reply_answer reckonstile_reply(struct reckonstile_association *a, const uint8_t *packet, size_t packet_len, size_t end,
                                                   const uint8_t *decrypted, size_t decrypted_len, const uint8_t *list, size_t list_len,
                                                   uint64_t t1, uint64_t t4, uint64_t time);

@@ -50,6 +50,7 @@ static void put_back(int timer, int nts) {
         }
     } else {
         a.state.present = 1;
+        a.state.answered = 0;
         a.state.id = ID;
         a.state.deadline = 6000;
         if (nts) memcpy(a.state.uid, uid.bytes, 32);

@@ -223,7 +223,7 @@ impl Drill {
             ),
             Err(refused) => {
                 let number = refused.number();
-                let untouched = !matches!(number, 1..=4 | 32 | 33) || before == self.a.record();
+                let untouched = !matches!(number, 1..=4 | 12..=14 | 32 | 33) || before == self.a.record();
                 format!("{word} {number}{}", kept(untouched))
             }
         }
@@ -398,7 +398,7 @@ impl Drill {
             if state.present == 1 { format!("{:016x}/{}/{}", state.id, hex(&state.uid), state.deadline) } else { "-".into() };
         let lens: Vec<String> = stash.slots.iter().map(|slot| slot.len.to_string()).collect();
         format!(
-            "record reach={} tries={} version={version} last={} remote={} pending={pending} denial={} stratum={} refid={:08x} read={} held={} lens={}",
+            "record reach={} tries={} version={version} last={} remote={} pending={pending} denial={} stratum={} refid={:08x} read={} held={} lens={} answered={}",
             state.reach,
             state.tries,
             state.last,
@@ -408,7 +408,8 @@ impl Drill {
             state.refid,
             stash.read,
             stash.held,
-            lens.join(",")
+            lens.join(","),
+            if state.answered == 1 { "yes" } else { "no" }
         )
     }
 
@@ -446,6 +447,7 @@ impl Drill {
             "id" => r.state.id = bits(value),
             "uid" => r.state.uid = uid(value),
             "deadline" => r.state.deadline = number(value),
+            "answered" => r.state.answered = number(value),
             "slotbyte" => {
                 let parts: Vec<usize> = value.split('/').map(number).collect();
                 r.stash.slots[parts[0]].bytes[parts[1]] = parts[2] as u8;

@@ -105,11 +105,14 @@ numbered! {
     /// assert_eq!(ReplyRefused::DeniedNts.action(), Action::Demobilize);
     /// assert_eq!(ReplyRefused::NoMatch.action(), Action::Nothing);
     /// assert_eq!(ReplyRefused::NoMatch.to_string(), "it answers another request (4)");
+    /// // Why no request was live, for whoever reads the log; the caller does nothing on any of the three.
+    /// let no_live = [ReplyRefused::NeverSent, ReplyRefused::AlreadyMeasured, ReplyRefused::Expired];
+    /// assert_eq!(no_live.map(ReplyRefused::number), [12, 13, 14]);
+    /// assert_eq!(no_live.map(ReplyRefused::action), [Action::Nothing; 3]);
     /// ```
     ReplyRefused {
         Undecodable = 1, "not a reply, or its authenticator does not hold";
         UnexpectedVersion = 2, "of a version that is not expected";
-        NoLiveRequest = 3, "no request is pending, or its time is over";
         NoMatch = 4, "it answers another request";
         Rate = 5, "the server asks for slower polls, which the next ones are";
         Denied = 6, "service is denied, which is noted";
@@ -118,6 +121,9 @@ numbered! {
         OtherKiss = 9, "another kiss";
         BadStratum = 10, "a stratum over 16";
         NotServer = 11, "not a server's reply";
+        NeverSent = 12, "nothing was sent yet";
+        AlreadyMeasured = 13, "the last poll was answered already";
+        Expired = 14, "too late: the time of the request is over";
         NotWhole = 32, "the record is none that a call has made";
         BrokenList = 33, "with NTS, the cookie list is broken";
     }

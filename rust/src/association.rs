@@ -317,7 +317,7 @@ pub enum Bloom {
     Present,
 }
 
-/// An association with one server: a record of 5,920 bytes, and nothing else. It starts no thread, reads no clock and allocates nothing; it may be moved, copied
+/// An association with one server: a record of 5,928 bytes, and nothing else. It starts no thread, reads no clock and allocates nothing; it may be moved, copied
 /// and sent to another thread, and each call has it to itself.
 ///
 /// ```
@@ -343,7 +343,7 @@ pub enum Bloom {
 /// a.accept(16, &[], Default::default())?;
 ///
 /// // The same reply once more is not measured twice.
-/// assert_eq!(a.reply(&Packet::plain(&reply), times), Err(ReplyRefused::NoLiveRequest));
+/// assert_eq!(a.reply(&Packet::plain(&reply), times), Err(ReplyRefused::AlreadyMeasured));
 /// # Ok::<(), Box<dyn std::error::Error>>(())
 /// ```
 #[derive(Clone, PartialEq, Eq)]
@@ -468,7 +468,7 @@ impl Association {
     ///     kisses: Kisses::default(), authenticated: Uid::Absent, encrypted: Uid::Absent, untrusted: Uid::Absent,
     /// };
     /// let times = Times { t1: zero, t4: zero, time: NtpInstant::from_nanos(1) };
-    /// assert_eq!(a.reply_decoded(&d, &[], times), Err(ReplyRefused::NoLiveRequest));
+    /// assert_eq!(a.reply_decoded(&d, &[], times), Err(ReplyRefused::NeverSent));
     /// ```
     pub fn reply_decoded(&mut self, reply: &DecodedReply, list: &[u8], times: Times) -> Result<Measurement, ReplyRefused> {
         measured(&ffi::reply_decoded(
@@ -631,10 +631,10 @@ pub fn cookie_list<'a>(cookies: impl IntoIterator<Item = &'a [u8]>, out: &mut [u
     Some(at)
 }
 
-/// The size and the alignment of a record, as the library says them: 5,920 and 8.
+/// The size and the alignment of a record, as the library says them: 5,928 and 8.
 ///
 /// ```
-/// assert_eq!(reckonstile::layout(), (5920, 8));
+/// assert_eq!(reckonstile::layout(), (5928, 8));
 /// ```
 #[must_use]
 pub fn layout() -> (usize, usize) {

@@ -77,7 +77,7 @@ pub struct State {
     pub stratum: u8,
     /// 1 where service was denied since the last measured reply.
     pub denial: u8,
-    /// 1 where a request is pending; where not, what follows is zero.
+    /// 1 where a request is pending; where not, `id`, `deadline` and `uid` are zero.
     pub present: u8,
     /// The pending request's 64 bits.
     pub id: u64,
@@ -85,6 +85,8 @@ pub struct State {
     pub deadline: u64,
     /// Its unique identifier; zero without NTS.
     pub uid: [u8; 32],
+    /// 1 where a reply was measured since the last sent poll, which is never so while a request is pending; else 0.
+    pub answered: u64,
 }
 
 /// The record of an association as the library reads and writes it: numbers only. For looking at, and for tests; its layout is not a format to store.
@@ -118,6 +120,7 @@ impl Record {
             id: 0,
             deadline: 0,
             uid: [0; 32],
+            answered: 0,
         },
     };
 }
@@ -210,13 +213,14 @@ const _: () = {
     assert!(size_of::<Settings>() == 32 && offset_of!(Settings, left) == 28);
     assert!(size_of::<Slot>() == 726 && size_of::<Stash>() == 5824);
     assert!(
-        size_of::<State>() == 64
+        size_of::<State>() == 72
             && offset_of!(State, version) == 8
             && offset_of!(State, id) == 16
             && offset_of!(State, uid) == 32
+            && offset_of!(State, answered) == 64
     );
     assert!(
-        size_of::<Record>() == 5920
+        size_of::<Record>() == 5928
             && align_of::<Record>() == 8
             && offset_of!(Record, stash) == 32
             && offset_of!(Record, state) == 5856

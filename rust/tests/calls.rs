@@ -31,11 +31,36 @@ fn a_night_in_which_a_modem_keeps_three_replies() {
     assert_eq!(TimerRefused::Reset.action(), Action::Reset);
     let before = *a.record();
     for poll in 1..=3 {
-        assert_eq!(a.reply(&Packet::plain(&reply(poll)), times(14_400_000_000_000)), Err(ReplyRefused::NoLiveRequest));
+        assert_eq!(a.reply(&Packet::plain(&reply(poll)), times(14_400_000_000_000)), Err(ReplyRefused::Expired));
     }
     assert_eq!(*a.record(), before);
     assert!(!a.is_reachable());
     assert_eq!(a.accept(17, &[], Bloom::NoFilter).unwrap_err().number(), 42);
+}
+
+#[test]
+fn a_reply_without_a_live_request_says_why() {
+    let mut a = Association::new(&Settings::default(), &[]).unwrap();
+    let heard = |a: &mut Association, id: u64, at: u64| {
+        let before = *a.record();
+        let said = a.reply(&Packet::plain(&reply(id)), times(at));
+        assert!(said.is_ok() || *a.record() == before, "a refusal changed the record");
+        said.map(|_| ())
+    };
+    assert_eq!(heard(&mut a, 1, 0), Err(ReplyRefused::NeverSent));
+    tick(&mut a, 0, 1).unwrap();
+    assert_eq!(heard(&mut a, 1, 5_000_000_001), Err(ReplyRefused::Expired));
+    assert_eq!(heard(&mut a, 1, 5_000_000_000), Ok(()));
+    assert_eq!(heard(&mut a, 1, 5_000_000_000), Err(ReplyRefused::AlreadyMeasured));
+    tick(&mut a, 6_000_000_000, 2).unwrap();
+    assert_eq!(heard(&mut a, 1, 6_000_000_000), Err(ReplyRefused::NoMatch));
+    assert_eq!(heard(&mut a, 1, 11_000_000_001), Err(ReplyRefused::Expired));
+    // No call leaves a poll that is answered beside a request that waits.
+    let mut record = *a.record();
+    assert_eq!((record.state.present, record.state.answered), (1, 0));
+    record.state.answered = 1;
+    let mut broken = Association::from_record(record);
+    assert_eq!(heard(&mut broken, 2, 6_000_000_000), Err(ReplyRefused::NotWhole));
 }
 
 #[test]

@@ -25,7 +25,8 @@ static int zeros(const uint8_t *b, size_t n) {
 }
 static int version_ok(uint32_t kind, uint8_t left) { return kind == RECKONSTILE_UPGRADING || (kind <= RECKONSTILE_V5 && left == 0); }
 static int codes_ok(const struct reckonstile_association *a) {
-    return version_ok(a->settings.start, a->settings.left) && a->settings.nts <= 1 && version_ok(a->state.version, a->state.left) && a->state.denial <= 1 && a->state.present <= 1;
+    return version_ok(a->settings.start, a->settings.left) && a->settings.nts <= 1 && version_ok(a->state.version, a->state.left) && a->state.denial <= 1 && a->state.present <= 1 &&
+           a->state.answered <= 1;
 }
 static int settings_ok(const struct reckonstile_settings *s) {
     return 0 <= s->min && s->min <= s->max && s->max <= 17 && 1 <= s->startup && s->startup <= 8 && 1 <= s->window && s->window <= 60000000000;
@@ -38,7 +39,7 @@ static int whole(const struct reckonstile_association *a) {
         size_t stored = slot->len <= RECKONSTILE_COOKIE_BYTES ? slot->len : 0;
         if ((k >= a->stash.held && slot->len) || !zeros(slot->bytes + stored, RECKONSTILE_COOKIE_BYTES - stored)) return 0;
     }
-    if (!s->present && (s->id || s->deadline || !zeros(s->uid, 32))) return 0;
+    if (s->present ? s->answered != 0 : s->id || s->deadline || !zeros(s->uid, 32)) return 0;
     return a->settings.nts || (!a->stash.read && !a->stash.held && zeros(s->uid, 32));
 }
 
@@ -119,7 +120,14 @@ static void make(void) {
     }
 }
 
-/* ---- a reply that may match */
+/* ---- a reply that may match, and what may be said of one */
+
+static int reply_number(uint32_t n) { return n == 33 || (n <= RECKONSTILE_EXPIRED && n != 3); }
+/* 12, 13 and 14 as the record has it; what comes behind them in the order, only where a request is live */
+static int reason_right(uint32_t n, const struct reckonstile_state *s, uint64_t time) {
+    uint32_t reason = !s->present ? (s->answered ? RECKONSTILE_ALREADY_MEASURED : RECKONSTILE_NEVER_SENT) : s->deadline < time ? RECKONSTILE_EXPIRED : 0;
+    return n == reason || n == 1 || n == 2 || n == 32 || n == 33 || (!reason && n < RECKONSTILE_NEVER_SENT);
+}
 
 static size_t packet_of(uint8_t *packet) {
     size_t n = below(8) ? 48 : below(120);
@@ -263,7 +271,8 @@ int main(int argc, char **argv) {
         size_t packet_len = packet_of(packet);
         struct reckonstile_reply_answer r = reckonstile_reply(&lent.a, packet, packet_len, below(4) ? 48 : below(2) ? 84 : next(), plain, plain_len, list, list_len, next(), next(), time);
         n = r.number;
-        expect(settings_kept() && (is_whole ? n <= 11 || n == 33 : n == 32) && (!is_whole || whole(&lent.a)), "reply", n);
+        expect(settings_kept() && (is_whole ? reply_number(n) : n == 32) && (!is_whole || whole(&lent.a)), "reply", n);
+        expect(reason_right(n, &before.state, time), "reply: why no request is live", n);
         expect(n == 0 || (n >= 5 && n <= 11) || kept(), "reply: a refusal changed the record", n);
         expect(r.measured == (n == 0) && (n == 0 || (!r.delay && !r.offset && !r.local && !r.mono && !r.leap && !r.stratum && !r.precision && !r.rootdelay && !r.rootdisp)), "reply's answer", n);
 
@@ -284,7 +293,8 @@ int main(int argc, char **argv) {
         }
         r = reckonstile_reply_decoded(&lent.a, d, list, list_len, next(), next(), time);
         n = r.number;
-        expect(settings_kept() && (is_whole ? n <= 11 || n == 33 : n == 32) && (!is_whole || whole(&lent.a)), "reply_decoded", n);
+        expect(settings_kept() && (is_whole ? reply_number(n) : n == 32) && (!is_whole || whole(&lent.a)), "reply_decoded", n);
+        expect(reason_right(n, &before.state, time), "reply_decoded: why no request is live", n);
         expect(n == 0 || (n >= 5 && n <= 11) || kept(), "reply_decoded: a refusal changed the record", n);
 
         salvaged();

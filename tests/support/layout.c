@@ -92,7 +92,23 @@ int main(void) {
     b.state.tries = 1;
     b.state.refid = 0xAB000000;
     b.state.stratum = 2;
+    b.state.answered = 1;
     EXPECT(!memcmp(&a, &b, sizeof a));
+
+    /* why no request is live: measured already, or with the fact unset never sent; too late for the next poll. The fact is 0 or 1, and 0 while one is pending */
+    EXPECT(reckonstile_reply(&a, packet, 48, 48, none, 0, none, 0, 0, 0, 6000).number == RECKONSTILE_ALREADY_MEASURED && !memcmp(&a, &b, sizeof a));
+    a.state.answered = 0;
+    EXPECT(reckonstile_reply(&a, packet, 48, 48, none, 0, none, 0, 0, 0, 6000).number == RECKONSTILE_NEVER_SENT && a.state.answered == 0);
+    a.state.answered = 2;
+    EXPECT(reckonstile_reply(&a, packet, 48, 48, none, 0, none, 0, 0, 0, 6000).number == RECKONSTILE_NOT_WHOLE && a.state.answered == 2);
+    a.state.answered = (uint64_t)1 << 32;
+    EXPECT(reckonstile_timer(&a, 6500, 0, 6, uid, none, 0).number == RECKONSTILE_NOT_WHOLE);
+    a.state.answered = 1;
+    EXPECT(reckonstile_timer(&a, 6500, 0, 6, uid, none, 0).number == RECKONSTILE_SENT && a.state.answered == 0);
+    EXPECT(reckonstile_reply(&a, packet, 48, 48, none, 0, none, 0, 0, 0, 11501).number == RECKONSTILE_EXPIRED);
+    a.state.answered = 1;
+    EXPECT(reckonstile_reply(&a, packet, 48, 48, none, 0, none, 0, 0, 0, 11501).number == RECKONSTILE_NOT_WHOLE);
+    a.state.answered = 0;
 
     /* a denial is noted */
     t = reckonstile_timer(&a, 7000, 0, 5, uid, none, 0);

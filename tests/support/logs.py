@@ -162,12 +162,12 @@ class Logs:
 
     def poke(self):
         rng = self.rng
-        key = rng.choice(('reach', 'tries', 'last', 'remote', 'stratum', 'refid', 'read', 'held', 'min', 'max', 'startup', 'window', 'id', 'uid', 'deadline', 'slotbyte'))
+        key = rng.choice(('reach', 'tries', 'last', 'remote', 'stratum', 'refid', 'read', 'held', 'min', 'max', 'startup', 'window', 'id', 'uid', 'deadline', 'answered', 'slotbyte'))
         value = {
             'reach': rng.randrange(256), 'tries': rng.choice((0, 1, 3, 254, 255)), 'last': rng.randint(-128, 127), 'remote': rng.choice((4, 127, -128, 6)),
             'stratum': rng.randrange(256), 'refid': '%08x' % rng.getrandbits(32), 'read': rng.choice((0, 1, 7, 8, MAX64)), 'held': rng.choice((0, 1, 8, 9, MAX64)),
             'min': rng.choice((4, -1, 0)), 'max': rng.choice((10, 17, 18)), 'startup': rng.choice((0, 3, 8, 9)), 'window': rng.choice((0, 1, 5 * 10**9, 60 * 10**9 + 1)),
-            'id': self.bytes(8).hex(), 'uid': self.bytes(32).hex(), 'deadline': rng.choice((0, self.now, MAX64)),
+            'id': self.bytes(8).hex(), 'uid': self.bytes(32).hex(), 'deadline': rng.choice((0, self.now, MAX64)), 'answered': rng.randrange(2),
             'slotbyte': '%d/%d/%d' % (rng.randrange(8), rng.randrange(724), rng.choice((0, 1, 255))),
         }[key]
         return 'poke key=%s value=%s' % (key, value)

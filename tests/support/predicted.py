@@ -97,10 +97,11 @@ class Log:
         self.polls.append(Poll(ident, uid, now + self.window, poll))
         return 'timer 20 send=%s poll=%d cookie=%s asked=%d' % ('nts-' + kind if self.nts else kind, poll, cookie.hex() or '-', asked)
 
-    def live(self, now):
-        """the last poll sent, where it is not measured yet and the time is not past its deadline"""
-        last = self.polls[-1] if self.polls else None
-        return last if last and not last.measured and now <= last.deadline else None
+    def not_live(self, now):
+        """why a reply has no live request (RULES, No. 3): no poll was sent, the last one is measured, or its deadline is before now; else 0"""
+        if not self.polls:
+            return 12
+        return 13 if self.polls[-1].measured else 14 if self.polls[-1].deadline < now else 0
 
     def identified(self, packet, walked, end, text, uid, ntsn):
         """RFC 8915, 5.3, and part 8: the unique identifier where it is authenticated, or anywhere in an NTSN kiss"""
@@ -118,9 +119,9 @@ class Log:
             return 1
         if version not in {'v4': (3, 4), 'upgrading': (4,), 'upgraded': (5,)}[self.version()]:
             return 2
-        poll = self.live(now)
-        if poll is None:
-            return 3
+        if self.not_live(now):
+            return self.not_live(now)
+        poll = self.polls[-1]
         stratum, reference = packet[1], packet[12:16]
         kiss = KISSES.get(reference, 9) if stratum == 0 else 0
         if packet[24:32] != poll.ident or (self.nts and not self.identified(packet, walked, end, text, poll.uid, kiss == 8)):
@@ -148,7 +149,7 @@ class Log:
         """a reply of version 5, which nobody waits for unless the association is upgraded: then it has the wrong cookie"""
         if self.version() != 'upgraded':
             return 2
-        return 3 if self.live(now) is None else 4
+        return self.not_live(now) or 4
 
     def accept(self, stratum, local):
         last = getattr(self, 'stratum', 16)

@@ -5,7 +5,7 @@ import ends
 import human
 import story
 
-COLOURS = dict(good='32', late='33', foreign='35', broken='35', kiss='36', stop='31;1', caller='31', quiet='0')
+COLOURS = dict(good='32', late='33', stray='0', foreign='35', broken='35', kiss='36', stop='31;1', caller='31', quiet='0')
 
 
 def coloured():

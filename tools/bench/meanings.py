@@ -8,7 +8,7 @@ from program import ROOT
 PAPER = os.path.join(ROOT, 'docs', 'NUMBERS.md')
 COLUMNS = ('number', 'kind', 'short', 'says', 'after', 'next')
 # what each kind looks like; a kind that is not here is drawn as `quiet`
-KINDS = ('good', 'quiet', 'late', 'foreign', 'broken', 'kiss', 'stop', 'caller')
+KINDS = ('good', 'quiet', 'late', 'stray', 'foreign', 'broken', 'kiss', 'stop', 'caller')
 
 
 class Row:

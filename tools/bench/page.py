@@ -15,10 +15,10 @@ BREAK = 7        # a break's width, per cent of what is drawn without breaks
 NEAR = 1.3       # marks of a row that are nearer than this, in per cent, stand side by side
 BESIDE = 13      # pixels between them
 SPREAD = 90      # per cent of a strip's width that its times take; the rest is room for marks that stand side by side at its end
-WORDS = dict(good='measured', late='too late, or nothing was asked', foreign='answers something else', broken='not a usable reply', kiss='the server declines',
+WORDS = dict(good='measured', late='too late', stray='nothing was awaited', foreign='answers something else', broken='not a usable reply', kiss='the server declines',
              stop='the association gives up', caller='the call itself was wrong', quiet='other')
 # Each kind has a shape of its own, so that they can be told apart without colour.
-SHAPES = dict(good='<circle r="5"/>', late='<circle r="4.5" class="hollow"/><path class="line" d="M0-3V0H3"/>', foreign='<path class="line" d="M-4-4 4 4M4-4-4 4"/>',
+SHAPES = dict(good='<circle r="5"/>', late='<circle r="4.5" class="hollow"/><path class="line" d="M0-3V0H3"/>', stray='<circle r="3" class="hollow"/>', foreign='<path class="line" d="M-4-4 4 4M4-4-4 4"/>',
               broken='<rect x="-4.5" y="-4.5" width="9" height="9" class="hollow"/>', kiss='<path d="M0-5.5 5.5 4.5H-5.5Z"/>', stop='<path d="M0-7 7 0 0 7-7 0Z"/>',
               caller='<path class="line" d="M0-5V1M0 4V5.5"/>', quiet='<circle r="2"/>', accepted='<path d="M-4 8V-8L7-4-4 0Z"/>')
 
@@ -96,7 +96,7 @@ class Box:
             lane.up = None
         if step.kind == 'stop':
             lane.up = None
-        if not step.good() and step.kind != 'quiet' and lane.reason is None:
+        if not step.good() and step.kind not in ('quiet', 'stray') and lane.reason is None:
             lane.reason = (step, now)
         reach = step.after.get('reach')
         if reach is not None and reach.isdigit() and (not lane.reach or lane.reach[-1][1] != int(reach)):
@@ -273,7 +273,7 @@ svg.strip:focus{outline:2px solid var(--poll);outline-offset:1px}
 .window{fill:var(--window)}.poll{stroke:var(--poll);stroke-width:2}.hit{fill:transparent;stroke:none}
 .good,.accepted{fill:var(--good);stroke:var(--good)}.late{fill:var(--late);stroke:var(--late)}.foreign{fill:var(--foreign);stroke:var(--foreign)}
 .broken{fill:var(--broken);stroke:var(--broken)}.kiss{fill:var(--kiss);stroke:var(--kiss)}.stop{fill:var(--stop);stroke:var(--stop)}
-.caller{fill:var(--caller);stroke:var(--caller)}.quiet,.made{fill:var(--soft);stroke:var(--soft)}.m.made line{stroke-width:1.5;stroke-dasharray:3 2}.m.made:hover line,.m.made.at line{stroke-width:4}
+.caller{fill:var(--caller);stroke:var(--caller)}.quiet,.stray,.made{fill:var(--soft);stroke:var(--soft)}.m.made line{stroke-width:1.5;stroke-dasharray:3 2}.m.made:hover line,.m.made.at line{stroke-width:4}
 .hollow{fill:var(--paper);stroke-width:2}.line{fill:none;stroke-width:2.2;stroke-linecap:round}
 .m:hover .hit,.m.at .hit{fill:var(--ink);fill-opacity:.18}.m:hover .window,.m.at .window{stroke:var(--ink)}
 details{font-size:.86em}summary{color:var(--soft);cursor:pointer}details ol{margin:.2em 0;padding:0;list-style:none;overflow-wrap:anywhere}

@@ -112,13 +112,8 @@ def octets(step):
         return b''
 
 
-def why_not_awaited(step):
-    awaited = step.before.get('pending', '-')
-    if awaited != '-':
-        return 'the request expired at %s' % human.clock(int(awaited.split('/')[2]))
-    if step.before.get('answered') == 'yes':
-        return 'no request is pending: the last one was answered already'
-    return 'no request is pending'
+def why_late(step):
+    return 'the request expired at %s' % human.clock(int(step.before['pending'].split('/')[2]))
 
 
 def why_version(step):
@@ -157,7 +152,7 @@ PROFILE = {34: lambda s: 'the lower poll limit is %s, and has to be 8 (256 s) or
            36: lambda s: 'the start version is %s, and the profile has no upgrading' % s.given['start'],
            37: lambda s: 'a cookie of the first list has %d bytes, and may have 100' % next(n for n in cookie_lengths(s) if n > 100)}
 WHY = {('reply', 1): why_undecodable,
-       ('reply', 2): why_version, ('reply', 3): why_not_awaited, ('reply', 4): why_foreign, ('reply', 14): why_not_awaited,
+       ('reply', 2): why_version, ('reply', 4): why_foreign, ('reply', 14): why_late,
        ('reply', 10): lambda s: 'its stratum is %d' % octets(s)[1] if s.head == 'reply' else 'its stratum is %s' % s.given['stratum'],
        **{(call, number): why for call in ('metered', 'profile') for number, why in PROFILE.items()},
        ('accept', 40): lambda s: 'its stratum is %s, ours is %s' % (s.before['stratum'], s.given['stratum'])

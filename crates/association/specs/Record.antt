@@ -1,6 +1,6 @@
 -- The record: blank, new, and when it is whole (RULES, "Settings and a whole record").
 -- Assumes nothing.
-use mathlib.Core.Bool.{Bool, false, _&&_, _||_}
+use mathlib.Core.Bool.{Bool, false, not, cond, _&&_, _||_}
 use mathlib.Core.List.{List}
 use Prim.Native.Nat.{ℕ}
 use lib.Dec.{eqb}
@@ -22,9 +22,9 @@ use Rattle.association.specs.declared.State.{State}
 use Rattle.association.specs.declared.Association.{Association}
 use Rattle.association.specs.Settings.{settingsValid}
 
--- nothing is pending: absent things are zero
-unfoldable pub noPending : Pending
-noPending = record { present = false; id = 0; uid = replicate 32 0; deadline = 0 }
+-- nothing is pending: absent things are zero; what stays is whether a reply has been measured since the last sent poll (RULES, No. 3)
+unfoldable pub noPending : Bool → Pending
+noPending answered = record { present = false; id = 0; uid = replicate 32 0; deadline = 0; answered = answered }
 
 -- the blank record: all zero, V4
 unfoldable pub blankOf : Association
@@ -48,11 +48,11 @@ blankOf =
             version = version V4;
             polls = record { last = interval (pos 0); remote = interval (pos 0) };
             source = record { stratum = 0; refid = named 0; denial = false };
-            request = noPending;
+            request = noPending false;
           };
     }
 
--- a new association has reach 0, tries 0, stratum 16, reference identifier XNON, both poll values at min, nothing pending, no denial noted
+-- a new association has reach 0, tries 0, stratum 16, reference identifier XNON, both poll values at min, nothing pending, no reply measured, no denial noted
 unfoldable pub freshOf : Settings → Association
 freshOf s =
     record {
@@ -64,7 +64,7 @@ freshOf s =
             version = s .start;
             polls = record { last = s .min; remote = s .min };
             source = record { stratum = 16; refid = named xnon; denial = false };
-            request = noPending;
+            request = noPending false;
           };
     }
 
@@ -75,16 +75,16 @@ withStash a s = record { settings = a .settings; stash = s; state = a .state }
 abbrev pub withState : Association → State → Association
 withState a s = record { settings = a .settings; stash = a .stash; state = s }
 
--- absent things are zero
+-- beside a pending request no reply has been measured (RULES, No. 3); absent things are zero
 unfoldable pub pendingValid : Pending → Bool
-pendingValid r = r .present || (eqb (r .id) 0 && (eqb (r .deadline) 0 && zeros (r .uid)))
+pendingValid r = cond (r .present) (not (r .answered)) (eqb (r .id) 0 && (eqb (r .deadline) 0 && zeros (r .uid)))
 
 -- without NTS read, held and uid are zero
 unfoldable pub idleValid : Bool → ℕ → ℕ → List ℕ → Bool
 idleValid nts read held uid = nts || (eqb read 0 && (eqb held 0 && zeros uid))
 
--- a record is whole if its settings hold, its stash is whole (read < 8, held ≤ 8, free slots have length 0, bytes past a slot's stored bytes are zero), absent things are zero,
--- and without NTS read, held and uid are zero
+-- a record is whole if its settings hold, its stash is whole (read < 8, held ≤ 8, free slots have length 0, bytes past a slot's stored bytes are zero), a pending request is unanswered,
+-- absent things are zero, and without NTS read, held and uid are zero
 unfoldable pub wholeSeen : Settings → Seen → Pending → Bool
 wholeSeen s v q = settingsValid s && (v .whole && (pendingValid q && idleValid (s .nts) (v .read) (v .held) (q .uid)))
 

@@ -57,12 +57,14 @@ pub struct Source {
     pub denial: bool,
 }
 
-// The pending request; where none is, all is zero.
+// The pending request; where none is, its numbers are zero.
 pub struct Pending {
     pub present: bool,
     pub id: u64,
     pub uid: [u8; 32],
     pub deadline: u64,
+    // Whether a reply has been measured since the last poll was sent: it tells why nothing is pending.
+    pub answered: bool,
 }
 
 // What the calls change of an association, but for its cookies.
@@ -117,24 +119,25 @@ impl Settings {
 }
 
 impl Pending {
-    // No request is pending.
-    pub fn none() -> Pending
-        ensures { λ r. ⌜ r ≡ noPending ⌝ }
+    // No request is pending, since one was answered or since none was sent.
+    pub fn none(answered: bool) -> Pending
+        ensures { λ r. ⌜ r ≡ noPending answered ⌝ }
     {
         Pending {
             present: false,
             id: 0,
             uid: [0u8; 32],
             deadline: 0,
+            answered,
         }
     }
 
-    // Whether an absent request is zero.
+    // Whether a pending request is unanswered, and an absent one zero.
     pub fn valid(self) -> bool
         ensures { λ r. ⌜ r ≡ pendingValid self ⌝ }
     {
         if self.present {
-            return true;
+            return !self.answered;
         }
         if self.id != 0 {
             return false;
@@ -190,7 +193,7 @@ impl Association {
             kind: ProtocolVersion::V4,
         };
         let stash = CookieStash::new();
-        let request = Pending::none();
+        let request = Pending::none(false);
         Association {
             settings: Settings {
                 min: zero,
@@ -241,7 +244,7 @@ impl Association {
         let stash = CookieStash::new();
         let version = settings.start;
         let min = settings.min;
-        let request = Pending::none();
+        let request = Pending::none(false);
         Association {
             settings,
             stash,

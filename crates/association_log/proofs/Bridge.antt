@@ -20,10 +20,11 @@ use Rattle.reply.proofs.reply as R
 use Rattle.reply.proofs.reply_decoded as D
 use Rattle.reply.proofs.Determined.{reply-post, reply-decoded-post}
 use Rattle.log.specs.Log.{Accepted}
-use Rattle.log.specs.Machine.{Call, timer, reply, Done, ofTimer, ofReply, logged, run, after}
+use Rattle.log.specs.Machine.{Call, timer, reply, Done, ofTimer, ofReply, logged, run, after, logOf}
 use Rattle.log.specs.Demand.{Demand3}
+use Rattle.log.specs.Why.{Why}
 use Rattle.association_log.specs.Association.{TimerIn, ReplyIn, bytes, decoded, rule, machine}
-use Rattle.association_log.proofs.Demand.{association-demand3}
+use Rattle.association_log.proofs.Demand.{association-demand3, association-why}
 
 -- the inputs of a call, as the log holds them
 abbrev timerIn : (κs : Lfts 2) → ArgsD T.signature κs → TimerIn
@@ -70,3 +71,9 @@ pub code-demand3 : (s : Settings) (list : List ℕ) {b : Association} {cs : List
 code-demand3 s list {cs} r ok =
     let k = ran-is-run r in
     (k .0, k .1, association-demand3 s list cs (rw (k .0) at ok))
+
+-- No. 3 of the code: of any run of its calls from what `new` made, the log says why a reply had no live request
+pub code-why : (s : Settings) (list : List ℕ) {b : Association} {cs : List (Call rule)} {ds : List (Done machine)} →
+    let a = newOf s list .association in
+    Ran a cs ds b → (logged machine ds ≡ logOf machine a cs) × Why machine a cs
+code-why s list {cs} r = (ap (logged machine) (ran-is-run r .0), association-why s list cs)

@@ -84,6 +84,7 @@ machine = record {
   Quiet = λ x. reply.actionsOf (reply.numberOf x) ≡ [];
   settings = λ a. a .settings;
   pending = λ a. pendingIn (a .state .request);
+  answered = λ a. a .state .request .answered;
   timer = timed;
   reply = replied;
 }

@@ -53,19 +53,21 @@ mod field {
 
     pub const UID: usize = 8;
 
-    pub const READ: usize = 9;
+    pub const ANSWERED: usize = 9;
 
-    pub const HELD: usize = 10;
+    pub const READ: usize = 10;
 
-    pub const SLOTBYTE: usize = 11;
+    pub const HELD: usize = 11;
 
-    pub const MIN: usize = 12;
+    pub const SLOTBYTE: usize = 12;
 
-    pub const MAX: usize = 13;
+    pub const MIN: usize = 13;
 
-    pub const STARTUP: usize = 14;
+    pub const MAX: usize = 14;
 
-    pub const WINDOW: usize = 15;
+    pub const STARTUP: usize = 15;
+
+    pub const WINDOW: usize = 16;
 }
 
 fn put_version(out: &mut [u8], at: usize, version: Version) -> usize {
@@ -129,6 +131,14 @@ fn put_stash(out: &mut [u8], at: usize, stash: CookieStash) -> usize {
     put_lengths(out, at, stash)
 }
 
+fn put_answered(out: &mut [u8], at: usize, answered: bool) -> usize {
+    if answered {
+        print::text(out, at, b" answered=yes")
+    } else {
+        print::text(out, at, b" answered=no")
+    }
+}
+
 // How the polls went, and how the next ones go.
 fn put_polling(out: &mut [u8], state: State) -> usize {
     let effort = state.effort;
@@ -164,7 +174,9 @@ pub fn show(a: Association, line: &[u8], number: u64, out: &mut [u8]) -> Ran {
     let at = put_polling(out, state);
     let at = put_answers(out, at, state);
     let stash = a.stash;
-    let end = put_stash(out, at, stash);
+    let at = put_stash(out, at, stash);
+    let request = state.request;
+    let end = put_answered(out, at, request.answered);
     Ran {
         association: a,
         end,
@@ -280,6 +292,7 @@ fn with_uid(request: Pending, digits: &[u8]) -> Pending {
         id: request.id,
         uid,
         deadline: request.deadline,
+        answered: request.answered,
     }
 }
 
@@ -292,6 +305,10 @@ fn poke_request(request: Pending, key: usize, n: u64, digits: &[u8]) -> Pending 
         }
         field::DEADLINE => {
             next.deadline = n;
+        }
+        field::ANSWERED => {
+            let answered = n == 1;
+            next.answered = answered;
         }
         _ => {
             next = with_uid(request, digits);
@@ -371,7 +388,7 @@ fn poked(a: Association, key: usize, n: u64, digits: &[u8]) -> Association {
             let state = poke_state(state, key, n);
             next.state = state;
         }
-        field::ID..=field::UID => {
+        field::ID..=field::ANSWERED => {
             let mut state = a.state;
             let request = state.request;
             let request = poke_request(request, key, n, digits);
@@ -421,7 +438,7 @@ fn poke_by(
 }
 
 // The keys of poke: reach, tries, stratum and startup are unsigned 8-bit numbers, refid is 8 hexadecimal digits, last, remote, min and
-// max are signed 8-bit numbers, deadline, read, held and window unsigned 64-bit ones, id 16 digits, uid 32 bytes, slotbyte a byte of a slot.
+// max are signed 8-bit numbers, deadline, read, held and window unsigned 64-bit ones, id 16 digits, uid 32 bytes, answered 0 or 1, slotbyte a byte of a slot.
 pub fn poke(a: Association, line: &[u8], number: u64, out: &mut [u8]) -> Ran {
     let v = keys::read(line, number, b"key:t value:t", out);
     if v.refused {
@@ -434,7 +451,7 @@ pub fn poke(a: Association, line: &[u8], number: u64, out: &mut [u8]) -> Ran {
         a,
         v.text(poke_key::KEY, line),
         v.text(poke_key::VALUE, line),
-        b"reach:u tries:u stratum:u refid:f last:b remote:b id:x deadline:n uid:i read:n held:n slotbyte:p min:b max:b startup:u window:n",
+        b"reach:u tries:u stratum:u refid:f last:b remote:b id:x deadline:n uid:i answered:a read:n held:n slotbyte:p min:b max:b startup:u window:n",
         number,
         out,
     )

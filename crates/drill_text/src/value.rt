@@ -438,6 +438,7 @@ pub fn parse(kind: u8, s: &[u8]) -> Number {
     match kind {
         b'n' => decimal(s, 0, u64::MAX),
         b'u' => decimal(s, 0, MAX_U8),
+        b'a' => decimal(s, 0, 1),
         b'b' => signed(s, HALF_I8),
         b's' => signed(s, HALF_I64),
         b'l' => decimal(s, leap::NO_WARNING, leap::UNSYNCHRONIZED),

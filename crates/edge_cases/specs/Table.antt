@@ -18,7 +18,7 @@ use Rattle.cookielist.specs.List.{listBroken}
 use Rattle.cookiestash.specs.declared.Seen.{Seen}
 use Rattle.association.specs.declared.Settings.{Settings}
 use Rattle.association.specs.declared.State.{State}
-use Rattle.association.specs.Record.{wholeSeen}
+use Rattle.association.specs.Record.{noPending, wholeSeen}
 use Rattle.incoming.specs.declared.Reply.{Reply}
 use Rattle.timer_rules.specs.declared.TimerAnswer.{TimerAnswer}
 use Rattle.timer_rules.specs.declared.TimerAnswer.the-variants.{Sent, Reset, Demobilize, NoCookie, CookieTooLarge, ShortBuffer, NotWhole}
@@ -45,6 +45,8 @@ pub data Case : Type 0 where
   live-at : (sent window time : ℕ) → Case
   -- when a poll was sent and its window, and the number that a reply gives at a time
   late-at : (sent window time number : ℕ) → Case
+  -- nothing is pending, a reply has been measured since the last sent poll or not, and the number that a reply gives (RULES, No. 3)
+  unasked : (answered : Bool) (number : ℕ) → Case
   -- a version and a plain reply
   plain-reply : (kind next : ProtocolVersion) → Case
   -- the remote minimum, the upper limit and the last poll, and the remote minimum after RATE
@@ -96,6 +98,8 @@ Right (live-at sent window time) = (nts : Bool) (i : TimerInput) → i .time ≡
 Right (late-at sent window time n) =
     (g : Settings) (s : State) (i : TimerInput) (r : Reply) (t : Arrival) → Heard g s r t →
     i .time ≡ sent → s .request ≡ pendingOf (g .nts) window i → t .time ≡ time → reply.numberOf (judgeOf g s r t .answer) ≡ n
+Right (unasked answered n) =
+    (g : Settings) (s : State) (r : Reply) (t : Arrival) → Heard g s r t → s .request ≡ noPending answered → reply.numberOf (judgeOf g s r t .answer) ≡ n
 Right (plain-reply k n) = stepped k false ≡ n
 Right (rated r m l n) = afterRate r m l ≡ n
 Right (measured t1 t2 t3 t4 d o l) = (delayOf t1 t2 t3 t4 ≡ d) × (offsetOf t1 t2 t3 t4 ≡ o) × (localTime t1 t4 ≡ l)
@@ -119,7 +123,9 @@ table =
     ∷ asks 8 91 20 7
     ∷ asks 1 0 20 1
     ∷ live-at 1000 5000 6000
-    ∷ late-at 1000 5000 6001 3
+    ∷ late-at 1000 5000 6001 14
+    ∷ unasked false 12
+    ∷ unasked true 13
     ∷ plain-reply (Upgrading 2) (Upgrading 1)
     ∷ plain-reply (Upgrading 1) V4
     ∷ plain-reply (Upgrading 0) V4

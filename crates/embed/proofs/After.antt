@@ -64,10 +64,10 @@ module _ (a : CAssociation) (i : CInput) (buffer : List ℕ) where
           q ∙ ((λ j. timerGave (timerAnswer (r .answer)) (same j) (kept j)) ∙ sym (ap (λ (c : TimerCall). timerGave (c .answer) a buffer) q))
       by false e = let q = refused a i buffer e in q ∙ sym (ap (λ (c : TimerCall). timerGave (c .answer) a buffer) q)
 
--- ---- the reply: 1, 2, 3, 4, 32 and 33
+-- ---- the reply: 1, 2, 4, 12, 13, 14, 32 and 33
 
 abbrev pub turnsAway : ℕ → Bool
-turnsAway n = (leb 1 n && leb n 4) || leb 32 n
+turnsAway n = (leb 1 n && leb n 4) || leb 12 n
 
 module _ (a : CAssociation) (read : ReplyRead) (t : Arrival) where
   abbrev reply : ReplyCall

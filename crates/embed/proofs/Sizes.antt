@@ -4,7 +4,7 @@ use mathlib.Core.Path.{_≡_, refl}
 use prog.Memory.{align, size}
 use Rattle.embed_record.proofs.CAssociation.Laws as Rec
 
-pub record-size : size Rec.mir ≡ 5920
+pub record-size : size Rec.mir ≡ 5928
 record-size = refl
 
 pub record-align : align Rec.mir ≡ 8

@@ -32,9 +32,9 @@ ghost use Rattle.embed.specs.Written.{unwritten, collectedAs, requestedA
 // How many bytes a record has, and at a multiple of what it lies.
 #[no_mangle]
 pub extern "C" fn reckonstile_size() -> usize
-    ensures { λ r. ⌜ r ≡ 5920 ⌝ }
+    ensures { λ r. ⌜ r ≡ 5928 ⌝ }
 {
-    5920
+    5928
 }
 
 #[no_mangle]

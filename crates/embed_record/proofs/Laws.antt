@@ -123,14 +123,21 @@ pub state-back : (s : State) → unpackState (packState s) ≡ record { ok = tru
 unfolding packState stateIn
 state-back s =
     λ i. record {
-      ok = version-named (s .version .kind) i && (truth-named (s .source .denial) i && truth-named (s .request .present) i);
+      ok = version-named (s .version .kind) i && (truth-named (s .source .denial) i && (truth-named (s .request .present) i && truth-named (s .request .answered) i));
       state =
           record {
             effort = s .effort;
             version = record { kind = version-back (s .version .kind) i };
             polls = s .polls;
             source = record { stratum = s .source .stratum; refid = s .source .refid; denial = truth-back (s .source .denial) i };
-            request = record { present = truth-back (s .request .present) i; id = s .request .id; uid = s .request .uid; deadline = s .request .deadline };
+            request =
+                record {
+                  present = truth-back (s .request .present) i;
+                  id = s .request .id;
+                  uid = s .request .uid;
+                  deadline = s .request .deadline;
+                  answered = truth-back (s .request .answered) i;
+                };
           };
     }
 
@@ -139,6 +146,7 @@ unfolding packState stateIn
 cstate-back c e =
     let kind = isKind (c .version) (c .left) in
     let bits = right-true kind _ e in
+    let request = right-true (isBit (c .denial)) _ bits in
     let name = name-back (c .version) (c .left) (left-true kind _ e) in
     λ i. record {
       effort = c .effort;
@@ -147,11 +155,12 @@ cstate-back c e =
       version = name .0 i;
       left = name .1 i;
       stratum = c .stratum;
-      denial = bit-back (c .denial) (left-true _ (isBit (c .present)) bits) i;
-      present = bit-back (c .present) (right-true (isBit (c .denial)) _ bits) i;
+      denial = bit-back (c .denial) (left-true _ (isBit (c .present) && isBit (c .answered)) bits) i;
+      present = bit-back (c .present) (left-true _ (isBit (c .answered)) request) i;
       id = c .id;
       deadline = c .deadline;
       uid = c .uid;
+      answered = bit-back (c .answered) (right-true (isBit (c .present)) _ request) i;
     }
 
 -- what the test of both groups, unpacked, says of the record

@@ -50,7 +50,7 @@ packSettings s =
 -- ---- state
 
 abbrev pub stateOk : CState → Bool
-stateOk c = isKind (c .version) (c .left) && (isBit (c .denial) && isBit (c .present))
+stateOk c = isKind (c .version) (c .left) && (isBit (c .denial) && (isBit (c .present) && isBit (c .answered)))
 
 unfoldable pub stateIn : CState → State
 stateIn c =
@@ -59,7 +59,7 @@ stateIn c =
       version = versionIn (c .version) (c .left);
       polls = c .polls;
       source = record { stratum = c .stratum; refid = c .refid; denial = truth (c .denial) };
-      request = record { present = truth (c .present); id = c .id; uid = c .uid; deadline = c .deadline };
+      request = record { present = truth (c .present); id = c .id; uid = c .uid; deadline = c .deadline; answered = truth (c .answered) };
     }
 
 abbrev pub unpackState : CState → UnpackedState
@@ -79,6 +79,7 @@ packState s =
       id = s .request .id;
       deadline = s .request .deadline;
       uid = s .request .uid;
+      answered = bitOf (s .request .answered);
     }
 
 -- ---- the record

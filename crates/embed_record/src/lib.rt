@@ -52,6 +52,8 @@ pub struct CState {
     pub id: u64,
     pub deadline: u64,
     pub uid: [u8; 32],
+    // 0 or 1: whether a reply has been measured since the last sent poll. Eight bytes, since all else is at a multiple of eight.
+    pub answered: u64,
 }
 
 #[repr(C)]
@@ -126,13 +128,13 @@ fn left_out(version: Version) -> u8
     }
 }
 
-pub fn is_bit(n: u32) -> bool
+pub fn is_bit(n: u64) -> bool
     ensures { λ r. ⌜ r ≡ isBit n ⌝ }
 {
     n <= 1
 }
 
-pub fn truth(n: u32) -> bool
+pub fn truth(n: u64) -> bool
     ensures { λ r. ⌜ r ≡ truth n ⌝ }
 {
     n == 1
@@ -161,10 +163,10 @@ pub fn unpack_settings(c: CSettings) -> UnpackedSettings
     ensures { λ r. ⌜ r ≡ unpackSettings c ⌝ }
 {
     let kind = is_kind(c.start, c.left);
-    let flag = is_bit(c.nts);
+    let flag = is_bit(c.nts as u64);
     let ok = both(kind, flag);
     let start = version_in(c.start, c.left);
-    let nts = truth(c.nts);
+    let nts = truth(c.nts as u64);
     let min = c.min;
     let max = c.max;
     let source = c.source;
@@ -209,9 +211,11 @@ fn state_ok(c: CState) -> bool
     ensures { λ r. ⌜ r ≡ stateOk c ⌝ }
 {
     let kind = is_kind(c.version, c.left);
-    let denial = is_bit(c.denial as u32);
-    let present = is_bit(c.present as u32);
-    let bits = both(denial, present);
+    let denial = is_bit(c.denial as u64);
+    let present = is_bit(c.present as u64);
+    let answered = is_bit(c.answered);
+    let request = both(present, answered);
+    let bits = both(denial, request);
     both(kind, bits)
 }
 
@@ -224,8 +228,9 @@ pub fn unpack_state(c: CState) -> UnpackedState
     let refid = c.refid;
     let uid = c.uid;
     let version = version_in(c.version, c.left);
-    let denial = truth(c.denial as u32);
-    let present = truth(c.present as u32);
+    let denial = truth(c.denial as u64);
+    let present = truth(c.present as u64);
+    let answered = truth(c.answered);
     let source = Source {
         stratum: c.stratum,
         refid,
@@ -236,6 +241,7 @@ pub fn unpack_state(c: CState) -> UnpackedState
         id: c.id,
         uid,
         deadline: c.deadline,
+        answered,
     };
     let state = State {
         effort,
@@ -261,6 +267,7 @@ pub fn pack_state(s: State) -> CState
     let left = left_out(kind);
     let denial = bit(source.denial);
     let present = bit(request.present);
+    let answered = bit(request.answered);
     CState {
         effort,
         polls,
@@ -273,6 +280,7 @@ pub fn pack_state(s: State) -> CState
         id: request.id,
         deadline: request.deadline,
         uid,
+        answered: answered as u64,
     }
 }
 

@@ -47,7 +47,9 @@ pub reply-number : (r : ReplyAnswer) → replyAnswer r .number ≡ reply-answer.
 reply-number (R.Measured m) = refl
 reply-number R.Undecodable = refl
 reply-number R.UnexpectedVersion = refl
-reply-number R.NoLiveRequest = refl
+reply-number R.NeverSent = refl
+reply-number R.AlreadyMeasured = refl
+reply-number R.Expired = refl
 reply-number R.NoMatch = refl
 reply-number R.Rate = refl
 reply-number R.Denied = refl

@@ -80,7 +80,9 @@ abbrev pub replyAnswer : ReplyAnswer → CReplyAnswer
 replyAnswer (R.Measured m) = measuredAs m
 replyAnswer R.Undecodable = unmeasured 1
 replyAnswer R.UnexpectedVersion = unmeasured 2
-replyAnswer R.NoLiveRequest = unmeasured 3
+replyAnswer R.NeverSent = unmeasured 12
+replyAnswer R.AlreadyMeasured = unmeasured 13
+replyAnswer R.Expired = unmeasured 14
 replyAnswer R.NoMatch = unmeasured 4
 replyAnswer R.Rate = unmeasured 5
 replyAnswer R.Denied = unmeasured 6

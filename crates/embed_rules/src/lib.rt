@@ -236,7 +236,9 @@ fn reply_answer(answer: ReplyAnswer) -> CReplyAnswer
         ReplyAnswer::Measured(m) => measured(m),
         ReplyAnswer::Undecodable => unmeasured(1),
         ReplyAnswer::UnexpectedVersion => unmeasured(2),
-        ReplyAnswer::NoLiveRequest => unmeasured(3),
+        ReplyAnswer::NeverSent => unmeasured(12),
+        ReplyAnswer::AlreadyMeasured => unmeasured(13),
+        ReplyAnswer::Expired => unmeasured(14),
         ReplyAnswer::NoMatch => unmeasured(4),
         ReplyAnswer::Rate => unmeasured(5),
         ReplyAnswer::Denied => unmeasured(6),
@@ -410,7 +412,7 @@ fn uids_ok(authenticated: u8, encrypted: u8, untrusted: u8) -> bool
 fn decoded_ok(d: CDecoded) -> bool
     ensures { λ r. ⌜ r ≡ decodedOk d ⌝ }
 {
-    let kinds = embed_record::both(at_most(d.leap, 4), embed_record::is_bit(d.mode));
+    let kinds = embed_record::both(at_most(d.leap, 4), embed_record::is_bit(d.mode as u64));
     let kisses = bits_ok(d.rate, d.deny, d.rstr, d.ntsn, d.any);
     let uids = uids_ok(d.authenticated, d.encrypted, d.untrusted);
     let rest = embed_record::both(kisses, uids);

@@ -30,7 +30,7 @@ use Rattle.reply_clauses.specs.After.{Arrival, stepped, afterRateKiss}
 use Rattle.reply_rules.specs.Answer as reply
 use Rattle.reply.specs.declared.ReplyOut.{ReplyOut}
 use Rattle.reply.specs.Numbers as N
-use Rattle.reply.specs.Numbers.{not-whole, undecodable, broken-list, unexpected-version, no-live-request, no-match, rate, denied, denied-nts, ntsn, other-kiss, bad-stratum, not-server, measured}
+use Rattle.reply.specs.Numbers.{not-whole, undecodable, broken-list, unexpected-version, never-sent, already-measured, late, no-match, rate, denied, denied-nts, ntsn, other-kiss, bad-stratum, not-server, measured}
 use Rattle.reply.proofs.Numbers.{given}
 use Rattle.reply.proofs.After.{Heard, heard, Paced, paced}
 use Rattle.log.specs.Machine as M
@@ -126,7 +126,9 @@ module _ (a : Association) (read : ReplyRead) (t : Arrival) (w : Inside a) where
   same-remote (undecodable v e) = refl
   same-remote (broken-list d e) = refl
   same-remote (unexpected-version l e) = refl
-  same-remote (no-live-request x e) = refl
+  same-remote (never-sent x e) = refl
+  same-remote (already-measured x e) = refl
+  same-remote (late x e) = refl
   same-remote (no-match i e) = refl
   same-remote (rate {r} m e) =
       let pending = both (a .state .request .present) _ (m .in-time .pending) .0 in

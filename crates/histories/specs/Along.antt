@@ -30,6 +30,7 @@ module _ {D : Rule} (M : Machine D) where
     Quiet = M .Quiet;
     settings = M .settings;
     pending = M .pending;
+    answered = M .answered;
     timer = M .timer;
     reply = reply;
   }

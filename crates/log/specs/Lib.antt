@@ -1,4 +1,5 @@
--- Logs, machines, and what demand 3 says of them.
+-- Logs, machines, and what demand 3 and No. 3 say of them.
 pub mod Log
 pub mod Machine
 pub mod Demand
+pub mod Why

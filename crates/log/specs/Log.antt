@@ -30,7 +30,7 @@ accepted (timed t n) = not (eqb n 31 || eqb n 32)
 accepted (replied r n) = wellFormed n
 
 abbrev pub refusal : ℕ → Bool
-refusal n = eqb n 2 || eqb n 3 || eqb n 4
+refusal n = eqb n 2 || eqb n 4 || eqb n 12 || eqb n 13 || eqb n 14
 
 abbrev pub sent : {D : Rule} → Entry D → Bool
 sent (timed t n) = eqb n 20
@@ -64,6 +64,28 @@ askedFrom D s q (e ∷ es) = askedFrom D s (next D s q e) es
 -- The last poll sent, unmeasured, as a log from a new association says it.
 abbrev pub asked : (D : Rule) → D .Settings → List (Entry D) → Option (D .Request)
 asked D s log = askedFrom D s none log
+
+-- Whether a reply has been measured since the last sent poll (RULES, No. 3): a sent poll makes it no, a measured reply yes, all else leaves it.
+abbrev pub nextAnswered : {D : Rule} → Bool → Entry D → Bool
+nextAnswered w (timed t n) = cond (eqb n 20) false w
+nextAnswered w (replied r n) = cond (eqb n 0) true w
+
+abbrev pub answeredFrom : {D : Rule} → Bool → List (Entry D) → Bool
+answeredFrom w [] = w
+answeredFrom w (e ∷ es) = answeredFrom (nextAnswered w e) es
+
+-- Why a reply has no live request: 12 never sent, 13 already measured, 14 deadline before now; 0 where what is asked for is unexpired.
+abbrev pub reason : (D : Rule) → Option (D .Request) → Bool → D .Reply → ℕ
+reason D none false r = 12
+reason D none true r = 13
+reason D (some q) w r = cond (D .unexpired q r) 0 14
+
+-- Which of these a number says, 0 where it says none; and the numbers of replies that come so far: well-formed, and of a version that is expected (not 2).
+abbrev pub says : ℕ → ℕ
+says n = cond (eqb n 12 || eqb n 13 || eqb n 14) n 0
+
+abbrev pub considered : ℕ → Bool
+considered n = wellFormed n && not (eqb n 2)
 
 -- The reply answers what is asked for, in time.
 abbrev pub live : (D : Rule) → D .Settings → Option (D .Request) → D .Reply → Bool

@@ -1,8 +1,8 @@
--- What a reply leaves: on 1, 2, 3, 4, 32 and 33 the record; on 7 to 11 all but the version; on all but 0 the pending request, which 0 clears; always the settings.
+-- What a reply leaves: on 1, 2, 4, 12, 13, 14, 32 and 33 the record; on 7 to 11 all but the version; on all but 0 the pending request and the fact beside it (No. 3), which 0 clears and makes yes; always the settings.
 -- And the poll values: the last one stays, and the remote minimum never falls; on all but 0 and 5 it stays too.
 -- Assumes nothing.
 use mathlib.Core.Path.{_≡_, refl, sym, ap, _∙_}
-use mathlib.Core.Bool.{Bool, false, _&&_, _||_, cond}
+use mathlib.Core.Bool.{Bool, true, false, _&&_, _||_, cond}
 use Prim.Native.Nat.{ℕ}
 use lib.Dec.{T, leb, eqb}
 use lib.Signed.{_≤ℤ_, ≤ℤ-refl}
@@ -16,13 +16,13 @@ use Rattle.incoming.specs.declared.ReplyRead.{ReplyRead}
 use Rattle.reply_clauses.specs.After.{Arrival, stepped, afterRateKiss, afterDenial, afterMeasured}
 use Rattle.reply_clauses.proofs.Remote.{raised-keeps}
 use Rattle.reply.specs.declared.ReplyOut.{ReplyOut}
-use Rattle.reply.specs.Numbers.{Given, not-whole, undecodable, broken-list, unexpected-version, no-live-request, no-match, rate, denied, denied-nts, ntsn, other-kiss, bad-stratum, not-server, measured}
+use Rattle.reply.specs.Numbers.{Given, not-whole, undecodable, broken-list, unexpected-version, never-sent, already-measured, late, no-match, rate, denied, denied-nts, ntsn, other-kiss, bad-stratum, not-server, measured}
 
 -- what a reply that gives the number n leaves
 pub record Heard (a : Association) (n : ℕ) (o : ReplyOut) : Type 0 where
   pub settings : o .association .settings ≡ a .settings
-  pub request : o .association .state .request ≡ cond (eqb n 0) noPending (a .state .request)
-  pub same : T ((leb 1 n && leb n 4) || leb 32 n) → o .association ≡ a
+  pub request : o .association .state .request ≡ cond (eqb n 0) (noPending true) (a .state .request)
+  pub same : T ((leb 1 n && leb n 4) || leb 12 n) → o .association ≡ a
   pub version : T (leb 7 n && leb n 11) → ((upgrade : Bool) × (o .association ≡ withState a (stepped (a .state) upgrade)))
 
 module _ (a : Association) (read : ReplyRead) (t : Arrival) where
@@ -32,7 +32,9 @@ module _ (a : Association) (read : ReplyRead) (t : Arrival) where
   heard (undecodable w e) = record { settings = refl; request = refl; same = λ _. refl; version = absurd }
   heard (broken-list d e) = record { settings = refl; request = refl; same = λ _. refl; version = absurd }
   heard (unexpected-version l e) = record { settings = refl; request = refl; same = λ _. refl; version = absurd }
-  heard (no-live-request x e) = record { settings = refl; request = refl; same = λ _. refl; version = absurd }
+  heard (never-sent x e) = record { settings = refl; request = refl; same = λ _. refl; version = absurd }
+  heard (already-measured x e) = record { settings = refl; request = refl; same = λ _. refl; version = absurd }
+  heard (late x e) = record { settings = refl; request = refl; same = λ _. refl; version = absurd }
   heard (no-match i e) = record { settings = refl; request = refl; same = λ _. refl; version = absurd }
   heard (rate m e) = record { settings = refl; request = refl; same = absurd; version = absurd }
   heard (denied u e f) = record { settings = refl; request = refl; same = absurd; version = absurd }
@@ -65,7 +67,9 @@ module _ (a : Association) (read : ReplyRead) (t : Arrival) where
   paced (undecodable w e) = unmoved refl refl
   paced (broken-list d e) = unmoved refl refl
   paced (unexpected-version l e) = unmoved refl refl
-  paced (no-live-request x e) = unmoved refl refl
+  paced (never-sent x e) = unmoved refl refl
+  paced (already-measured x e) = unmoved refl refl
+  paced (late x e) = unmoved refl refl
   paced (no-match i e) = unmoved refl refl
   paced (rate m e) = record { last = refl; remote = λ _. refl; least = rate-keeps (a .state .polls .remote .0) (a .settings .max .0) (a .state .polls .last .0) }
   paced (denied u e f) = unmoved refl refl

@@ -18,7 +18,7 @@ use Rattle.incoming.specs.declared.ReplyRead.{ReplyRead}
 use Rattle.reply_clauses.specs.After.{Arrival, stepped, afterRateKiss, afterDenial, afterMeasured}
 use Rattle.reply.specs.declared.ReplyOut.{ReplyOut}
 use Rattle.reply.specs.Reply.{repliedOf}
-use Rattle.reply.specs.Numbers.{Given, not-whole, undecodable, broken-list, unexpected-version, no-live-request, no-match, rate, denied, denied-nts, ntsn, other-kiss, bad-stratum, not-server, measured}
+use Rattle.reply.specs.Numbers.{Given, not-whole, undecodable, broken-list, unexpected-version, never-sent, already-measured, late, no-match, rate, denied, denied-nts, ntsn, other-kiss, bad-stratum, not-server, measured}
 use Rattle.reply.proofs.Numbers.{given}
 
 -- with NTS the cookies are stored, and without it read and held stay zero
@@ -30,7 +30,7 @@ module _ (s : CookieStash) (list : List ℕ) where
   stored-whole true w = store-list-whole 8 s w list
   stored-whole false w = w
 
-  stored-idle : (nts : Bool) (uid : List ℕ) → idleValid nts (s .read) (s .held) uid ≡ true → idleValid nts (stored nts .read) (stored nts .held) (noPending .uid) ≡ true
+  stored-idle : (nts : Bool) (uid : List ℕ) → idleValid nts (s .read) (s .held) uid ≡ true → idleValid nts (stored nts .read) (stored nts .held) (noPending true .uid) ≡ true
   unfolding idleValid noPending
   stored-idle true uid e = refl
   stored-idle false uid e =
@@ -45,7 +45,9 @@ module _ (a : Association) (read : ReplyRead) (t : Arrival) (w : Whole a) where
   given-whole (undecodable v e) = w
   given-whole (broken-list d e) = w
   given-whole (unexpected-version l e) = w
-  given-whole (no-live-request x e) = w
+  given-whole (never-sent x e) = w
+  given-whole (already-measured x e) = w
+  given-whole (late x e) = w
   given-whole (no-match i e) = w
   given-whole (rate m e) = record { settings = w .settings; stash = w .stash; request = w .request; idle = w .idle }
   given-whole (denied u e f) = record { settings = w .settings; stash = w .stash; request = w .request; idle = w .idle }

@@ -1,5 +1,6 @@
 -- Laws that belong to no one function.
 pub mod Numbers
+pub mod Why
 pub mod After
 pub mod Kept
 pub mod Thin

@@ -14,16 +14,17 @@ use Rattle.association.specs.Record.{wholeOf}
 use Rattle.incoming.specs.declared.Reply.{Reply}
 use Rattle.incoming.specs.declared.ReplyRead.{ReplyRead}
 use Rattle.incoming.specs.declared.ReplyRead.the-variants as R
-use Rattle.reply_rules.specs.declared.ReplyAnswer.the-variants.{Measured, NotServer}
+use Rattle.reply_rules.specs.declared.ReplyAnswer.the-variants.{Measured, NeverSent, AlreadyMeasured, Expired, NoMatch, NotServer}
 use Rattle.reply_rules.specs.declared.Verdict.{Verdict}
 use Rattle.reply_rules.specs.Answer.{numberOf}
-use Rattle.reply_clauses.specs.After.{Arrival, live, answers, denies, stepped, afterMeasured, measurementOf}
+use Rattle.reply_clauses.specs.After.{Arrival, neverSent, alreadyMeasured, expired, answers, denies, stepped, afterMeasured, measurementOf}
+use Rattle.reply_clauses.proofs.Why.{passed-live, live-passed, measured-only, expired-only}
 use Rattle.cookielist.specs.List.{listBroken}
 use Rattle.reply_rules.specs.Judge.{leaves, matchedOf, judgeOf, onRead, verdictOf}
 use Rattle.reply.specs.declared.ReplyOut.{ReplyOut}
 use Rattle.reply.specs.Reply.{judged, repliedOf}
 use Rattle.reply.specs.Numbers as N
-use Rattle.reply.specs.Numbers.{not-whole, undecodable, broken-list, unexpected-version, no-live-request, no-match, rate, denied, denied-nts, ntsn, other-kiss, bad-stratum, not-server, measured}
+use Rattle.reply.specs.Numbers.{not-whole, undecodable, broken-list, unexpected-version, never-sent, already-measured, late, no-match, rate, denied, denied-nts, ntsn, other-kiss, bad-stratum, not-server, measured}
 
 module _ (a : Association) (read : ReplyRead) (t : Arrival) where
   abbrev Given : ℕ → ReplyOut → Type 0
@@ -59,10 +60,12 @@ module _ (a : Association) (read : ReplyRead) (t : Arrival) where
       (λ e33. let l : N.Listed a read t r = record { read-as = d; cookies = e33 } in
       either Told (not (expectsOf (a .state .version) (r .version))) (λ e. unexpected-version l (not-true _ e))
       (λ e2. let x : N.Expected a read t r = record { listed = l; version = not-false _ e2 } in
-      either Told (not (live (a .state .request) (t .time))) (λ e. no-live-request x (not-true _ e))
-      (λ e3. let i : N.InTime a read t r = record { expected = x; pending = not-false _ e3 } in
+      either Told (neverSent (a .state .request)) (never-sent x)
+      (λ e12. either Told (alreadyMeasured (a .state .request)) (already-measured x)
+      (λ e13. either Told (expired (a .state .request) (t .time)) (late x)
+      (λ e14. let i : N.InTime a read t r = record { expected = x; pending = passed-live (a .state .request) (t .time) e12 e13 e14 } in
       either Told (not (answers (a .settings .nts) (a .state .request .id) r)) (λ e. no-match i (not-true _ e))
-      (λ e4. matched-told r (record { in-time = i; identifiers = not-false _ e4 })))))
+      (λ e4. matched-told r (record { in-time = i; identifiers = not-false _ e4 })))))))
 
   told : Told verdict
   unfolding verdictOf wholeOf
@@ -74,17 +77,31 @@ module _ (a : Association) (read : ReplyRead) (t : Arrival) where
 
   -- ---- how far a reply comes that passes the tests
 
+  -- what a reply that answers what is pending comes to; and one to which a request is pending, or was
+  abbrev matched : Reply → Verdict
+  matched r = matchedOf (a .settings) (stepped (a .state) (r .upgrade)) r (t .t1) (t .t4) (t .time)
+
+  abbrev unsent : Reply → Verdict
+  unsent r =
+      cond (alreadyMeasured (a .state .request)) (leaves AlreadyMeasured (a .state))
+      (cond (expired (a .state .request) (t .time)) (leaves Expired (a .state))
+      (cond (not (answers (a .settings .nts) (a .state .request .id) r)) (leaves NoMatch (a .state)) (matched r)))
+
   to-read : {r : Reply} → N.Read a read t r → verdict ≡ judgeOf (a .settings) (a .state) r t
   unfolding verdictOf wholeOf
   to-read d = when _ _ (d .whole) ∙ ap (onRead (a .settings) (a .state) t) (d .decoded)
 
-  to-matched : {r : Reply} → N.Matching a read t r → verdict ≡ matchedOf (a .settings) (stepped (a .state) (r .upgrade)) r (t .t1) (t .t4) (t .time)
+  to-expected : {r : Reply} → N.Expected a read t r → verdict ≡ cond (neverSent (a .state .request)) (leaves NeverSent (a .state)) (unsent r)
   unfolding judgeOf
-  to-matched m =
-      let i = m .in-time in
-      let x = i .expected in
-      let l = x .listed in
-      to-read (l .read-as) ∙ unless _ _ (l .cookies) ∙ unless _ _ (ap not (x .version)) ∙ unless _ _ (ap not (i .pending)) ∙ unless _ _ (ap not (m .identifiers))
+  to-expected x = let l = x .listed in to-read (l .read-as) ∙ unless _ _ (l .cookies) ∙ unless _ _ (ap not (x .version))
+
+  to-in-time : {r : Reply} → N.InTime a read t r → verdict ≡ cond (not (answers (a .settings .nts) (a .state .request .id) r)) (leaves NoMatch (a .state)) (matched r)
+  to-in-time i =
+      let p = live-passed (a .state .request) (t .time) (i .pending) in
+      to-expected (i .expected) ∙ unless _ _ (p .sent) ∙ unless _ _ (p .unmeasured) ∙ unless _ _ (p .in-time)
+
+  to-matched : {r : Reply} → N.Matching a read t r → verdict ≡ matched r
+  to-matched m = to-in-time (m .in-time) ∙ unless _ _ (ap not (m .identifiers))
 
   to-ranked : {r : Reply} → N.Ranked a read t r →
       let next = stepped (a .state) (r .upgrade) in
@@ -104,13 +121,14 @@ module _ (a : Association) (read : ReplyRead) (t : Arrival) where
   ruled (undecodable w e) = (refl, ap (judged a (t .list)) (when _ _ w ∙ ap (onRead (a .settings) (a .state) t) e))
   ruled (broken-list d e) = (refl, ap (judged a (t .list)) (to-read d ∙ when _ _ e))
   ruled (unexpected-version l e) = (refl, ap (judged a (t .list)) (to-read (l .read-as) ∙ unless _ _ (l .cookies) ∙ when _ _ (ap not e)))
-  ruled (no-live-request x e) =
-      let l = x .listed in
-      (refl, ap (judged a (t .list)) (to-read (l .read-as) ∙ unless _ _ (l .cookies) ∙ unless _ _ (ap not (x .version)) ∙ when _ _ (ap not e)))
-  ruled (no-match i e) =
-      let x = i .expected in
-      let l = x .listed in
-      (refl, ap (judged a (t .list)) (to-read (l .read-as) ∙ unless _ _ (l .cookies) ∙ unless _ _ (ap not (x .version)) ∙ unless _ _ (ap not (i .pending)) ∙ when _ _ (ap not e)))
+  ruled (never-sent x e) = (refl, ap (judged a (t .list)) (to-expected x ∙ when _ _ e))
+  ruled (already-measured x e) =
+      let p = measured-only (a .state .request) e in
+      (refl, ap (judged a (t .list)) (to-expected x ∙ unless _ _ p ∙ when _ _ e))
+  ruled (late x e) =
+      let p = expired-only (a .state .request) (t .time) e in
+      (refl, ap (judged a (t .list)) (to-expected x ∙ unless _ _ (p .0) ∙ unless _ _ (p .1) ∙ when _ _ e))
+  ruled (no-match i e) = (refl, ap (judged a (t .list)) (to-in-time i ∙ when _ _ (ap not e)))
   ruled (rate m e) = (refl, ap (judged a (t .list)) (to-matched m ∙ when _ _ e))
   ruled (denied u e f) = (refl, ap (judged a (t .list)) (to-matched (u .matching) ∙ unless _ _ (u .rate) ∙ when _ _ e ∙ unless _ _ f))
   ruled (denied-nts u e f) = (refl, ap (judged a (t .list)) (to-matched (u .matching) ∙ unless _ _ (u .rate) ∙ when _ _ e ∙ when _ _ f))

@@ -2,9 +2,9 @@
 -- A reply of either form comes down to what is read of it.
 -- Assumes nothing.
 use mathlib.Core.Path.{_≡_}
-use mathlib.Core.Bool.{true, false, cond}
+use mathlib.Core.Bool.{Bool, true, false, _||_, cond}
 use Prim.Native.Nat.{ℕ}
-use lib.Dec.{ltb}
+use lib.Dec.{ltb, eqb}
 use Rattle.cookiestash.specs.StoreList.{storeListOf}
 use Rattle.version.specs.Upgrade.{expectsOf}
 use Rattle.association.specs.declared.Association.{Association}
@@ -12,11 +12,15 @@ use Rattle.association.specs.Record.{wholeOf, withState, withStash}
 use Rattle.incoming.specs.declared.Reply.{Reply}
 use Rattle.incoming.specs.declared.ReplyRead.{ReplyRead}
 use Rattle.incoming.specs.declared.ReplyRead.the-variants as R
-use Rattle.reply_rules.specs.declared.ReplyAnswer.the-variants.{Measured, Undecodable, UnexpectedVersion, NoLiveRequest, NoMatch, Rate, Denied, DeniedNts, Ntsn, OtherKiss, BadStratum, NotServer, NotWhole, BrokenList}
+use Rattle.reply_rules.specs.declared.ReplyAnswer.the-variants.{Measured, Undecodable, UnexpectedVersion, NeverSent, AlreadyMeasured, Expired, NoMatch, Rate, Denied, DeniedNts, Ntsn, OtherKiss, BadStratum, NotServer, NotWhole, BrokenList}
 use Rattle.reply.specs.declared.ReplyOut.{ReplyOut}
-use Rattle.reply_clauses.specs.After.{Arrival, live, answers, denies, stepped, afterRateKiss, afterDenial, afterMeasured, measurementOf}
+use Rattle.reply_clauses.specs.After.{Arrival, live, noLive, neverSent, alreadyMeasured, expired, answers, denies, stepped, afterRateKiss, afterDenial, afterMeasured, measurementOf}
 use Rattle.cookielist.specs.List.{listBroken}
 use Rattle.reply.specs.Reply.{out}
+
+-- the three numbers in 3's place (RULES, No. 3)
+abbrev pub forThree : ℕ → Bool
+forThree n = eqb n 12 || eqb n 13 || eqb n 14
 
 module _ (a : Association) (read : ReplyRead) (t : Arrival) where
   -- ---- the tests that a reply has passed, each with those before it
@@ -36,7 +40,12 @@ module _ (a : Association) (read : ReplyRead) (t : Arrival) where
     pub listed : Listed r
     pub version : expectsOf (a .state .version) (r .version) ≡ true
 
-  -- nor 3
+  -- there 3 was given before No. 3: no pending request, or its deadline < now
+  pub record WasThree (r : Reply) : Type 0 where
+    pub expected : Expected r
+    pub no-live : noLive (a .state .request) (t .time) ≡ true
+
+  -- nor 12, 13 and 14: a request is live
   pub record InTime (r : Reply) : Type 0 where
     pub expected : Expected r
     pub pending : live (a .state .request) (t .time) ≡ true
@@ -77,7 +86,9 @@ module _ (a : Association) (read : ReplyRead) (t : Arrival) where
     undecodable : wholeOf a ≡ true → read ≡ R.Undecodable → Given 1 (out Undecodable a)
     broken-list : {r : Reply} → Read r → listBroken (a .settings .nts) (t .list) ≡ true → Given 33 (out BrokenList a)
     unexpected-version : {r : Reply} → Listed r → expectsOf (a .state .version) (r .version) ≡ false → Given 2 (out UnexpectedVersion a)
-    no-live-request : {r : Reply} → Expected r → live (a .state .request) (t .time) ≡ false → Given 3 (out NoLiveRequest a)
+    never-sent : {r : Reply} → Expected r → neverSent (a .state .request) ≡ true → Given 12 (out NeverSent a)
+    already-measured : {r : Reply} → Expected r → alreadyMeasured (a .state .request) ≡ true → Given 13 (out AlreadyMeasured a)
+    late : {r : Reply} → Expected r → expired (a .state .request) (t .time) ≡ true → Given 14 (out Expired a)
     no-match : {r : Reply} → InTime r → answers (a .settings .nts) (a .state .request .id) r ≡ false → Given 4 (out NoMatch a)
     rate : {r : Reply} → Matching r → r .kisses .rate ≡ true → Given 5 (out Rate (withState a (afterRateKiss (a .settings) (stepped (a .state) (r .upgrade)))))
     denied : {r : Reply} → Unlimited r → denies r ≡ true → a .settings .nts ≡ false →

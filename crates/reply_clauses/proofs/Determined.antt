@@ -2,7 +2,9 @@
 -- Assumes nothing.
 use mathlib.Core.Path.{_∙_, sym}
 use Rattle.words.specs.Determined.{Determined}
-use Rattle.reply_clauses.proofs.live.Reads as live
+use Rattle.reply_clauses.proofs.never_sent.Reads as never-sent
+use Rattle.reply_clauses.proofs.already_measured.Reads as already-measured
+use Rattle.reply_clauses.proofs.expired.Reads as expired
 use Rattle.reply_clauses.proofs.answers.Reads as answers
 use Rattle.reply_clauses.proofs.denies.Reads as denies
 use Rattle.reply_clauses.proofs.stepped.Reads as stepped
@@ -11,8 +13,14 @@ use Rattle.reply_clauses.proofs.after_denial.Reads as after-denial
 use Rattle.reply_clauses.proofs.after_measured.Reads as after-measured
 use Rattle.reply_clauses.proofs.measured.Reads as measured
 
-pub live-determined : Determined live.Post
-live-determined κs a y z e f p q = p ∙ sym q
+pub never-sent-determined : Determined never-sent.Post
+never-sent-determined κs a y z e f p q = p ∙ sym q
+
+pub already-measured-determined : Determined already-measured.Post
+already-measured-determined κs a y z e f p q = p ∙ sym q
+
+pub expired-determined : Determined expired.Post
+expired-determined κs a y z e f p q = p ∙ sym q
 
 pub answers-determined : Determined answers.Post
 answers-determined κs a y z e f p q = p ∙ sym q

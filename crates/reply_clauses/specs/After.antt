@@ -3,7 +3,7 @@
 use mathlib.Core.Bool.{Bool, true, false, not, _&&_, _||_, cond}
 use mathlib.Core.List.{List}
 use Prim.Native.Nat.{ℕ}
-use lib.Dec.{leb, eqb}
+use lib.Dec.{ltb, leb, eqb}
 use Rattle.reach.specs.Register.{answeredOf}
 use Rattle.version.specs.Upgrade.{steppedOf}
 use Rattle.time_types.specs.declared.NtpTimestamp.{NtpTimestamp}
@@ -32,9 +32,25 @@ arrival list t1 t4 time = record { list = list; t1 = t1; t4 = t4; time = time }
 abbrev pub unexpired : ℕ → ℕ → Bool
 unexpired deadline time = leb time deadline
 
--- 3: no pending request, or its deadline < now
+-- a live request: pending and unexpired
 abbrev pub live : Pending → ℕ → Bool
 live q time = q .present && unexpired (q .deadline) time
+
+-- RULES, No. 3, tells apart what was 3: no pending request, or its deadline < now
+abbrev pub noLive : Pending → ℕ → Bool
+noLive q time = not (q .present) || ltb (q .deadline) time
+
+-- 12: never sent: nothing is pending, and no reply has been measured since the last sent poll
+abbrev pub neverSent : Pending → Bool
+neverSent q = not (q .present) && not (q .answered)
+
+-- 13: already measured: nothing is pending, and a reply has been measured since the last sent poll
+abbrev pub alreadyMeasured : Pending → Bool
+alreadyMeasured q = not (q .present) && q .answered
+
+-- 14: a request is pending, and its deadline < now
+abbrev pub expired : Pending → ℕ → Bool
+expired q time = q .present && ltb (q .deadline) time
 
 -- 4: the 64 bits equal the pending ones; with NTS also the uid
 abbrev pub answers : Bool → ℕ → Reply → Bool
@@ -81,7 +97,7 @@ afterDenial s =
 abbrev pub raised : PollInterval → Reply → PollInterval
 raised remote r = cond (eqb (r .version) 5) (interval (larger (remote .0) (r .poll .0))) remote
 
--- 0: reach bit, denial cleared, pending cleared, stratum and reference identifier taken
+-- 0: reach bit, denial cleared, pending cleared, a reply measured since the last sent poll (No. 3), stratum and reference identifier taken
 unfoldable pub afterMeasured : State → Reply → State
 afterMeasured s r =
     record {
@@ -89,7 +105,7 @@ afterMeasured s r =
       version = s .version;
       polls = record { last = s .polls .last; remote = raised (s .polls .remote) r };
       source = record { stratum = r .stratum; refid = r .refid; denial = false };
-      request = noPending;
+      request = noPending true;
     }
 
 -- the measurement (RFC 5905, section 8); its monotonic time is the reply's now

@@ -1,2 +1,3 @@
 -- The definitions that the contracts of `reply_clauses` cite.
 pub mod After
+pub mod Why

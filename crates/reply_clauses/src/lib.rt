@@ -16,7 +16,7 @@ use time_types::NtpTimestamp;
 use time_types::PollInterval;
 ghost use mathlib.Core.Path.{_≡_};
 ghost use mathlib.Core.Bool.{_||_};
-ghost use Rattle.reply_clauses.specs.After.{live, answers, stepped, afterRateKiss, afterDenial, raised, afterMeasured, measurementOf};
+ghost use Rattle.reply_clauses.specs.After.{neverSent, alreadyMeasured, expired, answers, stepped, afterRateKiss, afterDenial, raised, afterMeasured, measurementOf};
 
 // What a measured reply says of the clocks.
 pub struct Measurement {
@@ -33,12 +33,34 @@ pub struct Measurement {
     pub precision: i8,
 }
 
-// Whether a request is pending and its deadline is not passed.
-pub fn live(request: Pending, time: u64) -> bool
-    ensures { λ r. ⌜ r ≡ live request time ⌝ }
+// Nothing is pending, and nothing was: no poll has been sent.
+pub fn never_sent(request: Pending) -> bool
+    ensures { λ r. ⌜ r ≡ neverSent request ⌝ }
 {
     if request.present {
-        time <= request.deadline
+        false
+    } else {
+        !request.answered
+    }
+}
+
+// Nothing is pending any more: a reply to the last poll has been measured.
+pub fn already_measured(request: Pending) -> bool
+    ensures { λ r. ⌜ r ≡ alreadyMeasured request ⌝ }
+{
+    if request.present {
+        false
+    } else {
+        request.answered
+    }
+}
+
+// A request is pending, and its deadline is passed.
+pub fn expired(request: Pending, time: u64) -> bool
+    ensures { λ r. ⌜ r ≡ expired request time ⌝ }
+{
+    if request.present {
+        request.deadline < time
     } else {
         false
     }
@@ -139,7 +161,7 @@ pub fn after_measured(s: State, reply: Reply) -> State
         denial: false,
     };
     // Nothing is pending any more, so that the same reply, come twice, is not measured twice.
-    let request = Pending::none();
+    let request = Pending::none(true);
     let version = s.version;
     State {
         effort,

@@ -7,7 +7,7 @@ use Prim.Native.Nat.{ℕ}
 use lib.Dec.{eqb}
 use Rattle.association.specs.Actions.{Action, updateSystem, demobilize}
 use Rattle.reply_rules.specs.declared.ReplyAnswer.{ReplyAnswer}
-use Rattle.reply_rules.specs.declared.ReplyAnswer.the-variants.{Measured, Undecodable, UnexpectedVersion, NoLiveRequest, NoMatch, Rate, Denied, DeniedNts, Ntsn, OtherKiss, BadStratum, NotServer, NotWhole, BrokenList}
+use Rattle.reply_rules.specs.declared.ReplyAnswer.the-variants.{Measured, Undecodable, UnexpectedVersion, NeverSent, AlreadyMeasured, Expired, NoMatch, Rate, Denied, DeniedNts, Ntsn, OtherKiss, BadStratum, NotServer, NotWhole, BrokenList}
 
 abbrev pub numberOf : ReplyAnswer → ℕ
 -- measured
@@ -16,8 +16,6 @@ numberOf (Measured m) = 0
 numberOf Undecodable = 1
 -- version not expected
 numberOf UnexpectedVersion = 2
--- no pending request, or its deadline < now
-numberOf NoLiveRequest = 3
 -- identifiers do not match
 numberOf NoMatch = 4
 -- RATE kiss
@@ -32,6 +30,10 @@ numberOf OtherKiss = 9
 -- stratum over 16; mode not server
 numberOf BadStratum = 10
 numberOf NotServer = 11
+-- no live request (No. 3): never sent; already measured; deadline < now
+numberOf NeverSent = 12
+numberOf AlreadyMeasured = 13
+numberOf Expired = 14
 -- record not whole
 numberOf NotWhole = 32
 -- broken cookie list (NTS only)
@@ -46,7 +48,6 @@ pub record ReplyActs (actions : ℕ → List Action) : Type 0 where
   pub measured-0 : actions 0 ≡ updateSystem ∷ []
   pub none-1 : actions 1 ≡ []
   pub none-2 : actions 2 ≡ []
-  pub none-3 : actions 3 ≡ []
   pub none-4 : actions 4 ≡ []
   pub none-5 : actions 5 ≡ []
   pub none-6 : actions 6 ≡ []
@@ -55,5 +56,8 @@ pub record ReplyActs (actions : ℕ → List Action) : Type 0 where
   pub none-9 : actions 9 ≡ []
   pub none-10 : actions 10 ≡ []
   pub none-11 : actions 11 ≡ []
+  pub none-12 : actions 12 ≡ []
+  pub none-13 : actions 13 ≡ []
+  pub none-14 : actions 14 ≡ []
   pub none-32 : actions 32 ≡ []
   pub none-33 : actions 33 ≡ []

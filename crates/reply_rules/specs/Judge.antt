@@ -1,4 +1,4 @@
--- RULES, part 11: the verdict on a reply, of the settings, of the state and of what is seen of the stash. In order 32, 1 (byte form), 33, 2, 3, 4, the upgrade step, then 5 to 11.
+-- RULES, part 11: the verdict on a reply, of the settings, of the state and of what is seen of the stash. In order 32, 1 (byte form), 33, 2, 12, 13, 14, 4, the upgrade step, then 5 to 11.
 -- Assumes nothing.
 use mathlib.Core.Bool.{Bool, true, false, not, cond}
 use mathlib.Core.List.{List}
@@ -16,9 +16,9 @@ use Rattle.incoming.specs.declared.ReplyRead.{ReplyRead}
 use Rattle.incoming.specs.declared.ReplyRead.the-variants as R
 use Rattle.incoming.specs.Incoming.{readOf}
 use Rattle.reply_rules.specs.declared.ReplyAnswer.{ReplyAnswer}
-use Rattle.reply_rules.specs.declared.ReplyAnswer.the-variants.{Measured, Undecodable, UnexpectedVersion, NoLiveRequest, NoMatch, Rate, Denied, DeniedNts, Ntsn, OtherKiss, BadStratum, NotServer, NotWhole, BrokenList}
+use Rattle.reply_rules.specs.declared.ReplyAnswer.the-variants.{Measured, Undecodable, UnexpectedVersion, NeverSent, AlreadyMeasured, Expired, NoMatch, Rate, Denied, DeniedNts, Ntsn, OtherKiss, BadStratum, NotServer, NotWhole, BrokenList}
 use Rattle.reply_rules.specs.declared.Verdict.{Verdict}
-use Rattle.reply_clauses.specs.After.{Arrival, live, answers, denies, stepped, afterRateKiss, afterDenial, afterMeasured, measurementOf}
+use Rattle.reply_clauses.specs.After.{Arrival, neverSent, alreadyMeasured, expired, answers, denies, stepped, afterRateKiss, afterDenial, afterMeasured, measurementOf}
 
 -- the answer and the next state, with no cookie stored
 abbrev pub leaves : ReplyAnswer → State → Verdict
@@ -36,14 +36,16 @@ matchedOf g s r t1 t4 time =
     (cond (not (r .server)) (leaves NotServer s)
     (record { answer = Measured (measurementOf r t1 t4 time); state = afterMeasured s r; stores = g .nts }))))))
 
--- a reply that was read: 33, 2, 3, 4, then the upgrade step and what follows it
+-- a reply that was read: 33, 2, 12, 13, 14, 4, then the upgrade step and what follows it
 unfoldable pub judgeOf : Settings → State → Reply → Arrival → Verdict
 judgeOf g s r t =
     cond (listBroken (g .nts) (t .list)) (leaves BrokenList s)
     (cond (not (expectsOf (s .version) (r .version))) (leaves UnexpectedVersion s)
-    (cond (not (live (s .request) (t .time))) (leaves NoLiveRequest s)
+    (cond (neverSent (s .request)) (leaves NeverSent s)
+    (cond (alreadyMeasured (s .request)) (leaves AlreadyMeasured s)
+    (cond (expired (s .request) (t .time)) (leaves Expired s)
     (cond (not (answers (g .nts) (s .request .id) r)) (leaves NoMatch s)
-    (matchedOf g (stepped s (r .upgrade)) r (t .t1) (t .t4) (t .time)))))
+    (matchedOf g (stepped s (r .upgrade)) r (t .t1) (t .t4) (t .time)))))))
 
 abbrev pub onRead : Settings → State → Arrival → ReplyRead → Verdict
 onRead g s t (R.Decoded r) = judgeOf g s r t

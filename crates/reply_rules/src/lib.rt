@@ -24,7 +24,10 @@ pub enum ReplyAnswer {
     Measured(Measurement),
     Undecodable,
     UnexpectedVersion,
-    NoLiveRequest,
+    // No request is live: none was sent yet, a reply to it was measured, or its deadline is passed.
+    NeverSent,
+    AlreadyMeasured,
+    Expired,
     NoMatch,
     Rate,
     // A denial without NTS is only noted.
@@ -137,7 +140,7 @@ fn matched(
     }
 }
 
-// A reply that was read: 33, 2, 3, 4, then the upgrade step and what follows it.
+// A reply that was read: 33, 2, 12, 13, 14, 4, then the upgrade step and what follows it.
 fn judge(
     settings: Settings,
     s: State,
@@ -165,10 +168,24 @@ fn judge(
         };
     }
     let request = s.request;
-    // An expired request stays pending: a clock that goes back may make it live again.
-    if !reply_clauses::live(request, time) {
+    if reply_clauses::never_sent(request) {
         return Verdict {
-            answer: ReplyAnswer::NoLiveRequest,
+            answer: ReplyAnswer::NeverSent,
+            state: s,
+            stores: false,
+        };
+    }
+    if reply_clauses::already_measured(request) {
+        return Verdict {
+            answer: ReplyAnswer::AlreadyMeasured,
+            state: s,
+            stores: false,
+        };
+    }
+    // An expired request stays pending: a clock that goes back may make it live again.
+    if reply_clauses::expired(request, time) {
+        return Verdict {
+            answer: ReplyAnswer::Expired,
             state: s,
             stores: false,
         };
@@ -271,7 +288,6 @@ impl ReplyAnswer {
             ReplyAnswer::Measured(_) => 0,
             ReplyAnswer::Undecodable => 1,
             ReplyAnswer::UnexpectedVersion => 2,
-            ReplyAnswer::NoLiveRequest => 3,
             ReplyAnswer::NoMatch => 4,
             ReplyAnswer::Rate => 5,
             ReplyAnswer::Denied => 6,
@@ -280,6 +296,9 @@ impl ReplyAnswer {
             ReplyAnswer::OtherKiss => 9,
             ReplyAnswer::BadStratum => 10,
             ReplyAnswer::NotServer => 11,
+            ReplyAnswer::NeverSent => 12,
+            ReplyAnswer::AlreadyMeasured => 13,
+            ReplyAnswer::Expired => 14,
             ReplyAnswer::NotWhole => 32,
             ReplyAnswer::BrokenList => 33,
         }

@@ -1,6 +1,6 @@
 -- RULES, part 10, clause by clause: giving up, the poll that is tried, what is asked for, and the request that it leaves pending.
 -- Assumes nothing.
-use mathlib.Core.Bool.{Bool, true, _&&_, cond}
+use mathlib.Core.Bool.{Bool, true, false, _&&_, cond}
 use mathlib.Core.List.{List}
 use Prim.Native.Nat.{ℕ, _+_, _-_, _/_, _^_, min, max}
 use lib.Dec.{ltb, leb, eqb}
@@ -50,9 +50,9 @@ askedOf gap len = min (min gap (724 / max len 1)) 255
 abbrev pub deadlineOf : ℕ → ℕ → ℕ
 deadlineOf time window = min (time + window) (2 ^ 64 - 1)
 
--- pending is the given identifier (uid only with NTS) with its deadline
+-- pending is the given identifier (uid only with NTS) with its deadline; no reply has been measured since (RULES, No. 3)
 unfoldable pub pendingOf : Bool → ℕ → TimerInput → Pending
-pendingOf nts window i = record { present = true; id = i .id; uid = cond nts (i .uid) (replicate 32 0); deadline = deadlineOf (i .time) window }
+pendingOf nts window i = record { present = true; id = i .id; uid = cond nts (i .uid) (replicate 32 0); deadline = deadlineOf (i .time) window; answered = false }
 
 -- last poll is max(desired, remote minimum)
 abbrev pub pollOf : PollInterval → PollInterval → PollInterval

@@ -165,6 +165,7 @@ fn pending(nts: bool, window: u64, input: TimerInput) -> Pending
             id: input.id,
             uid,
             deadline: until,
+            answered: false,
         }
     } else {
         Pending {
@@ -172,6 +173,7 @@ fn pending(nts: bool, window: u64, input: TimerInput) -> Pending
             id: input.id,
             uid: [0u8; 32],
             deadline: until,
+            answered: false,
         }
     }
 }

@@ -188,6 +188,36 @@ mod tests {
         assert_eq!(told(17, 1, &[XNON], Bloom::None), (40, 40, None));
     }
 
+    /// The crate ignores a reply without a live request, whatever the reason; its record and its actions tell the three apart.
+    #[test]
+    fn one_event_of_the_crate_is_three_numbers() {
+        let mut both = Both::new();
+        let source = address(SOURCE);
+        let new =
+            Op::New { nts: false, min: 4, max: 10, startup: 3, window: 5000, start: Version::V4, source, cookies: vec![] };
+        let timer = Op::Timer { now: 1000, desired: 6, id: 7, uid: [0; 32], room: None };
+        let mut packet = vec![0; 48];
+        packet[..2].copy_from_slice(&[0x24, 2]);
+        packet[31] = 7;
+        let reply = |now| Op::Reply { now, t1: 0, t4: 0, packet: packet.clone(), fail: false };
+        let steps = [
+            (new, 0, false),
+            (reply(0), 12, false),
+            (timer, 20, false),
+            (reply(6001), 14, false),
+            (reply(6000), 0, true),
+            (reply(6000), 13, true),
+            (reply(6001), 13, true),
+        ];
+        for (op, number, answered) in steps {
+            let step = both.step(&op);
+            assert!(!step.failed && step.reason.is_none());
+            for (answer, state) in [&step.of_crate, &step.of_rules] {
+                assert_eq!((answer.number, state.answered), (number, answered));
+            }
+        }
+    }
+
     /// Another cause, another effect and a changed record have no reason.
     #[test]
     fn nothing_else_passes_for_a_source_that_we_serve() {

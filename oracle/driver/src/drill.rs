@@ -130,7 +130,7 @@ fn show(s: &State) -> String {
         lens[(s.read + i) % 8] = c.0;
     }
     format!(
-        "record reach={} tries={} version={} last={} remote={} pending={pending} denial={} stratum={} refid={:08x} read={} held={} lens={}",
+        "record reach={} tries={} version={} last={} remote={} pending={pending} denial={} stratum={} refid={:08x} read={} held={} lens={} answered={}",
         s.reach,
         s.tries,
         version(s.version),
@@ -141,7 +141,8 @@ fn show(s: &State) -> String {
         s.refid,
         s.read,
         s.cookies.len(),
-        lens.map(|n: usize| n.to_string()).join(",")
+        lens.map(|n: usize| n.to_string()).join(","),
+        if s.answered { "yes" } else { "no" }
     )
 }
 

@@ -61,7 +61,7 @@ fn leap_code(l: NtpLeapIndicator) -> u8 {
 }
 
 /// A crate's record as the rules have it: tries held at 255, no bytes of a cookie over 724.
-fn state_of(r: &Record) -> State {
+fn state_of(r: &Record, answered: bool) -> State {
     let (read, cookies) = r.stash.clone().unwrap_or_default();
     State {
         reach: r.reach,
@@ -70,6 +70,7 @@ fn state_of(r: &Record) -> State {
         last: r.last_poll,
         remote: r.remote_min,
         pending: r.pending.map(|(id, uid, deadline)| (id, uid.unwrap_or([0; 32]), deadline)),
+        answered,
         denial: r.denied,
         stratum: r.stratum,
         refid: u32::from_be_bytes(r.reference_id),
@@ -103,18 +104,20 @@ pub struct Exec {
     source: Option<NtpSource<Controller>>,
     pub nts: bool,
     startup: usize,
-    /// Numbers 3 and 4 leave the same text; 3 stands first in the file.
-    line_of_3: u32,
+    /// The crate has handed out a measurement since it last sent a poll: from its actions alone, since it keeps no such fact.
+    answered: bool,
+    /// A reply that is ignored (12, 13, 14) and one that does not match (4) leave the same text; the former stands first in the file.
+    line_of_ignored: u32,
 }
 
 impl Exec {
     pub fn new() -> Self {
-        let line_of_3 = include_str!("../../published/source.rs")
+        let line_of_ignored = include_str!("../../published/source.rs")
             .lines()
             .position(|l| l.contains("Received old/unexpected packet from source"))
             .unwrap() as u32
             + 1;
-        Exec { source: None, nts: false, startup: 3, line_of_3 }
+        Exec { source: None, nts: false, startup: 3, answered: false, line_of_ignored }
     }
 
     fn source(&mut self) -> &mut NtpSource<Controller> {
@@ -122,11 +125,13 @@ impl Exec {
     }
 
     pub fn state(&mut self) -> State {
-        state_of(&self.source().record())
+        let answered = self.answered;
+        state_of(&self.source().record(), answered)
     }
 
     /// Makes the crate's record that of the rules, after a step where they differ for a listed reason.
     pub fn follow(&mut self, s: &State) {
+        self.answered = s.answered;
         let mut r = self.source().record();
         r.reach = s.reach;
         r.tries = s.tries as usize;
@@ -150,6 +155,7 @@ impl Exec {
         match op {
             Op::New { nts, min, max, startup, window, start, source, cookies } => {
                 self.nts = *nts;
+                self.answered = false;
                 self.startup = *startup as usize;
                 set_window(*window);
                 let (made, acts) = NtpSource::make(
@@ -203,6 +209,7 @@ impl Exec {
                         "stratum" => r.stratum = *value as u8,
                         "last" => r.last_poll = *value as i8,
                         "remote" => r.remote_min = *value as i8,
+                        "answered" => self.answered = *value != 0,
                         other => panic!("no number {other}"),
                     }
                 }
@@ -243,6 +250,7 @@ impl Exec {
             [Action::Send(p), Action::Update { measurement: false }, Action::Timer { zero: false }] => {
                 assert_eq!(rand::oracle::left(), (0, 0));
                 let poll = source.record().last_poll;
+                self.answered = false;
                 Answer { number: 20, sent: Some(sent(p, poll, id, nts.then_some(uid), oldest)), measured: None }
             }
             _ => panic!("actions that RULES does not name"),
@@ -250,9 +258,16 @@ impl Exec {
     }
 
     fn reply(&mut self, now: u64, t1: u64, t4: u64, packet: &[u8]) -> Answer {
-        let line_of_3 = self.line_of_3;
+        let (line_of_ignored, answered) = (self.line_of_ignored, self.answered);
         tracing::oracle::take();
         let source = self.source();
+        // The crate has one event for a reply without a live request. Which of the three it is, its record before and its actions so
+        // far tell.
+        let ignored = match (source.record().pending, answered) {
+            (Some(_), _) => 14,
+            (None, true) => 13,
+            (None, false) => 12,
+        };
         source.controller().measured = None;
         let result = catch_unwind(AssertUnwindSafe(|| {
             source.handle_incoming(packet, NtpInstant::now(), NtpTimestamp::of(t1), NtpTimestamp::of(t4))
@@ -277,7 +292,7 @@ impl Exec {
             [] => match text {
                 t if t.contains("received invalid packet") => 1,
                 t if t.contains("unexpected version") => 2,
-                t if t.contains("old/unexpected") && line == line_of_3 => 3,
+                t if t.contains("old/unexpected") && line == line_of_ignored => ignored,
                 t if t.contains("old/unexpected") => 4,
                 t if t.contains("requested rate limit") => 5,
                 t if t.contains("denied service") => 6,
@@ -290,6 +305,7 @@ impl Exec {
             _ => panic!("actions that RULES does not name"),
         };
         assert_eq!(measured.is_some(), number == 0);
+        self.answered |= number == 0;
         Answer { number, sent: None, measured }
     }
 

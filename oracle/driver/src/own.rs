@@ -3,8 +3,8 @@
 use crate::drill::Log;
 use crate::state::hex;
 
-const BLANK: &str = "record reach=0 tries=0 version=v4 last=0 remote=0 pending=- denial=no stratum=0 refid=00000000 read=0 held=0 lens=0,0,0,0,0,0,0,0";
-const NEW: &str = "record reach=0 tries=0 version=v4 last=4 remote=4 pending=- denial=no stratum=16 refid=584e4f4e read=0 held=0 lens=0,0,0,0,0,0,0,0";
+const BLANK: &str = "record reach=0 tries=0 version=v4 last=0 remote=0 pending=- denial=no stratum=0 refid=00000000 read=0 held=0 lens=0,0,0,0,0,0,0,0 answered=no";
+const NEW: &str = "record reach=0 tries=0 version=v4 last=4 remote=4 pending=- denial=no stratum=16 refid=584e4f4e read=0 held=0 lens=0,0,0,0,0,0,0,0 answered=no";
 const PLAIN: &str = "new min=4 max=10 startup=3 window=5000 mark=4e54503544524654 start=v4 nts=no source=c0000201";
 const NTS: &str = "new min=4 max=10 startup=3 window=5000 mark=4e54503544524654 start=v4 nts=yes source=c0000201";
 const TIMER: &str = "timer now=1000 desired=6 id=0102030405060708";
@@ -110,6 +110,17 @@ fn wholeness(log: &mut Log) {
         log.own(&format!("poke key={key} value={good}"), "poke");
         log.own(TIMER, SENT);
     }
+    log.comment("a reply measured since the last sent poll, beside a request that is pending: not whole");
+    log.own(PLAIN, "new 0");
+    log.own(TIMER, SENT);
+    log.own("poke key=answered value=1", "poke");
+    refused_32(log);
+    log.own("poke key=answered value=0", "poke");
+    log.own(&reply(&packet(0x24, 0, &[]), ""), &format!("reply {MEASURED}"));
+    log.own("poke key=answered value=0", "poke");
+    log.own(&reply(&packet(0x24, 0, &[]), ""), "reply 12");
+    log.own("poke key=answered value=1", "poke");
+    log.own(&reply(&packet(0x24, 0, &[]), ""), "reply 13");
     let two = format!("{NTS} list=c00e000101c00e000102");
     let sent = |cookie: &str, asked: u8| format!("timer 20 send=nts-v4 poll=6 cookie={cookie} asked={asked}");
     for (key, bad, good) in
@@ -228,7 +239,7 @@ fn callers_part(log: &mut Log) {
     log.own(&reply(&v4, &format!(" list={BROKEN_LIST}")), "reply 33");
     log.own(&reply(&v4, ""), "reply 2");
     log.own(&format!("{REPLY5} list={BROKEN_LIST}"), "reply5 33");
-    log.own(REPLY5, "reply5 3");
+    log.own(REPLY5, "reply5 12");
     log.comment("version 3 with NTS: the decrypted bytes are read too");
     log.own(&format!("{NTS} list=c00e000101"), "new 0");
     log.own(&format!("{TIMER} uid={uid}"), "timer 20 send=nts-v4 poll=6 cookie=01 asked=8");

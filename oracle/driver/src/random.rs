@@ -235,6 +235,10 @@ impl Random {
         if pairs.is_empty() {
             pairs.push(all[7]);
         }
+        // Beside a pending request it would make the record not whole, of which the crate knows nothing.
+        if self.pending.is_none() && self.r.one_in(2) {
+            pairs.push(("answered", self.r.below(2) as i64));
+        }
         self.rate_next = pairs.contains(&("remote", 127));
         Op::Poke(pairs)
     }

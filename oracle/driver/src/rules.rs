@@ -60,6 +60,7 @@ impl Rules {
             last: min,
             remote: min,
             pending: None,
+            answered: false,
             denial: false,
             stratum: 16,
             refid: name(b"XNON"),
@@ -121,6 +122,7 @@ impl Rules {
             kind = if s.version == Version::V4 { "nts-v4" } else { "nts-v5" };
         }
         s.pending = Some((id, if self.nts { *uid } else { [0; 32] }, now.saturating_add(self.window)));
+        s.answered = false;
         s.last = desired.max(s.remote);
         Answer { number: 20, sent: Some(Sent { kind, poll: s.last, cookie, asked }), measured: None }
     }
@@ -202,9 +204,9 @@ impl Rules {
         if !expected {
             return number(2);
         }
-        let Some((id, _, deadline)) = s.pending else { return number(3) };
+        let Some((id, _, deadline)) = s.pending else { return number(if s.answered { 13 } else { 12 }) };
         if deadline < now {
-            return number(3);
+            return number(14);
         }
         let [rate, deny, rstr, ntsn, any] = d.kiss;
         let mut groups = d.uid[..2].to_vec();
@@ -249,6 +251,7 @@ impl Rules {
         s.reach |= 1;
         s.denial = false;
         s.pending = None;
+        s.answered = true;
         s.stratum = d.stratum;
         s.refid = refid;
         if v == 5 {
@@ -299,6 +302,7 @@ impl Rules {
                 "tries" => s.tries = *value as u8,
                 "stratum" => s.stratum = *value as u8,
                 "last" => s.last = *value as i8,
+                "answered" => s.answered = *value != 0,
                 _ => s.remote = *value as i8,
             }
         }

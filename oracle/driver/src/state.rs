@@ -107,6 +107,8 @@ pub struct State {
     pub remote: i8,
     /// Identifier, uid, deadline.
     pub pending: Option<(u64, [u8; 32], u64)>,
+    /// A reply was measured since the last sent poll (RULES, No. 3). The crate keeps no such fact; its own actions tell it.
+    pub answered: bool,
     pub denial: bool,
     pub stratum: u8,
     pub refid: u32,

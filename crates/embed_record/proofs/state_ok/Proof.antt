@@ -21,15 +21,27 @@ cast-is-bit-2 c = search needs
 is-bit-requires-2 : tie.Need-is-bit-requires-2
 is-bit-requires-2 c κs = search needs
 
+is-bit-requires-3 : tie.Need-is-bit-requires-3
+is-bit-requires-3 c κs = search needs
+
 both-requires : tie.Need-both-requires
 both-requires c κs = search needs
 
 both-requires-2 : tie.Need-both-requires-2
 both-requires-2 c κs = search needs
 
+both-requires-3 : tie.Need-both-requires-3
+both-requires-3 c κs = search needs
+
 returns : tie.Need-returns
 returns c =
-    c .both2 .ensures ∙ (λ i. c .before .before .before .before .before .before .is-kind .ensures i && (c .before .both .ensures ∙ (λ j. c .before .before .before .before .is-bit .ensures j && c .before .before .is-bit2 .ensures j)) i)
+    let request = c .before .before in
+    let present = request .before .before in
+    let denial = present .before .before in
+    c .both3 .ensures
+    ∙ (λ i. denial .before .before .is-kind .ensures i
+    && (c .before .both2 .ensures
+    ∙ (λ j. denial .is-bit .ensures j && (request .both .ensures ∙ (λ k. present .is-bit2 .ensures k && request .before .is-bit3 .ensures k)) j)) i)
 
 pub state-ok-spec : {M : Type 1} → statement M
 state-ok-spec =
@@ -40,6 +52,8 @@ state-ok-spec =
     is-bit-requires
     cast-is-bit-2
     is-bit-requires-2
+    is-bit-requires-3
     both-requires
     both-requires-2
+    both-requires-3
     returns)

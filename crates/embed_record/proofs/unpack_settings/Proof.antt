@@ -10,6 +10,9 @@ use Rattle.embed_record.proofs.unpack_settings.Tie as tie
 is-kind-requires : tie.Need-is-kind-requires
 is-kind-requires c κs = search needs
 
+cast-is-bit : tie.Need-cast-is-bit
+cast-is-bit c = search needs
+
 is-bit-requires : tie.Need-is-bit-requires
 is-bit-requires c κs = search needs
 
@@ -19,15 +22,23 @@ both-requires c κs = search needs
 version-in-requires : tie.Need-version-in-requires
 version-in-requires c κs = search needs
 
+cast-truth : tie.Need-cast-truth
+cast-truth c = search needs
+
 truth-requires : tie.Need-truth-requires
 truth-requires c κs = search needs
 
 returns : tie.Need-returns
 unfolding settingsIn
 returns c =
-    let s = c .before .before .before .before .before .before .before .before .args .c in
+    let truth = c .before .before .before in
+    let version = truth .before .before in
+    let tested = version .before in
+    let flag = tested .before in
+    let kind = flag .before .before in
+    let s = kind .before .args .c in
     λ i. record {
-      ok = (c .before .before .before .before .before .both .ensures ∙ (λ j. c .before .before .before .before .before .before .before .is-kind .ensures j && c .before .before .before .before .before .before .is-bit .ensures j)) i;
+      ok = (tested .both .ensures ∙ (λ j. kind .is-kind .ensures j && flag .is-bit .ensures j)) i;
       settings =
           record {
             min = s .min;
@@ -35,8 +46,8 @@ returns c =
             startup = s .startup;
             window = s .window;
             upgrademark = s .upgrademark;
-            start = c .before .before .before .before .version-in .ensures i;
-            nts = c .before .before .before .truth .ensures i;
+            start = version .version-in .ensures i;
+            nts = truth .truth .ensures i;
             source = s .source;
           };
     }
@@ -46,8 +57,10 @@ unpack-settings-spec =
     tie.close
     (tie.spec
     is-kind-requires
+    cast-is-bit
     is-bit-requires
     both-requires
     version-in-requires
+    cast-truth
     truth-requires
     returns)

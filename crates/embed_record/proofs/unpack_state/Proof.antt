@@ -23,19 +23,26 @@ cast-truth-2 c = search needs
 truth-requires-2 : tie.Need-truth-requires-2
 truth-requires-2 c κs = search needs
 
+truth-requires-3 : tie.Need-truth-requires-3
+truth-requires-3 c κs = search needs
+
 returns : tie.Need-returns
 unfolding stateIn
 returns c =
-    let s = c .before .before .before .before .before .before .before .before .before .before .args .c in
+    let present = c .before in
+    let denial = present .before .before in
+    let version = denial .before .before in
+    let tested = version .before .before .before .before .before in
+    let s = tested .before .args .c in
     λ i. record {
-      ok = c .before .before .before .before .before .before .before .before .before .state-ok .ensures i;
+      ok = tested .state-ok .ensures i;
       state =
           record {
             effort = s .effort;
-            version = c .before .before .before .before .version-in .ensures i;
+            version = version .version-in .ensures i;
             polls = s .polls;
-            source = record { stratum = s .stratum; refid = s .refid; denial = c .before .before .truth .ensures i };
-            request = record { present = c .truth2 .ensures i; id = s .id; uid = s .uid; deadline = s .deadline };
+            source = record { stratum = s .stratum; refid = s .refid; denial = denial .truth .ensures i };
+            request = record { present = present .truth2 .ensures i; id = s .id; uid = s .uid; deadline = s .deadline; answered = c .truth3 .ensures i };
           };
     }
 
@@ -49,4 +56,5 @@ unpack-state-spec =
     truth-requires
     cast-truth-2
     truth-requires-2
+    truth-requires-3
     returns)

@@ -10,6 +10,9 @@ use Rattle.embed_rules.proofs.decoded_ok.Tie as tie
 at-most-requires : tie.Need-at-most-requires
 at-most-requires c κs = search needs
 
+cast-is-bit : tie.Need-cast-is-bit
+cast-is-bit c = search needs
+
 is-bit-requires : tie.Need-is-bit-requires
 is-bit-requires c κs = search needs
 
@@ -32,7 +35,7 @@ returns : tie.Need-returns
 unfolding decodedOk
 returns c =
     c .both3 .ensures
-    ∙ (λ i. (c .before .before .before .before .both .ensures ∙ (λ j. c .before .before .before .before .before .before .at-most .ensures j && c .before .before .before .before .before .is-bit .ensures j)) i && (c .before .both2 .ensures ∙ (λ j. c .before .before .before .bits-ok .ensures j && c .before .before .uids-ok .ensures j)) i)
+    ∙ (λ i. (c .before .before .before .before .both .ensures ∙ (λ j. c .before .before .before .before .before .before .before .at-most .ensures j && c .before .before .before .before .before .is-bit .ensures j)) i && (c .before .both2 .ensures ∙ (λ j. c .before .before .before .bits-ok .ensures j && c .before .before .uids-ok .ensures j)) i)
 
 pub decoded-ok-spec : {M : Type 1} → statement M
-decoded-ok-spec = tie.close (tie.spec at-most-requires is-bit-requires both-requires bits-ok-requires uids-ok-requires both-requires-2 both-requires-3 returns)
+decoded-ok-spec = tie.close (tie.spec at-most-requires cast-is-bit is-bit-requires both-requires bits-ok-requires uids-ok-requires both-requires-2 both-requires-3 returns)

@@ -23,26 +23,69 @@ returns-2 c =
     let l = c .before .before .before in
     rw (sym (l .before .list-broken .ensures) ∙ l .if1 .left, sym (c .before .expects .ensures) ∙ not-true _ (c .if2 .taken))
 
-live-requires : tie.Need-live-requires
-live-requires c κs = search needs
+never-sent-requires : tie.Need-never-sent-requires
+never-sent-requires c κs = search needs
 
 returns-3 : tie.Need-returns-3
 unfolding judgeOf
 returns-3 c =
     let v = c .before .before .before in
     let l = v .before .before .before in
-    rw (sym (l .before .list-broken .ensures) ∙ l .if1 .left, sym (v .before .expects .ensures) ∙ not-false _ (v .if2 .left), sym (c .before .live .ensures) ∙ not-true _ (c .if3 .taken))
+    rw (sym (l .before .list-broken .ensures) ∙ l .if1 .left, sym (v .before .expects .ensures) ∙ not-false _ (v .if2 .left), sym (c .before .never-sent .ensures) ∙ c .if3 .taken)
 
-answers-requires : tie.Need-answers-requires
-answers-requires c κs = search needs
+already-measured-requires : tie.Need-already-measured-requires
+already-measured-requires c κs = search needs
 
 returns-4 : tie.Need-returns-4
 unfolding judgeOf
 returns-4 c =
-    let q = c .before .before in
-    let v = q .before .before .before in
+    let n = c .before .before in
+    let v = n .before .before .before in
     let l = v .before .before .before in
-    rw (sym (l .before .list-broken .ensures) ∙ l .if1 .left, sym (v .before .expects .ensures) ∙ not-false _ (v .if2 .left), sym (q .before .live .ensures) ∙ not-false _ (q .if3 .left), sym (c .before .answers .ensures) ∙ not-true _ (c .if4 .taken))
+    rw (
+      sym (l .before .list-broken .ensures) ∙ l .if1 .left,
+      sym (v .before .expects .ensures) ∙ not-false _ (v .if2 .left),
+      sym (n .before .never-sent .ensures) ∙ n .if3 .left,
+      sym (c .before .already-measured .ensures) ∙ c .if4 .taken,
+    )
+
+expired-requires : tie.Need-expired-requires
+expired-requires c κs = search needs
+
+returns-5 : tie.Need-returns-5
+unfolding judgeOf
+returns-5 c =
+    let m = c .before .before in
+    let n = m .before .before in
+    let v = n .before .before .before in
+    let l = v .before .before .before in
+    rw (
+      sym (l .before .list-broken .ensures) ∙ l .if1 .left,
+      sym (v .before .expects .ensures) ∙ not-false _ (v .if2 .left),
+      sym (n .before .never-sent .ensures) ∙ n .if3 .left,
+      sym (m .before .already-measured .ensures) ∙ m .if4 .left,
+      sym (c .before .expired .ensures) ∙ c .if5 .taken,
+    )
+
+answers-requires : tie.Need-answers-requires
+answers-requires c κs = search needs
+
+returns-6 : tie.Need-returns-6
+unfolding judgeOf
+returns-6 c =
+    let q = c .before .before in
+    let m = q .before .before in
+    let n = m .before .before in
+    let v = n .before .before .before in
+    let l = v .before .before .before in
+    rw (
+      sym (l .before .list-broken .ensures) ∙ l .if1 .left,
+      sym (v .before .expects .ensures) ∙ not-false _ (v .if2 .left),
+      sym (n .before .never-sent .ensures) ∙ n .if3 .left,
+      sym (m .before .already-measured .ensures) ∙ m .if4 .left,
+      sym (q .before .expired .ensures) ∙ q .if5 .left,
+      sym (c .before .answers .ensures) ∙ not-true _ (c .if6 .taken),
+    )
 
 stepped-requires : tie.Need-stepped-requires
 stepped-requires c κs = search needs
@@ -50,14 +93,24 @@ stepped-requires c κs = search needs
 matched-requires : tie.Need-matched-requires
 matched-requires c κs = search needs
 
-returns-5 : tie.Need-returns-5
+returns-7 : tie.Need-returns-7
 unfolding judgeOf
-returns-5 c =
-    let m = c .before .before in
-    let q = m .before .before in
-    let v = q .before .before .before in
+returns-7 c =
+    let a = c .before .before in
+    let q = a .before .before in
+    let m = q .before .before in
+    let n = m .before .before in
+    let v = n .before .before .before in
     let l = v .before .before .before in
-    rw (sym (l .before .list-broken .ensures) ∙ l .if1 .left, sym (v .before .expects .ensures) ∙ not-false _ (v .if2 .left), sym (q .before .live .ensures) ∙ not-false _ (q .if3 .left), sym (m .before .answers .ensures) ∙ not-false _ (m .if4 .left), ← c .before .stepped .ensures) (c .matched .ensures)
+    rw (
+      sym (l .before .list-broken .ensures) ∙ l .if1 .left,
+      sym (v .before .expects .ensures) ∙ not-false _ (v .if2 .left),
+      sym (n .before .never-sent .ensures) ∙ n .if3 .left,
+      sym (m .before .already-measured .ensures) ∙ m .if4 .left,
+      sym (q .before .expired .ensures) ∙ q .if5 .left,
+      sym (a .before .answers .ensures) ∙ not-false _ (a .if6 .left),
+      ← c .before .stepped .ensures,
+    ) (c .matched .ensures)
 
 pub judge-spec : {M : Type 1} → statement M
-judge-spec = tie.close (tie.spec list-broken-requires returns expects-requires returns-2 live-requires returns-3 answers-requires returns-4 stepped-requires matched-requires returns-5)
+judge-spec = tie.close (tie.spec list-broken-requires returns expects-requires returns-2 never-sent-requires returns-3 already-measured-requires returns-4 expired-requires returns-5 answers-requires returns-6 stepped-requires matched-requires returns-7)

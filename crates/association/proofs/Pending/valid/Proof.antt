@@ -8,7 +8,7 @@ use Rattle.association.proofs.Pending.valid.Tie as tie
 
 returns : tie.Need-returns
 unfolding pendingValid
-returns c = rw (c .if1 .taken)
+returns c = rw (c .before .if1 .taken)
 
 returns-2 : tie.Need-returns-2
 unfolding pendingValid
