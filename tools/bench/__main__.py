@@ -39,6 +39,8 @@ A log has a command to a line; empty lines and lines that begin with # are skipp
   calendar cap= entries=
   plan cap= repeats=
   metered, profile: the keys of new
+  save room=[8192]
+  load file=
   show, cookies, blank, poke key= value=
 
 Times may be written as 03:00:00, 5s or 250ms, wall clocks as 2026-11-15T03:00:00.04Z, addresses as 192.0.2.1.

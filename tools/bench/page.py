@@ -48,7 +48,7 @@ class Box:
         self.name, self.path = name, path
         self.steps = story.told(path)
         if not any(step.head in MAKES and step.good() for step in self.steps):
-            ends.die('%s has no association: no `new` in it was answered 0, so there is nothing to draw' % path)
+            ends.die('%s has no association: no `new` and no `load` in it was answered 0, so there is nothing to draw' % path)
         self.lanes = []
         self.read()
 
@@ -82,10 +82,12 @@ class Box:
         elif step.head in story.REPLIES:
             lane.marks.append(Mark(step.kind, now, 'reply', says))
             if step.good():
+                if lane.offset is None:
+                    lane.asked = None  # a loaded association may be accepted before a reply is measured: that is not right yet
                 lane.offset, lane.wall = step.gave.get('offset'), wall
         elif step.head == 'accept':
             lane.asked = True
-            if step.good() and lane.up is None:
+            if step.good() and lane.up is None and lane.offset is not None:
                 lane.up, lane.at_up = now, (lane.offset, lane.wall)
                 lane.accepted.append([now, None])
                 lane.marks.append(Mark('accepted', now, 'reply', says))
@@ -109,13 +111,15 @@ class Box:
         """the first reason why it did not come up"""
         lane = self.lanes[-1]
         if lane.offset is not None and not lane.asked:
-            return 'measured, but the log never asks `accept`'
+            return 'measured, but the log does not ask `accept` after it'
         for lane in self.lanes:
             if lane.reason:
                 step, now = lane.reason
                 return '%s at %s: %s' % ('error' if step.error else '%s %s (%s)' % (step.head, step.row.short, step.number), human.clock(now, 0),
                                          story.why(step) if step.row else story.sentence(step))
         last = next((step for step in reversed(self.steps) if step.head == 'accept'), None)
+        if last is not None and last.good():
+            return 'accepted, but no reply was measured'
         if last is not None and last.row:
             return 'not accepted (%s): %s' % (last.number, story.why(last))
         return 'no reply was measured'

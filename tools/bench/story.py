@@ -15,7 +15,8 @@ TOLD = {'new': ('association made', 'association refused'), 'timer': ('poll sent
         'reply5': ('reply measured', 'reply refused'), 'accept': ('source accepted', 'source not accepted'), 'collect': ('cookies collected', 'cookies not collected'),
         'request': ('request written', 'request refused'), 'salvage': ('list salvaged', 'salvage refused'),
         'calendar': ('calendar accepted', 'calendar refused'), 'plan': ('starts planned', 'no plan'),
-        'metered': ('metered association made', 'metered association refused'), 'profile': ('the metered profile is met', 'the metered profile is not met')}
+        'metered': ('metered association made', 'metered association refused'), 'profile': ('the metered profile is met', 'the metered profile is not met'),
+        'save': ('hand-over file written', 'hand-over file not written'), 'load': ('association loaded', 'hand-over file refused')}
 REPLIES = ('reply', 'reply5')
 
 
@@ -151,7 +152,40 @@ PROFILE = {34: lambda s: 'the lower poll limit is %s, and has to be 8 (256 s) or
            35: lambda s: 'the startup limit is %s, and has to be 3 or less' % s.given['startup'],
            36: lambda s: 'the start version is %s, and the profile has no upgrading' % s.given['start'],
            37: lambda s: 'a cookie of the first list has %d bytes, and may have 100' % next(n for n in cookie_lengths(s) if n > 100)}
-WHY = {('reply', 1): why_undecodable,
+
+# The records of a hand-over file in their order: mark, what it is, and how long its body is (docs/HANDOVER.md); the stash is as long as its cookies make it.
+FILE = ((b'SE', 'settings', 26), (b'ST', 'stash', None), (b'RE', 'reach and tries', 2), (b'VE', 'version', 2), (b'PO', 'polls', 2), (b'SO', 'source', 6))
+
+
+def why_file(step):
+    """where the first fault of a file stands that was refused with 61 or 62"""
+    f, at = b'' if step.given['file'] == '-' else bytes.fromhex(step.given['file']), 0
+    for mark, name, usual in FILE:
+        if len(f) - at >= 2 and f[at:at + 2] != mark:
+            return 'at byte %d the %s record is due, with the mark %s, and %s stands there' % (at, name, mark.hex(), f[at:at + 2].hex())
+        if len(f) - at < 4:
+            return 'the file ends at byte %d, where the %s record is due' % (len(f), name)
+        body = int.from_bytes(f[at + 2:at + 4], 'big')
+        if body > len(f) - at - 4:
+            return 'the %s record at byte %d says %d bytes, and %d follow' % (name, at, body, len(f) - at - 4)
+        if usual is not None and body != usual:
+            return 'the %s record at byte %d says %d bytes, and has %d' % (name, at, body, usual)
+        if usual is None and not cookies_end(f[at + 4:at + 4 + body]):
+            return 'the cookies of the stash record at byte %d do not end with it' % at
+        at += 4 + body
+    return '%d bytes are left over behind the last record' % (len(f) - at)
+
+
+def cookies_end(body):
+    at = 1
+    while 0 < len(body) - at:
+        length = int.from_bytes(body[at:at + 2], 'big') if len(body) - at >= 2 else 0
+        at += 2 + (length if length <= 724 else 0)
+    return at == len(body)
+
+
+WHY = {('load', 61): why_file, ('load', 62): why_file,
+       ('reply', 1): why_undecodable,
        ('reply', 2): why_version, ('reply', 4): why_foreign, ('reply', 14): why_late,
        ('reply', 10): lambda s: 'its stratum is %d' % octets(s)[1] if s.head == 'reply' else 'its stratum is %s' % s.given['stratum'],
        **{(call, number): why for call in ('metered', 'profile') for number, why in PROFILE.items()},
@@ -175,10 +209,30 @@ def measured(step):
     return 'offset %s, delay %s, stratum %s' % (human.milliseconds(int(g['offset']), sign=True), human.milliseconds(int(g['delay'])), g['stratum'])
 
 
-def made(step):
-    g = step.given
+def settings(g):
     return ('polls every %s to %s, gives up from %s tries on where none of the last eight polls was answered, waits %s for a reply; version %s, %s NTS, source %s'
             % (every(g['min']), every(g['max']), g['startup'], human.span(int(g['window'])), g['start'], 'with' if g['nts'] == 'yes' else 'no', human.address(g['source'])))
+
+
+def made(step):
+    return settings(step.given)
+
+
+def in_file(f):
+    """the settings of a hand-over file, as `new` has them (docs/HANDOVER.md)"""
+    signed = lambda octet: str(octet - 256 if octet > 127 else octet)
+    start = ('v4', 'upgrading:%d' % f[24], 'upgraded', 'v5')[f[23]]
+    return dict(min=signed(f[4]), max=signed(f[5]), startup=str(f[6]), window=str(int.from_bytes(f[7:15], 'big')), start=start,
+                nts='yes' if f[25] else 'no', source=f[26:30].hex())
+
+
+def loaded(step):
+    return 'it has sent nothing yet; ' + settings(in_file(bytes.fromhex(step.given['file'])))
+
+
+def saved(step):
+    held = int(step.before['held'])
+    return '%s bytes%s' % (step.gave['len'], '; %d %s went with it, and the stash is empty' % (held, 'cookie' if held == 1 else 'cookies') if held else '')
 
 
 def sent(step):
@@ -186,7 +240,7 @@ def sent(step):
     return '%s, the next in %s%s' % (step.gave['send'], every(step.gave['poll']), '' if until == '-' else ', a reply is awaited until ' + human.clock(int(until.split('/')[2])))
 
 
-GOOD = {'new': made, 'metered': made, 'timer': sent, 'reply': measured, 'reply5': measured}
+GOOD = {'new': made, 'metered': made, 'timer': sent, 'reply': measured, 'reply5': measured, 'load': loaded, 'save': saved}
 
 
 def rest(step):

@@ -5,6 +5,7 @@ use association::Association;
 use drill_calls::Ran;
 use drill_calls::calendars;
 use drill_calls::calls;
+use drill_calls::handovers;
 use drill_calls::polls;
 use drill_calls::profiles;
 use drill_calls::record;
@@ -59,7 +60,11 @@ mod command {
 
     pub const PROFILE: usize = 15;
 
-    pub const UNKNOWN: usize = 16;
+    pub const SAVE: usize = 16;
+
+    pub const LOAD: usize = 17;
+
+    pub const UNKNOWN: usize = 18;
 }
 
 // A log as far as it is read: the association, the number of the line, how many bytes of it are there, whether it is too long,
@@ -88,7 +93,7 @@ fn start() -> Log {
 // Which command a line's word is.
 fn command_of(word: &[u8]) -> usize {
     match text::index_of(
-        b"new timer reply reply5 accept collect show cookies blank poke request salvage calendar plan metered profile",
+        b"new timer reply reply5 accept collect show cookies blank poke request salvage calendar plan metered profile save load",
         word,
     ) {
         Found::At(i) => i,
@@ -115,6 +120,8 @@ fn answer(a: Association, line: &[u8], number: u64, out: &mut [u8]) -> Ran {
         command::PLAN => calendars::plan(a, line, number, out),
         command::METERED => profiles::metered(a, line, number, out),
         command::PROFILE => profiles::profile(a, line, number, out),
+        command::SAVE => handovers::save(a, line, number, out),
+        command::LOAD => handovers::load(a, line, number, out),
         _ => {
             let end = print::error(out, number, b"unknown command", b"");
             Ran {

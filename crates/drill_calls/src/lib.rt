@@ -3,6 +3,7 @@
 // Rule: the commands are docs/DRILL.md's.
 pub mod calendars;
 pub mod calls;
+pub mod handovers;
 pub mod polls;
 pub mod profiles;
 pub mod record;
@@ -12,7 +13,7 @@ pub mod salvages;
 
 use association::Association;
 
-// What the buffer of a timer or of a request is filled with before it is lent.
+// What the buffer of a timer, of a request or of a hand-over file is filled with before it is lent.
 const FILLER: u8 = 0xAA;
 
 // What a line's run leaves: the association, and where its answer ends in the buffer.

@@ -2,10 +2,10 @@
 //
 // A kind is a letter:
 //   n u64, u u8, b i8, s i64     a decimal number; a signed one may begin with '-' and is given as its 64 bits
-//   l a leap indicator, o a mode, r w q the room of a timer, a collector, a request writer     a decimal number
+//   l a leap indicator, o a mode, r w q R the room of a timer, a collector, a request writer, a writer of hand-over files     a decimal number
 //   x 16 hexadecimal digits, f 8
 //   i 64 hexadecimal digits, or '-'
-//   h bytes, c bytes or the word collect, d identifiers of 8 digits each joined by commas; or '-'
+//   h bytes, F bytes of a hand-over file, c bytes or the word collect, d identifiers of 8 digits each joined by commas; or '-'
 //   k names of kisses joined by commas, or '-': a bit for each
 //   v a version: its place among the names, and for upgrading the tries
 //   y no or yes, g absent, agree or disagree, m none, absent or present, e a kind of request: the place among the names
@@ -38,6 +38,9 @@ pub const REQUEST_ROOM: usize = 6144;
 
 // The most entries of a calendar: twice those that it may have, so that more can be asked of it.
 pub const MAX_ENTRIES: usize = 128;
+
+// The most bytes that a hand-over file may have, and the most that its writer is lent.
+pub const FILE_ROOM: usize = 8192;
 
 // The bytes of a request's unique identifier.
 pub const UID_BYTES: usize = 32;
@@ -200,8 +203,8 @@ fn is_dash(s: &[u8]) -> bool {
     if s.len() == 1 { s[0] == b'-' } else { false }
 }
 
-// A number of bytes: none, or two digits each.
-fn bytes(s: &[u8]) -> Number {
+// A number of bytes, so many at most: none, or two digits each.
+fn bytes(s: &[u8], most: usize) -> Number {
     if is_dash(s) {
         return Number::Is(0);
     }
@@ -211,7 +214,7 @@ fn bytes(s: &[u8]) -> Number {
     if s.len() % BYTE_DIGITS != 0 {
         return Number::Bad;
     }
-    if MAX_BYTES < s.len() / BYTE_DIGITS {
+    if most < s.len() / BYTE_DIGITS {
         return Number::Bad;
     }
     if !all_digits(s) {
@@ -233,7 +236,7 @@ fn list(s: &[u8]) -> Number {
     if text::same(s, b"collect") {
         Number::Is(COLLECT)
     } else {
-        bytes(s)
+        bytes(s, MAX_BYTES)
     }
 }
 
@@ -446,10 +449,12 @@ pub fn parse(kind: u8, s: &[u8]) -> Number {
         b'r' => decimal(s, 0, TIMER_ROOM as u64),
         b'w' => decimal(s, 0, COLLECT_ROOM as u64),
         b'q' => decimal(s, 0, REQUEST_ROOM as u64),
+        b'R' => decimal(s, 0, FILE_ROOM as u64),
         b'x' => digits(s, ID_DIGITS),
         b'f' => digits(s, REFID_DIGITS),
         b'i' => uid(s),
-        b'h' => bytes(s),
+        b'h' => bytes(s, MAX_BYTES),
+        b'F' => bytes(s, FILE_ROOM),
         b'c' => list(s),
         b'd' => identifier_count(s),
         b'k' => kisses(s),

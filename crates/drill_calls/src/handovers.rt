@@ -1,0 +1,74 @@
+// The calls save and load.
+use crate::FILLER;
+use crate::Ran;
+use association::Association;
+use drill_text::keys;
+use drill_text::print;
+use drill_text::text;
+use drill_text::value;
+use drill_text::value::FILE_ROOM;
+use handover_file::SaveAnswer;
+
+// The key of each call, by its place in its table.
+mod save_key {
+    pub const ROOM: usize = 0;
+}
+
+mod load_key {
+    pub const FILE: usize = 0;
+}
+
+// The writer's answer; a file that is written stands at the start of the buffer.
+fn put_saved(out: &mut [u8], answer: SaveAnswer, buffer: &[u8]) -> usize {
+    let at = print::number(out, 0, b"save ", answer.number() as u64);
+    let SaveAnswer::Saved(len) = answer else {
+        return at;
+    };
+    let at = print::number(out, at, b" len=", len as u64);
+    let at = print::text(out, at, b" file=");
+    print::bytes(out, at, text::part(buffer, 0, len))
+}
+
+// The association goes into a buffer of so many bytes, and comes back without its cookies where it did.
+fn saved(a: Association, buffer: &mut [u8], out: &mut [u8]) -> Ran {
+    let done = handover_save::save_owned(a, buffer);
+    let answer = done.answer;
+    let end = put_saved(out, answer, buffer);
+    let association = done.association;
+    Ran { association, end }
+}
+
+pub fn save(a: Association, line: &[u8], number: u64, out: &mut [u8]) -> Ran {
+    let v = keys::read(line, number, b"room:R=8192", out);
+    if v.refused {
+        return Ran {
+            association: a,
+            end: v.end,
+        };
+    }
+    let mut buffer = [FILLER; FILE_ROOM];
+    let room = value::at_most(v.number(save_key::ROOM), FILE_ROOM);
+    saved(a, &mut buffer[0..room], out)
+}
+
+// The association of a file takes the place of the one before it, the blank record where the file is refused.
+fn loaded(file: &[u8], out: &mut [u8]) -> Ran {
+    let done = handover_load::load(file);
+    let answer = done.answer;
+    let end = print::number(out, 0, b"load ", answer.number() as u64);
+    let association = done.association;
+    Ran { association, end }
+}
+
+pub fn load(a: Association, line: &[u8], number: u64, out: &mut [u8]) -> Ran {
+    let v = keys::read(line, number, b"file:F", out);
+    if v.refused {
+        return Ran {
+            association: a,
+            end: v.end,
+        };
+    }
+    let mut file = [0u8; FILE_ROOM];
+    let len = v.bytes(load_key::FILE, line, &mut file);
+    loaded(text::part(&file, 0, len), out)
+}

@@ -1,0 +1,12 @@
+-- Each public function's contract determines its result: any two that it allows are equal.
+-- Assumes nothing.
+use mathlib.Core.Path.{_∙_, sym}
+use Rattle.words.specs.Determined.{Determined}
+use Rattle.handover_file.proofs.SaveAnswer.number.Reads as save-number
+use Rattle.handover_file.proofs.LoadAnswer.number.Reads as load-number
+
+pub save-number-determined : Determined save-number.Post
+save-number-determined κs a y z e f p q = p ∙ sym q
+
+pub load-number-determined : Determined load-number.Post
+load-number-determined κs a y z e f p q = p ∙ sym q

@@ -1,0 +1,158 @@
+-- A written file is read as its record with nothing sent; apart from the pending request two whole records are equal exactly when their files are; and how long a file may be.
+-- Assumes nothing.
+use Prim.Native.Nat.{ℕ, _+_, _^_, _≤_, _<_}
+use mathlib.Core.Path.{_≡_, refl, sym, ap, _∙_}
+use mathlib.Core.Bool.{Bool, true, false, _&&_}
+use mathlib.Core.List.{List}
+use mathlib.Core.Logic.{_↔_}
+use native.Mathlib.Omega.{arith}
+use borrow.Author.Tests.{eq-eqb}
+use lib.Dec.{lit<, eqb}
+use lib.ListN.{length}
+use Rattle.words.specs.Bytes.{zeros}
+use Rattle.words.proofs.Tests.{passes, both}
+use Rattle.words.proofs.Zeros.{of-zeros}
+use Rattle.cookiestash.specs.Queue.{cookies}
+use Rattle.association.specs.declared.Association.{Association}
+use Rattle.association.specs.Record.{noPending, pendingValid, idleValid}
+use Rattle.association.specs.Whole.{Whole}
+use Rattle.association.proofs.Whole.{of-whole}
+use Rattle.handover_groups.proofs.OfSettings.{SettingsFit, settings-back, settings-known, settings-long}
+use Rattle.handover_groups.proofs.OfState.{PollsFit, effort-back, effort-long, version-back, version-known, version-long, polls-back, polls-long, source-back, source-known, source-long}
+use Rattle.handover_file.specs.declared.LoadAnswer.the-variants.{Loaded}
+use Rattle.handover_file.specs.declared.LoadOut.{LoadOut}
+use Rattle.handover_file.specs.Sections.{Fitting}
+use Rattle.handover_file.specs.Cookies.{stashBytes}
+use Rattle.handover_file.specs.File.{shapes, partsOf, fileOf, unsent, known, recordIn}
+use Rattle.handover_file.specs.Answers as answers
+use Rattle.handover_file.proofs.Sections.{length-record, cut-joined}
+use Rattle.handover_file.proofs.Cookies.{AllFill, stash-back, stash-known, stash-fits, stash-long, stash-longest}
+
+-- what the types say of a record
+pub record Fit (a : Association) : Type 0 where
+  pub settings : SettingsFit (a .settings)
+  pub eight : length (a .stash .slots) ≡ 8
+  pub polls : PollsFit (a .state .polls)
+  pub refid : a .state .source .refid .0 < 2 ^ 32
+
+idle-unsent : (nts : Bool) (read held : ℕ) (uid : List ℕ) → idleValid nts read held uid ≡ true → idleValid nts read held (noPending false .uid) ≡ true
+unfolding idleValid noPending
+idle-unsent true read held uid e = refl
+idle-unsent false read held uid e =
+    let r = both (eqb read 0) (eqb held 0 && zeros uid) e in
+    let h = both (eqb held 0) (zeros uid) (r .1) in
+    passes _ (r .0) ∙ passes _ (h .0) ∙ of-zeros 32
+
+pub none-valid : pendingValid (noPending false) ≡ true
+unfolding noPending pendingValid
+none-valid = of-zeros 32
+
+pub unsent-whole : (a : Association) → Whole a → Whole (unsent a)
+unfolding unsent
+unsent-whole a w =
+    record {
+      settings = w .settings;
+      stash = w .stash;
+      request = none-valid;
+      idle = idle-unsent (a .settings .nts) (a .stash .read) (a .stash .held) (a .state .request .uid) (w .idle);
+    }
+
+pub file-length : (a : Association) → length (fileOf a) ≡ 62 + length (stashBytes (a .stash))
+unfolding fileOf
+file-length a =
+    simp (
+      length-record,
+      settings-long (a .settings),
+      effort-long (a .state .effort),
+      version-long (a .state .version),
+      polls-long (a .state .polls),
+      source-long (a .state .source),
+    )
+    (omega arith)
+
+module _ (a : Association) (w : Whole a) (f : Fit a) where
+  fitting : Fitting shapes (partsOf a)
+  fitting =
+      let se = settings-long (a .settings) in
+      let st = stash-long (a .stash) (w .stash) (f .eight) in
+      let re = effort-long (a .state .effort) in
+      let ve = version-long (a .state .version) in
+      let po = polls-long (a .state .polls) in
+      let so = source-long (a .state .source) in (
+        lit< tt,
+        omega arith,
+        eq-eqb _ 26 se,
+        (
+          lit< tt,
+          omega arith,
+          stash-fits (a .stash) (w .stash) (f .eight),
+          (
+            lit< tt,
+            omega arith,
+            eq-eqb _ 2 re,
+            (
+              lit< tt,
+              omega arith,
+              eq-eqb _ 2 ve,
+              (
+                lit< tt,
+                omega arith,
+                eq-eqb _ 2 po,
+                (
+                  lit< tt,
+                  omega arith,
+                  eq-eqb _ 6 so,
+                  tt,
+                ),
+              ),
+            ),
+          ),
+        ),
+      )
+
+  record-back : recordIn (partsOf a) ≡ unsent a
+  unfolding recordIn unsent
+  record-back =
+      let se = settings-back (a .settings) (f .settings) in
+      let st = stash-back (a .stash) (w .stash) (f .eight) in
+      let re = effort-back (a .state .effort) in
+      let ve = version-back (a .state .version) in
+      let po = polls-back (a .state .polls) (f .polls) in
+      let so = source-back (a .state .source) (f .refid) in
+      λ i. record { settings = se i; stash = st i; state = record { effort = re i; version = ve i; polls = po i; source = so i; request = noPending false } }
+
+  known-back : known (partsOf a) ≡ true
+  unfolding known
+  known-back =
+      passes _ (settings-known (a .settings)) ∙ passes _ (stash-known (a .stash) (w .stash) (f .eight)) ∙ passes _ (version-known (a .state .version)) ∙ source-known (a .state .source)
+
+  loaded : answers.loadIn (partsOf a) ≡ answers.loaded Loaded (unsent a)
+  unfolding answers.loadIn
+  loaded = rw (known-back, record-back, of-whole (unsent a) (unsent-whole a w))
+
+  -- reading a written file gives the record as it was, with nothing sent
+  pub read-file : answers.loadOf (fileOf a) ≡ answers.loaded Loaded (unsent a)
+  unfolding answers.loadOf fileOf
+  read-file = ap answers.onCut (cut-joined shapes (partsOf a) fitting) ∙ loaded
+
+  -- no file is longer
+  pub file-longest : length (fileOf a) ≤ 5871
+  file-longest = omega (arith, file-length a, stash-long (a .stash) (w .stash) (f .eight))
+
+-- and one is as long: that of eight cookies that fill their slots
+pub file-as-long : (a : Association) → Whole a → a .stash .held ≡ 8 → AllFill (cookies 8 (a .stash)) → length (fileOf a) ≡ 5871
+file-as-long a w h f = omega (arith, file-length a, stash-longest (a .stash) (w .stash) h f)
+
+same-record : (a b : Association) → Whole a → Fit a → Whole b → Fit b → fileOf a ≡ fileOf b → unsent a ≡ unsent b
+same-record a b v f w g e = ap (λ (o : LoadOut). o .association) (sym (read-file a v f) ∙ ap answers.loadOf e ∙ read-file b w g)
+
+request-unwritten : (a : Association) → fileOf (unsent a) ≡ fileOf a
+unfolding fileOf unsent
+request-unwritten a = refl
+
+same-file : (a b : Association) → unsent a ≡ unsent b → fileOf a ≡ fileOf b
+same-file a b e = sym (request-unwritten a) ∙ ap fileOf e ∙ request-unwritten b
+
+-- apart from the request, records are equal exactly where their files are
+pub equal-files : (a b : Association) → Whole a → Fit a → Whole b → Fit b → (unsent a ≡ unsent b) ↔ (fileOf a ≡ fileOf b)
+equal-files a b v f w g = (same-file a b, same-record a b v f w g)

@@ -1,0 +1,95 @@
+-- The stash's record of the hand-over file (RULES, No. 6): the reading place, then the cookies held, oldest first, each its length (two bytes) and its stored bytes.
+-- Assumes nothing.
+use Prim.Native.Nat.{ℕ, zero, suc, _+_, _-_}
+use mathlib.Core.Bool.{Bool, true, false, _&&_, cond}
+use mathlib.Core.List.{List, [], _∷_, _++_}
+use lib.Dec.{ltb, leb, eqb}
+use lib.ListN.{length, getD, drop, replicate}
+use Rattle.words.specs.Bytes.{be, part, toBe}
+use Rattle.cookiestash.specs.declared.Slot.{Slot}
+use Rattle.cookiestash.specs.declared.CookieStash.{CookieStash}
+use Rattle.cookiestash.specs.Stash.{stored, emptySlot, putOf}
+use Rattle.cookiestash.specs.Queue.{Cookie, cookies}
+
+-- ---- the writer
+
+unfoldable pub cookieBytes : Cookie → List ℕ
+cookieBytes c = toBe 2 (c .len) ++ c .bytes
+
+abbrev pub cookiesBytes : List Cookie → List ℕ
+cookiesBytes [] = []
+cookiesBytes (c ∷ cs) = cookieBytes c ++ cookiesBytes cs
+
+unfoldable pub stashBytes : CookieStash → List ℕ
+stashBytes s = s .read ∷ cookiesBytes (cookies 8 s)
+
+-- ---- the reader
+
+-- what bytes are read as: cookies, or no row of cookies
+pub data Run : Type 0 where
+  whole : List Cookie → Run
+  broken : Run
+
+abbrev pub ahead : Cookie → Run → Run
+ahead c (whole cs) = whole (c ∷ cs)
+ahead c broken = broken
+
+-- the length that stands first
+unfoldable pub lenOf : List ℕ → ℕ
+lenOf l = be (part l 0 2)
+
+-- and the cookie of that length
+unfoldable pub firstOf : List ℕ → Cookie
+firstOf l = record { len = lenOf l; bytes = part l 2 (stored (lenOf l)) }
+
+-- what stands first: nothing is the end; a length and its stored bytes are a cookie; all else is broken
+abbrev pub runTurn : (List ℕ → Run) → List ℕ → Run
+runTurn rest l =
+    cond (eqb (length l) 0) (whole [])
+    (cond (ltb (length l) 2) broken
+    (cond (ltb (length l - 2) (stored (lenOf l))) broken
+    (ahead (firstOf l) (rest (drop (2 + stored (lenOf l)) l)))))
+
+-- with at most n cookies
+abbrev pub runN : ℕ → List ℕ → Run
+runN zero l = runTurn (λ r. broken) l
+runN (suc n) l = runTurn (λ r. runN n r) l
+
+-- of so many bytes no more cookies can be read
+unfoldable pub runOf : List ℕ → Run
+runOf l = runN (length l) l
+
+abbrev pub isRun : Run → Bool
+isRun (whole cs) = true
+isRun broken = false
+
+abbrev pub cookiesOf : Run → List Cookie
+cookiesOf (whole cs) = cs
+cookiesOf broken = []
+
+-- a body has the reading place, and its cookies end with it
+unfoldable pub stashFits : List ℕ → Bool
+stashFits b = cond (eqb (length b) 0) false (isRun (runOf (drop 1 b)))
+
+unfoldable pub heldIn : List ℕ → List Cookie
+heldIn b = cookiesOf (runOf (drop 1 b))
+
+-- a reading place over 7, and more than eight cookies, are those of no stash
+unfoldable pub stashKnown : List ℕ → Bool
+stashKnown b = ltb (getD b 0 0) 8 && leb (length (heldIn b)) 8
+
+-- the slot that holds a cookie as it was kept
+unfoldable pub slotFor : Cookie → Slot
+slotFor c = record { bytes = c .bytes ++ replicate (724 - stored (c .len)) 0; len = c .len }
+
+-- nothing held, at a reading place
+unfoldable pub emptyAt : ℕ → CookieStash
+emptyAt read = record { slots = replicate 8 emptySlot; read = read; held = 0 }
+
+-- the cookies behind the newest, one by one
+abbrev pub laidIn : CookieStash → List Cookie → CookieStash
+laidIn s [] = s
+laidIn s (c ∷ cs) = laidIn (putOf 8 s (slotFor c)) cs
+
+unfoldable pub stashOf : List ℕ → CookieStash
+stashOf b = laidIn (emptyAt (getD b 0 0)) (heldIn b)

@@ -1,0 +1,90 @@
+-- The hand-over file (RULES, No. 6): six records in one fixed order, written of a record, and read as one. The pending request is not written.
+-- Assumes nothing.
+use Prim.Native.Nat.{ℕ}
+use mathlib.Core.Bool.{Bool, _&&_, false}
+use mathlib.Core.List.{List, [], _∷_}
+use lib.Dec.{eqb}
+use lib.ListN.{length, getD}
+use Rattle.association.specs.declared.State.{State}
+use Rattle.association.specs.declared.Association.{Association}
+use Rattle.association.specs.Record.{noPending, withStash}
+use Rattle.handover_groups.specs.Settings.{settingsBytes, settingsOf, settingsKnown}
+use Rattle.handover_groups.specs.State.{effortBytes, effortOf, versionBytes, versionOf, versionKnown, pollsBytes, pollsOf, sourceBytes, sourceOf, sourceKnown}
+use Rattle.handover_file.specs.Sections.{Shape, joined}
+use Rattle.handover_file.specs.Cookies.{stashBytes, stashFits, stashKnown, stashOf, emptyAt}
+
+-- a record of n bytes
+abbrev pub sized : ℕ → ℕ → Shape
+sized m n = record { mark = m; fits = λ b. eqb (length b) n }
+
+-- the marks S E, S T, R E, V E, P O, S O, and what each record's body is tested for
+abbrev pub shapes : List Shape
+shapes =
+    sized 0x5345 26
+    ∷ record { mark = 0x5354; fits = stashFits }
+    ∷ sized 0x5245 2
+    ∷ sized 0x5645 2
+    ∷ sized 0x504F 2
+    ∷ sized 0x534F 6
+    ∷ []
+
+-- ---- the writer
+
+abbrev pub partsOf : Association → List (List ℕ)
+partsOf a =
+    settingsBytes (a .settings)
+    ∷ stashBytes (a .stash)
+    ∷ effortBytes (a .state .effort)
+    ∷ versionBytes (a .state .version)
+    ∷ pollsBytes (a .state .polls)
+    ∷ sourceBytes (a .state .source)
+    ∷ []
+
+unfoldable pub fileOf : Association → List ℕ
+fileOf a = joined shapes (partsOf a)
+
+-- what writing hands back: the stash empty, its reading place kept
+unfoldable pub emptied : Association → Association
+emptied a = withStash a (emptyAt (a .stash .read))
+
+-- ---- the reader
+
+-- a loaded association has sent nothing yet
+unfoldable pub unsent : Association → Association
+unsent a =
+    record {
+      settings = a .settings;
+      stash = a .stash;
+      state =
+          record {
+            effort = a .state .effort;
+            version = a .state .version;
+            polls = a .state .polls;
+            source = a .state .source;
+            request = noPending false;
+          };
+    }
+
+-- of six bodies: codes of a kind, and a stash
+unfoldable pub known : List (List ℕ) → Bool
+known bs =
+    settingsKnown (getD bs 0 []) && (stashKnown (getD bs 1 []) && (versionKnown (getD bs 3 []) && sourceKnown (getD bs 5 [])))
+
+-- the state that four bodies are: nothing is pending
+abbrev pub stateIn : List ℕ → List ℕ → List ℕ → List ℕ → State
+stateIn effort version polls source =
+    record {
+      effort = effortOf effort;
+      version = versionOf version;
+      polls = pollsOf polls;
+      source = sourceOf source;
+      request = noPending false;
+    }
+
+unfoldable pub recordIn : List (List ℕ) → Association
+recordIn bs =
+    record {
+      settings = settingsOf (getD bs 0 []);
+      stash = stashOf (getD bs 1 []);
+      state = stateIn (getD bs 2 []) (getD bs 3 []) (getD bs 4 []) (getD bs 5 []);
+    }

@@ -1,0 +1,6 @@
+-- The definitions of the hand-over file, which the contracts of its writer and its reader cite.
+pub mod Sections
+pub mod Cookies
+pub mod File
+pub mod Answers
+pub mod Numbers

@@ -1,0 +1,59 @@
+// The hand-over file: what it is, byte by byte, and what its writer and its reader answer.
+// Promises (theorems): a written file is read as its record with nothing sent; records are equal exactly when their files are; no two files load as one record.
+// Rule: RULES, No. 6; definitions in specs/Sections.antt, specs/Cookies.antt, specs/File.antt and specs/Answers.antt, number by number in specs/Numbers.antt.
+use association::Association;
+ghost use mathlib.Core.Path.{_≡_};
+ghost use Rattle.handover_file.specs.Answers.{saveNumber, loadNumber};
+
+// What writing answers: the file's length where it is in the buffer, or why nothing was written.
+pub enum SaveAnswer {
+    Saved(usize),
+    NotWhole,
+    ShortBuffer,
+}
+
+impl SaveAnswer {
+    // The number of the answer, in RULES.
+    pub fn number(self) -> u8
+        ensures { λ r. ⌜ r ≡ saveNumber self ⌝ }
+    {
+        match self {
+            SaveAnswer::Saved(_) => 0,
+            SaveAnswer::NotWhole => 32,
+            SaveAnswer::ShortBuffer => 60,
+        }
+    }
+}
+
+// What writing gives: its answer, and the association, whose cookies are the file's from now on.
+pub struct SaveOut {
+    pub answer: SaveAnswer,
+    pub association: Association,
+}
+
+// What reading answers: the first of a wrong mark and a wrong length in the file, then that its bytes are no association.
+pub enum LoadAnswer {
+    Loaded,
+    WrongMark,
+    WrongLength,
+    NoAssociation,
+}
+
+impl LoadAnswer {
+    pub fn number(self) -> u8
+        ensures { λ r. ⌜ r ≡ loadNumber self ⌝ }
+    {
+        match self {
+            LoadAnswer::Loaded => 0,
+            LoadAnswer::WrongMark => 61,
+            LoadAnswer::WrongLength => 62,
+            LoadAnswer::NoAssociation => 63,
+        }
+    }
+}
+
+// What reading gives: its answer, and the association, blank where the file was refused.
+pub struct LoadOut {
+    pub answer: LoadAnswer,
+    pub association: Association,
+}

@@ -1,0 +1,126 @@
+-- What the tests of six bodies come to, in their order; and what a file comes to whose records are all there.
+-- Assumes nothing.
+use Prim.Native.Nat.{ℕ, _+_, _-_}
+use mathlib.Core.Path.{_≡_, refl, sym, ap, _∙_}
+use mathlib.Core.Bool.{Bool, true, false, cond}
+use mathlib.Core.List.{List, [], _∷_}
+use native.Mathlib.Omega.{arith}
+use lib.ListN.{length}
+use Rattle.words.specs.Bytes.{part}
+use Rattle.words.proofs.Tests.{passes, fails, when, unless}
+use Rattle.cookiestash.specs.declared.CookieStash.{CookieStash}
+use Rattle.cookiestash.specs.Stash.{newOf}
+use Rattle.association.specs.declared.Settings.{Settings}
+use Rattle.association.specs.declared.State.{State}
+use Rattle.association.specs.Record.{wholeOf}
+use Rattle.handover_groups.specs.Settings.{settingsOf, settingsKnown}
+use Rattle.handover_groups.specs.State.{versionKnown, sourceKnown}
+use Rattle.handover_file.specs.declared.LoadAnswer.the-variants.{Loaded, WrongMark, WrongLength, NoAssociation}
+use Rattle.handover_file.specs.Sections.{Cut, bodies, misplaced, missized, cutAs}
+use Rattle.handover_file.specs.Cookies.{stashKnown, stashOf}
+use Rattle.handover_file.specs.File.{shapes, stateIn, known, recordIn}
+use Rattle.handover_file.specs.Answers.{loaded, refused, loadIn, onCut, loadOf}
+use Rattle.handover_load.specs.declared.Stashed.{Stashed}
+use Rattle.handover_cut.specs.declared.Stop.the-variants.{Misplaced, Missized}
+use Rattle.handover_cut.specs.Steps.{stopOf}
+use Rattle.handover_load.specs.Read.{stashedOf}
+use Rattle.handover_cut.proofs.Six.{partsAt, Six}
+
+-- ---- the stash that was read
+
+known-is : (b : List ℕ) → stashedOf b .known ≡ stashKnown b
+unfolding stashedOf
+known-is b = go (stashKnown b)
+  where
+    go : (t : Bool) → cond {A = Stashed} t (record { known = true; stash = stashOf b }) (record { known = false; stash = newOf }) .known ≡ t
+    go true = refl
+    go false = refl
+
+pub known-by : (b : List ℕ) (r : Stashed) {t : Bool} → r ≡ stashedOf b → r .known ≡ t → stashKnown b ≡ t
+known-by b r e k = sym (known-is b) ∙ sym (ap (λ (s : Stashed). s .known) e) ∙ k
+
+pub kept-by : (b : List ℕ) (r : Stashed) → r ≡ stashedOf b → stashKnown b ≡ true → r .stash ≡ stashOf b
+unfolding stashedOf
+kept-by b r e k = ap (λ (s : Stashed). s .stash) (e ∙ when _ _ k)
+
+-- ---- six bodies
+
+module _ (se st re ve po so : List ℕ) where
+  abbrev six : List (List ℕ)
+  six = se ∷ st ∷ re ∷ ve ∷ po ∷ so ∷ []
+
+  none : known six ≡ false → loadIn six ≡ refused NoAssociation
+  unfolding loadIn
+  none e = unless _ _ (fails _ e)
+
+  pub by-settings : settingsKnown se ≡ false → loadIn six ≡ refused NoAssociation
+  unfolding known
+  by-settings a = none (fails _ a)
+
+  module _ (a : settingsKnown se ≡ true) where
+    pub by-stash : stashKnown st ≡ false → loadIn six ≡ refused NoAssociation
+    unfolding known
+    by-stash b = none (passes _ a ∙ fails _ b)
+
+    module _ (b : stashKnown st ≡ true) where
+      pub by-version : versionKnown ve ≡ false → loadIn six ≡ refused NoAssociation
+      unfolding known
+      by-version c = none (passes _ a ∙ passes _ b ∙ fails _ c)
+
+      module _ (c : versionKnown ve ≡ true) where
+        pub by-source : sourceKnown so ≡ false → loadIn six ≡ refused NoAssociation
+        unfolding known
+        by-source d = none (passes _ a ∙ passes _ b ∙ passes _ c ∙ d)
+
+        module _ (d : sourceKnown so ≡ true) {s : Settings} {k : CookieStash} {m : State} (es : s ≡ settingsOf se) (ek : k ≡ stashOf st) (em : m ≡ stateIn re ve po so) where
+          all-known : known six ≡ true
+          unfolding known
+          all-known = passes _ a ∙ passes _ b ∙ passes _ c ∙ d
+
+          record-is : record { settings = s; stash = k; state = m } ≡ recordIn six
+          unfolding recordIn
+          record-is = λ i. record { settings = es i; stash = ek i; state = em i }
+
+          pub by-whole : wholeOf (record { settings = s; stash = k; state = m }) ≡ false → loadIn six ≡ refused NoAssociation
+          unfolding loadIn
+          by-whole w = unless _ _ (passes _ all-known ∙ sym (ap wholeOf record-is) ∙ w)
+
+          pub is-loaded : wholeOf (record { settings = s; stash = k; state = m }) ≡ true → loaded Loaded (record { settings = s; stash = k; state = m }) ≡ loadIn six
+          unfolding loadIn
+          is-loaded w = ap (loaded Loaded) record-is ∙ sym (when _ _ (passes _ all-known ∙ sym (ap wholeOf record-is) ∙ w))
+
+-- ---- a file
+
+-- the parts that the code cuts out
+pub slices : (f : List ℕ) (n : ℕ) →
+    loadIn (part f 4 26 ∷ part f 34 (34 + n - 34) ∷ part f (38 + n) (40 + n - (38 + n)) ∷ part f (44 + n) (46 + n - (44 + n)) ∷ part f (50 + n) (52 + n - (50 + n)) ∷ part f (56 + n) (62 + n - (56 + n)) ∷ [])
+    ≡ loadIn (partsAt f n)
+slices f n =
+    let e₁ : 34 + n - 34 ≡ n = omega arith in
+    let e₂ : 40 + n - (38 + n) ≡ 2 = omega arith in
+    let e₃ : 46 + n - (44 + n) ≡ 2 = omega arith in
+    let e₄ : 52 + n - (50 + n) ≡ 2 = omega arith in
+    let e₅ : 62 + n - (56 + n) ≡ 6 = omega arith in
+    λ i. loadIn (part f 4 26 ∷ part f 34 (e₁ i) ∷ part f (38 + n) (e₂ i) ∷ part f (44 + n) (e₃ i) ∷ part f (50 + n) (e₄ i) ∷ part f (56 + n) (e₅ i) ∷ [])
+
+pub loads : (f : List ℕ) → Six f → loadOf f ≡ loadIn (partsAt f (length f - 62))
+unfolding loadOf
+loads f s = ap onCut (s .cuts)
+
+mark-by : (c : Cut) → stopOf c ≡ Misplaced → c ≡ misplaced
+mark-by (bodies bs) e = let z : _≡_ {A = ℕ} 0 1 = cc in absurd (omega arith)
+mark-by misplaced e = refl
+mark-by missized e = let z : _≡_ {A = ℕ} 0 1 = cc in absurd (omega arith)
+
+length-by : (c : Cut) → stopOf c ≡ Missized → c ≡ missized
+length-by (bodies bs) e = let z : _≡_ {A = ℕ} 0 1 = cc in absurd (omega arith)
+length-by misplaced e = let z : _≡_ {A = ℕ} 0 1 = cc in absurd (omega arith)
+length-by missized e = refl
+
+pub wrong-mark : (f : List ℕ) → stopOf (cutAs shapes f) ≡ Misplaced → loadOf f ≡ refused WrongMark
+unfolding loadOf
+wrong-mark f e = ap onCut (mark-by (cutAs shapes f) e)
+
+pub wrong-length : (f : List ℕ) → stopOf (cutAs shapes f) ≡ Missized → loadOf f ≡ refused WrongLength
+unfolding loadOf
+wrong-length f e = ap onCut (length-by (cutAs shapes f) e)

@@ -1,0 +1,188 @@
+// The reader of the hand-over file: a box that is swapped in starts with the association of the one before it.
+// Promises: of any bytes the answer that the file's definition gives; the first fault of the file decides between 61 and 62; the blank record where it is refused.
+// Rule: RULES, No. 6; the file is defined in `handover_file`, its records are found by `handover_cut`, and specs/Read.antt has the stash that is read.
+use association::Association;
+use association::Pending;
+use association::State;
+use cookiestash::CookieStash;
+use cookiestash::MAX_COOKIES;
+use cookiestash::Slot;
+use handover_cut::Held;
+use handover_cut::Stop;
+use handover_file::LoadAnswer;
+use handover_file::LoadOut;
+ghost use mathlib.Core.Path.{_≡_};
+ghost use mathlib.Core.Bool.{true};
+ghost use mathlib.Core.List.{[], _∷_};
+ghost use Prim.Native.Nat.{_<_};
+ghost use lib.ListN.{length, getD};
+ghost use Rattle.cookiestash.specs.Stash.{stored, putOf};
+ghost use Rattle.handover_file.specs.Cookies.{stashFits, slotFor};
+ghost use Rattle.handover_file.specs.File.{stateIn};
+ghost use Rattle.handover_file.specs.Answers.{refused, loadIn, loadOf};
+ghost use Rattle.handover_cut.specs.Steps.{cookie};
+ghost use Rattle.handover_load.specs.Read.{noStash, stashedOf};
+
+// How many bytes a file has besides the stash's body.
+const BESIDES: usize = 62;
+
+// A stash that was read: whether it is one, and if not an empty one.
+struct Stashed {
+    known: bool,
+    stash: CookieStash,
+}
+
+// A cookie goes behind the newest, as its length and its stored bytes.
+fn laid(mut s: CookieStash, len: u16, bytes: &[u8]) -> CookieStash
+    requires { ⌜ (s .read < 8) × (s .held < 8) × (length (now bytes) ≡ stored len) ⌝ }
+    ensures { λ r. ⌜ r ≡ putOf 8 s (slotFor (cookie len (now (bytes .entry)))) ⌝ }
+{
+    let kept = cookiestash::kept_bytes(bytes);
+    let held = s.held;
+    let place = cookiestash::wrapped(MAX_COOKIES, s.read + held);
+    s.slots[place] = Slot { bytes: kept, len };
+    s.held = held + 1;
+    s
+}
+
+fn no_stash() -> Stashed
+    ensures { λ r. ⌜ r ≡ noStash ⌝ }
+{
+    let stash = CookieStash::new();
+    Stashed {
+        known: false,
+        stash,
+    }
+}
+
+// The reading place, the body's first byte.
+fn place_of(b: &[u8]) -> u8
+    requires { ⌜ 0 < length (now b) ⌝ }
+    ensures { λ r. ⌜ r ≡ getD (now (b .entry)) 0 0 ⌝ }
+{
+    b[0]
+}
+
+// The stash that a body is.
+fn stash_in(b: &[u8]) -> Stashed
+    requires { ⌜ stashFits (now b) ≡ true ⌝ }
+    ensures { λ r. ⌜ r ≡ stashedOf (now (b .entry)) ⌝ }
+{
+    let mut s = CookieStash::new();
+    let read = place_of(b) as usize;
+    if MAX_COOKIES <= read {
+        return no_stash();
+    }
+    s.read = read;
+    let mut at: usize = 1;
+    loop {
+        match handover_cut::held_at(b, at) {
+            Held::One { len, start, end } => {
+                if s.held == MAX_COOKIES {
+                    return no_stash();
+                }
+                s = laid(s, len, &b[start..end]);
+                at = end;
+            }
+            Held::End => {
+                return Stashed {
+                    known: true,
+                    stash: s,
+                };
+            }
+            Held::Broken => {
+                return no_stash();
+            }
+        }
+    }
+}
+
+fn refused(answer: LoadAnswer) -> LoadOut
+    ensures { λ r. ⌜ r ≡ refused answer ⌝ }
+{
+    let association = Association::blank();
+    LoadOut {
+        answer,
+        association,
+    }
+}
+
+// The state that its four bodies are, with nothing pending.
+fn state_in(effort: &[u8], version: &[u8], polls: &[u8], source: &[u8]) -> State
+    ensures { λ r. ⌜ r ≡ stateIn (now (effort .entry)) (now (version .entry)) (now (polls .entry)) (now (source .entry)) ⌝ }
+{
+    let e = handover_groups::effort_of(effort);
+    let v = handover_groups::version_of(version);
+    let p = handover_groups::polls_of(polls);
+    let s = handover_groups::source_of(source);
+    let request = Pending::none(false);
+    State {
+        effort: e,
+        version: v,
+        polls: p,
+        source: s,
+        request,
+    }
+}
+
+// The association that six bodies are, if they are one.
+fn association_in(
+    settings: &[u8],
+    stash: &[u8],
+    effort: &[u8],
+    version: &[u8],
+    polls: &[u8],
+    source: &[u8],
+) -> LoadOut
+    requires { ⌜ stashFits (now stash) ≡ true ⌝ }
+    ensures { λ r. ⌜ r ≡ loadIn (now (settings .entry) ∷ now (stash .entry) ∷ now (effort .entry) ∷ now (version .entry) ∷ now (polls .entry) ∷ now (source .entry) ∷ []) ⌝ }
+{
+    if !handover_groups::settings_known(settings) {
+        return refused(LoadAnswer::NoAssociation);
+    }
+    let stashed = stash_in(stash);
+    if !stashed.known {
+        return refused(LoadAnswer::NoAssociation);
+    }
+    if !handover_groups::version_known(version) {
+        return refused(LoadAnswer::NoAssociation);
+    }
+    if !handover_groups::source_known(source) {
+        return refused(LoadAnswer::NoAssociation);
+    }
+    let kept = stashed.stash;
+    let state = state_in(effort, version, polls, source);
+    let association = Association {
+        settings: handover_groups::settings_of(settings),
+        stash: kept,
+        state,
+    };
+    if !association.whole() {
+        return refused(LoadAnswer::NoAssociation);
+    }
+    LoadOut {
+        answer: LoadAnswer::Loaded,
+        association,
+    }
+}
+
+// Reads a file. A loaded association has sent nothing yet.
+pub fn load(file: &[u8]) -> LoadOut
+    ensures { λ r. ⌜ r ≡ loadOf (now (file .entry)) ⌝ }
+{
+    match handover_cut::cut(file) {
+        Stop::Good => {
+            let n = file.len() - BESIDES;
+            association_in(
+                &file[4..30],
+                &file[34..34 + n],
+                &file[38 + n..40 + n],
+                &file[44 + n..46 + n],
+                &file[50 + n..52 + n],
+                &file[56 + n..62 + n],
+            )
+        }
+        Stop::Misplaced => refused(LoadAnswer::WrongMark),
+        Stop::Missized => refused(LoadAnswer::WrongLength),
+    }
+}

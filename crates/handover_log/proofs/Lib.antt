@@ -1,0 +1,2 @@
+-- Demand 3 from a loaded association.
+pub mod Demand

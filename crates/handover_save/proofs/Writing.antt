@@ -1,0 +1,204 @@
+-- What the writer's loops keep: the cookies that are still to be written, put behind what is there, make the stash's cookies.
+-- Assumes nothing.
+use Prim.Native.Nat.{ℕ, zero, suc, _+_, _-_, _*_, _≤_, _<_}
+use mathlib.Core.Path.{_≡_, refl, sym, ap, subst, _∙_}
+use mathlib.Core.List.{List, [], _∷_, _++_, map, append-assoc}
+use native.Mathlib.Omega.{arith}
+use lib.ListN.{length, take, length-append}
+use lib.Seq.{length-take-le}
+use Rattle.words.specs.Bytes.{toBe}
+use Rattle.cookiestash.specs.declared.Slot.{Slot}
+use Rattle.cookiestash.specs.declared.CookieStash.{CookieStash}
+use Rattle.cookiestash.specs.Stash.{stored, slotAt, wrap}
+use Rattle.cookiestash.specs.Queue.{walk, queue, seen, cookies}
+use Rattle.cookiestash.specs.Whole.{WholeSlot, Whole}
+use Rattle.cookiestash.proofs.Places.{next-lt}
+use Rattle.cookiestash.proofs.Stored.{stored-bounds}
+use Rattle.association.specs.declared.Settings.{Settings}
+use Rattle.association.specs.declared.State.{State}
+use Rattle.handover_groups.specs.Settings.{settingsBytes}
+use Rattle.handover_groups.specs.State.{effortBytes, versionBytes, pollsBytes, sourceBytes}
+use Rattle.handover_groups.proofs.OfSettings.{settings-long}
+use Rattle.handover_groups.proofs.OfState.{effort-long, version-long, polls-long}
+use Rattle.handover_file.specs.Sections.{recordOf}
+use Rattle.handover_file.specs.Cookies.{cookieBytes, cookiesBytes, stashBytes}
+use Rattle.handover_save.specs.Put.{laidAt, Put, headOf, stateRecords, groupsFile}
+use Rattle.handover_save.proofs.Laid.{laid-none, laid-on, put-put, put-long}
+
+-- ---- one cookie
+
+pub cookie-long : (x : Slot) → WholeSlot x → length (cookieBytes (seen x)) ≡ 2 + stored (x .len)
+unfolding cookieBytes seen
+cookie-long x w = let e = length-take-le (stored (x .len)) (x .bytes) (omega (arith, w .sized, stored-bounds (x .len))) in omega (arith, e)
+
+-- its length and its stored bytes, one behind the other
+pub cookie-put : {out p q : List ℕ} {at r s n : ℕ} {h b : List ℕ} (x : Slot) → h ≡ toBe 2 (x .len) → b ≡ take n (x .bytes) → n ≡ stored (x .len) →
+    Put out at h r p → Put p r b s q → at + 2 ≤ length out → Put out at (cookieBytes (seen x)) s q
+unfolding cookieBytes seen
+cookie-put {out = out} {p = p} {q = q} {at = at} {r = r} {s = s} x eh eb en a b k =
+    let first : Put out at (toBe 2 (x .len)) r p = subst (λ (w : List ℕ). Put out at w r p) eh a in
+    let then : Put p r (take (stored (x .len)) (x .bytes)) s q = subst (λ (w : List ℕ). Put p r w s q) (eb ∙ ap (λ (j : ℕ). take j (x .bytes)) en) b in
+    put-put (toBe 2 (x .len)) (take (stored (x .len)) (x .bytes)) first then k
+
+-- ---- a record: its head, and its body
+
+pub record-put : {out p q : List ℕ} {at r s : ℕ} {h : List ℕ} (m n : ℕ) (body : List ℕ) → h ≡ headOf m n → n ≡ length body → Put out at h r p → Put p r body s q → at + 4 ≤ length out →
+    Put out at (recordOf m body) s q
+unfolding recordOf
+record-put {out = out} {p = p} {q = q} {at = at} {r = r} {s = s} m n body eh en a b k =
+    let first : Put out at (headOf m n) r p = subst (λ (w : List ℕ). Put out at w r p) eh a in
+    subst (λ (w : List ℕ). Put out at w s q)
+    (append-assoc (toBe 2 m) (toBe 2 n) body ∙ ap (λ (j : ℕ). toBe 2 m ++ (toBe 2 j ++ body)) en)
+    (put-put (headOf m n) body first b k)
+
+-- ---- the cookies that are still to come
+
+-- the bytes of the n cookies from a place on
+abbrev pub ahead : CookieStash → ℕ → ℕ → List ℕ
+ahead s place n = cookiesBytes (map seen (walk 8 (s .slots) place n))
+
+ahead-all : (s : CookieStash) → ahead s (s .read) (s .held) ≡ cookiesBytes (cookies 8 s)
+unfolding cookies queue
+ahead-all s = refl
+
+ahead-next : (s : CookieStash) (place n : ℕ) → 0 < n → ahead s place n ≡ cookieBytes (seen (slotAt (s .slots) place)) ++ ahead s (wrap 8 (place + 1)) (n - 1)
+ahead-next s place zero h = absurd (omega arith)
+ahead-next s place (suc n) h =
+    let e : n ≡ suc n - 1 = omega arith in
+    ap (λ (k : ℕ). cookieBytes (seen (slotAt (s .slots) place)) ++ ahead s (wrap 8 (place + 1)) k) e
+
+ahead-none : (s : CookieStash) (place n : ℕ) → n ≡ 0 → ahead s place n ≡ []
+ahead-none s place n e = ap (ahead s place) e
+
+-- ---- the loop that writes them
+
+pub record Writing (out₀ : List ℕ) (at : ℕ) (s : CookieStash) (out : List ℕ) (to place n : ℕ) : Type 0 where
+  pub long : length out ≡ length out₀
+  pub places : place < 8
+  pub ends : to + length (ahead s place n) ≡ at + length (cookiesBytes (cookies 8 s))
+  pub same : laidAt out to (ahead s place n) ≡ laidAt out₀ at (cookiesBytes (cookies 8 s))
+
+pub begins : (out : List ℕ) (at : ℕ) (s : CookieStash) → s .read < 8 → Writing out at s out at (s .read) (s .held)
+begins out at s h = record { long = refl; places = h; ends = ap (λ (l : List ℕ). at + length l) (ahead-all s); same = ap (laidAt out at) (ahead-all s) }
+
+module _ (out₀ : List ℕ) (at : ℕ) (s : CookieStash) (room : at + length (cookiesBytes (cookies 8 s)) ≤ length out₀) (out : List ℕ) (to place n : ℕ) (w : Writing out₀ at s out to place n) where
+  module _ (h : 0 < n) where
+    next-long : length (ahead s place n) ≡ length (cookieBytes (seen (slotAt (s .slots) place))) + length (ahead s (wrap 8 (place + 1)) (n - 1))
+    next-long = ap length (ahead-next s place n h) ∙ length-append (cookieBytes (seen (slotAt (s .slots) place))) (ahead s (wrap 8 (place + 1)) (n - 1))
+
+    pub fits-next : to + length (cookieBytes (seen (slotAt (s .slots) place))) ≤ length out
+    fits-next = omega (arith, next-long, w .ends, w .long)
+
+    writes : (r : ℕ) (p : List ℕ) → Put out to (cookieBytes (seen (slotAt (s .slots) place))) r p → Writing out₀ at s p r (wrap 8 (place + 1)) (n - 1)
+    writes r p a =
+        let c = cookieBytes (seen (slotAt (s .slots) place)) in
+        let rest = ahead s (wrap 8 (place + 1)) (n - 1) in
+        record {
+          long = put-long c a fits-next ∙ w .long;
+          places = next-lt 8 place (w .places);
+          ends = omega (arith, next-long, w .ends, a .ends);
+          same = (λ i. laidAt (a .leaves i) (a .ends i) rest) ∙ laid-on out to c fits-next rest ∙ sym (ap (laidAt out to) (ahead-next s place n h)) ∙ w .same;
+        }
+
+    pub writes-next : (r j : ℕ) (p : List ℕ) → Put out to (cookieBytes (seen (slotAt (s .slots) place))) r p → j ≡ wrap 8 (place + 1) → Writing out₀ at s p r j (n - 1)
+    writes-next r j p a e = subst (λ (k : ℕ). Writing out₀ at s p r k (n - 1)) (sym e) (writes r p a)
+
+  pub written : n ≡ 0 → Put out₀ at (cookiesBytes (cookies 8 s)) to out
+  written z =
+      let e = ahead-none s place n z in
+      record { ends = omega (arith, w .ends, ap length e); leaves = sym (laid-none out to) ∙ sym (ap (laidAt out to) e) ∙ w .same }
+
+-- ---- the loop that adds up their lengths
+
+pub record Summing (s : CookieStash) (sum place n : ℕ) : Type 0 where
+  pub places : place < 8
+  pub few : n ≤ 8
+  pub small : sum ≤ 1 + 726 * (8 - n)
+  pub total : sum + length (ahead s place n) ≡ length (stashBytes s)
+
+pub sum-begins : (s : CookieStash) → Whole 8 s → Summing s 1 (s .read) (s .held)
+unfolding stashBytes
+sum-begins s w = record { places = w .reads; few = w .counts; small = omega arith; total = omega (arith, ap length (ahead-all s)) }
+
+module _ (s : CookieStash) (v : Whole 8 s) (sum place n : ℕ) (w : Summing s sum place n) where
+  slot-whole : WholeSlot (slotAt (s .slots) place)
+  slot-whole = v .each place (omega (arith, w .places, v .room))
+
+  sums : 0 < n → Summing s (sum + 2 + stored (slotAt (s .slots) place .len)) (wrap 8 (place + 1)) (n - 1)
+  sums h =
+      let x = slotAt (s .slots) place in
+      let l : length (ahead s place n) ≡ length (cookieBytes (seen x)) + length (ahead s (wrap 8 (place + 1)) (n - 1))
+      = ap length (ahead-next s place n h) ∙ length-append (cookieBytes (seen x)) (ahead s (wrap 8 (place + 1)) (n - 1)) in
+      let b = stored-bounds (x .len) in
+      record {
+        places = next-lt 8 place (w .places);
+        few = omega (arith, w .few);
+        small = omega (arith, w .small, w .few);
+        total = omega (arith, w .total, cookie-long x slot-whole);
+      }
+
+  pub sum-next : 0 < n → (k j : ℕ) → k ≡ stored (slotAt (s .slots) place .len) → j ≡ wrap 8 (place + 1) → Summing s (sum + 2 + k) j (n - 1)
+  sum-next h k j ek ej =
+      subst (λ (i : ℕ). Summing s (sum + 2 + i) j (n - 1)) (sym ek) (subst (λ (i : ℕ). Summing s (sum + 2 + stored (slotAt (s .slots) place .len)) i (n - 1)) (sym ej) (sums h))
+
+  pub summed : n ≡ 0 → sum ≡ length (stashBytes s)
+  summed z = omega (arith, w .total, ap length (ahead-none s place n z))
+
+-- ---- the records, one behind the other
+
+pub record-long : (m : ℕ) (b : List ℕ) → length (recordOf m b) ≡ 4 + length b
+unfolding recordOf
+record-long m b = simp length-append (omega arith)
+
+pub stash-long : (s : CookieStash) → length (stashBytes s) ≡ 1 + length (cookiesBytes (cookies 8 s))
+unfolding stashBytes
+stash-long s = omega arith
+
+-- the stash's: its head, the reading place, the cookies
+pub stash-put : {out p q z : List ℕ} {at r t u n : ℕ} {h b : List ℕ} (s : CookieStash) → h ≡ headOf 0x5354 n → n ≡ length (stashBytes s) → b ≡ s .read ∷ [] →
+    Put out at h r p → Put p r b t q → Put q t (cookiesBytes (cookies 8 s)) u z → at + 5 ≤ length out → Put out at (recordOf 0x5354 (stashBytes s)) u z
+unfolding recordOf stashBytes
+stash-put {out = out} {p = p} {q = q} {z = z} {at = at} {r = r} {t = t} {u = u} {n = n} s eh en eb a b c k =
+    let first : Put out at (headOf 0x5354 n) r p = subst (λ (w : List ℕ). Put out at w r p) eh a in
+    let place : Put p r (s .read ∷ []) t q = subst (λ (w : List ℕ). Put p r w t q) eb b in
+    let both : Put out at (headOf 0x5354 n ++ (s .read ∷ [])) t q = put-put (headOf 0x5354 n) (s .read ∷ []) first place (omega arith) in
+    let all : Put out at ((headOf 0x5354 n ++ (s .read ∷ [])) ++ cookiesBytes (cookies 8 s)) u z = put-put (headOf 0x5354 n ++ (s .read ∷ [])) (cookiesBytes (cookies 8 s)) both c (omega arith) in
+    subst (λ (j : ℕ). Put out at (toBe 2 0x5354 ++ (toBe 2 j ++ (s .read ∷ cookiesBytes (cookies 8 s)))) u z) en all
+
+module _ (state : State) {e v p s : List ℕ} (ee : e ≡ effortBytes (state .effort)) (ev : v ≡ versionBytes (state .version)) (ep : p ≡ pollsBytes (state .polls)) (es : s ≡ sourceBytes (state .source)) where
+  records-are : recordOf 0x5245 e ++ (recordOf 0x5645 v ++ (recordOf 0x504F p ++ recordOf 0x534F s)) ≡ stateRecords state
+  unfolding stateRecords
+  records-are = λ i. recordOf 0x5245 (ee i) ++ (recordOf 0x5645 (ev i) ++ (recordOf 0x504F (ep i) ++ recordOf 0x534F (es i)))
+
+  pub state-put : {o o₁ o₂ o₃ o₄ : List ℕ} {at r₁ r₂ r₃ r₄ : ℕ} → Put o at (recordOf 0x5245 e) r₁ o₁ → Put o₁ r₁ (recordOf 0x5645 v) r₂ o₂ → Put o₂ r₂ (recordOf 0x504F p) r₃ o₃ → Put o₃ r₃ (recordOf 0x534F s) r₄ o₄ →
+      at + 28 ≤ length o → Put o at (stateRecords state) r₄ o₄
+  state-put {o = o} {o₁ = o₁} {o₂ = o₂} {o₃ = o₃} {o₄ = o₄} {at = at} {r₁ = r₁} {r₂ = r₂} {r₃ = r₃} {r₄ = r₄} a b c d k =
+      let n₁ : length e ≡ 2 = ap length ee ∙ effort-long (state .effort) in
+      let n₂ : length v ≡ 2 = ap length ev ∙ version-long (state .version) in
+      let n₃ : length p ≡ 2 = ap length ep ∙ polls-long (state .polls) in
+      let l₁ : length (recordOf 0x5245 e) ≡ 6 = record-long 0x5245 e ∙ ap (λ (j : ℕ). 4 + j) n₁ in
+      let l₂ : length (recordOf 0x5645 v) ≡ 6 = record-long 0x5645 v ∙ ap (λ (j : ℕ). 4 + j) n₂ in
+      let l₃ : length (recordOf 0x504F p) ≡ 6 = record-long 0x504F p ∙ ap (λ (j : ℕ). 4 + j) n₃ in
+      let k₁ : at + length (recordOf 0x5245 e) ≤ length o = omega arith in
+      let m₁ : length o₁ ≡ length o = put-long (recordOf 0x5245 e) a k₁ in
+      let k₂ : r₁ + length (recordOf 0x5645 v) ≤ length o₁ = omega (arith, a .ends) in
+      let m₂ : length o₂ ≡ length o₁ = put-long (recordOf 0x5645 v) b k₂ in
+      let k₃ : r₂ + length (recordOf 0x504F p) ≤ length o₂ = omega (arith, a .ends, b .ends) in
+      subst (λ (w : List ℕ). Put o at w r₄ o₄) records-are
+      (put-put (recordOf 0x5245 e) (recordOf 0x5645 v ++ (recordOf 0x504F p ++ recordOf 0x534F s)) a
+      (put-put (recordOf 0x5645 v) (recordOf 0x504F p ++ recordOf 0x534F s) b (put-put (recordOf 0x504F p) (recordOf 0x534F s) c d k₃) k₂) k₁)
+
+-- all of them
+pub file-put : (settings : Settings) (s : CookieStash) (state : State) {f : List ℕ} → f ≡ settingsBytes settings → {o o₁ o₂ o₃ : List ℕ} {r₁ r₂ r₃ : ℕ} →
+    Put o 0 (recordOf 0x5345 f) r₁ o₁ → Put o₁ r₁ (recordOf 0x5354 (stashBytes s)) r₂ o₂ → Put o₂ r₂ (stateRecords state) r₃ o₃ → 62 + length (stashBytes s) ≤ length o →
+    Put o 0 (groupsFile settings s state) r₃ o₃
+unfolding groupsFile
+file-put settings s state {f = f} e {o = o} {o₁ = o₁} {o₃ = o₃} {r₁ = r₁} {r₃ = r₃} a b c k =
+    let n : length f ≡ 26 = ap length e ∙ settings-long settings in
+    let l₁ : length (recordOf 0x5345 f) ≡ 30 = record-long 0x5345 f ∙ ap (λ (j : ℕ). 4 + j) n in
+    let l₂ = record-long 0x5354 (stashBytes s) in
+    let k₁ : 0 + length (recordOf 0x5345 f) ≤ length o = omega arith in
+    let m₁ : length o₁ ≡ length o = put-long (recordOf 0x5345 f) a k₁ in
+    let k₂ : r₁ + length (recordOf 0x5354 (stashBytes s)) ≤ length o₁ = omega (arith, a .ends) in
+    subst (λ (w : List ℕ). Put o 0 (recordOf 0x5345 w ++ (recordOf 0x5354 (stashBytes s) ++ stateRecords state)) r₃ o₃) e
+    (put-put (recordOf 0x5345 f) (recordOf 0x5354 (stashBytes s) ++ stateRecords state) a (put-put (recordOf 0x5354 (stashBytes s)) (stateRecords state) b c k₂) k₁)

@@ -1,0 +1,203 @@
+// The writer of the hand-over file: at power-down the association goes into a file, and its cookies with it.
+// Promises: the file byte by byte, and nothing past it; after a refusal nothing is written; the association handed back has no cookie, and all else as before.
+// Rule: RULES, No. 6; the file is defined in `handover_file`, how bytes are put into the buffer in specs/Put.antt.
+use association::Association;
+use association::Settings;
+use association::State;
+use cookiestash::CookieStash;
+use cookiestash::MAX_COOKIES;
+use cookiestash::Slot;
+use handover_file::SaveAnswer;
+use handover_file::SaveOut;
+ghost use mathlib.Core.Path.{_≡_};
+ghost use mathlib.Core.List.{_++_};
+ghost use Prim.Native.Nat.{_+_, _≤_, _<_};
+ghost use lib.ListN.{length};
+ghost use Rattle.words.specs.Bytes.{toBe};
+ghost use Rattle.cookiestash.specs.Whole.{WholeSlot, Whole};
+ghost use Rattle.cookiestash.specs.Queue.{seen, cookies};
+ghost use Rattle.handover_file.specs.Sections.{recordOf};
+ghost use Rattle.handover_file.specs.Cookies.{cookieBytes, cookiesBytes, stashBytes, emptyAt};
+ghost use Rattle.handover_file.specs.Answers.{saved, handed, handedOf};
+ghost use Rattle.handover_save.specs.Put.{Put, headOf, stateRecords, groupsFile};
+
+// The marks of the records: S E, S T, R E, V E, P O, S O.
+const SETTINGS_MARK: u16 = 0x5345;
+
+const STASH_MARK: u16 = 0x5354;
+
+const EFFORT_MARK: u16 = 0x5245;
+
+const VERSION_MARK: u16 = 0x5645;
+
+const POLLS_MARK: u16 = 0x504F;
+
+const SOURCE_MARK: u16 = 0x534F;
+
+// How many bytes a file has besides the stash's body.
+const BESIDES: usize = 62;
+
+// Copies bytes to an offset of the buffer, and gives the offset behind them.
+fn put(out: &mut [u8], at: usize, piece: &[u8]) -> usize
+    requires { ⌜ at + length (now piece) ≤ length (now out) ⌝ }
+    ensures { λ r. ⌜ Put (now (out .entry)) at (now (piece .entry)) r (now (out .exit)) ⌝ }
+{
+    let n = piece.len();
+    bytes::copy(piece, &mut out[at..]);
+    at + n
+}
+
+// The head of a record: its mark, and the length of its body.
+fn head(mark: u16, len: u16) -> [u8; 4]
+    ensures { λ r. ⌜ r ≡ headOf mark len ⌝ }
+{
+    let m = words::be16_bytes(mark);
+    let n = words::be16_bytes(len);
+    [m[0], m[1], n[0], n[1]]
+}
+
+// A record of a fixed length.
+fn put_record(out: &mut [u8], at: usize, mark: u16, body: &[u8]) -> usize
+    requires { ⌜ (length (now body) ≤ 65535) × (at + (4 + length (now body)) ≤ length (now out)) ⌝ }
+    ensures { λ r. ⌜ (r ≡ at + (4 + length (now (body .entry)))) × (Put (now (out .entry)) at (recordOf mark (now (body .entry))) r (now (out .exit))) ⌝ }
+{
+    let h = head(mark, body.len() as u16);
+    let to = put(out, at, &h);
+    put(out, to, body)
+}
+
+// A cookie's length, and its stored bytes: none where the length is more than a slot has.
+fn put_cookie(out: &mut [u8], at: usize, slot: Slot) -> usize
+    requires { ⌜ (WholeSlot slot) × (at + length (cookieBytes (seen slot)) ≤ length (now out)) ⌝ }
+    ensures { λ r. ⌜ Put (now (out .entry)) at (cookieBytes (seen slot)) r (now (out .exit)) ⌝ }
+{
+    let h = words::be16_bytes(slot.len);
+    let to = put(out, at, &h);
+    let bytes = slot.bytes;
+    let n = cookiestash::stored_bytes(slot.len as usize);
+    put(out, to, &bytes[0..n])
+}
+
+// The cookies, oldest first.
+fn put_cookies(out: &mut [u8], at: usize, s: CookieStash) -> usize
+    requires { ⌜ (Whole 8 s) × (at + length (cookiesBytes (cookies 8 s)) ≤ length (now out)) ⌝ }
+    ensures { λ r. ⌜ Put (now (out .entry)) at (cookiesBytes (cookies 8 s)) r (now (out .exit)) ⌝ }
+{
+    let mut to = at;
+    let mut place = s.read;
+    let mut n = s.held;
+    while 0 < n {
+        let slot = s.slots[place];
+        to = put_cookie(out, to, slot);
+        place = cookiestash::wrapped(MAX_COOKIES, place + 1);
+        n = n - 1;
+    }
+    to
+}
+
+// How long the stash's body is: the reading place, and two bytes and the stored ones for each cookie.
+fn stash_length(s: CookieStash) -> usize
+    requires { ⌜ Whole 8 s ⌝ }
+    ensures { λ r. ⌜ r ≡ length (stashBytes s) ⌝ }
+{
+    let mut sum: usize = 1;
+    let mut place = s.read;
+    let mut n = s.held;
+    while 0 < n {
+        let slot = s.slots[place];
+        sum = sum + 2 + cookiestash::stored_bytes(slot.len as usize);
+        place = cookiestash::wrapped(MAX_COOKIES, place + 1);
+        n = n - 1;
+    }
+    sum
+}
+
+// The stash's record: the reading place, then the cookies.
+fn put_stash(out: &mut [u8], at: usize, s: CookieStash, len: usize) -> usize
+    requires { ⌜ (Whole 8 s) × (len ≡ length (stashBytes s)) × (len ≤ 65535) × (at + (4 + len) ≤ length (now out)) ⌝ }
+    ensures { λ r. ⌜ (r ≡ at + (4 + len)) × (Put (now (out .entry)) at (recordOf 0x5354 (stashBytes s)) r (now (out .exit))) ⌝ }
+{
+    let h = head(STASH_MARK, len as u16);
+    let to = put(out, at, &h);
+    let read = [s.read as u8];
+    let to = put(out, to, &read);
+    put_cookies(out, to, s)
+}
+
+// The records of the state; the pending request is not written.
+fn put_state(out: &mut [u8], at: usize, state: State) -> usize
+    requires { ⌜ at + 28 ≤ length (now out) ⌝ }
+    ensures { λ r. ⌜ Put (now (out .entry)) at (stateRecords state) r (now (out .exit)) ⌝ }
+{
+    let effort = handover_groups::effort_bytes(state.effort);
+    let version = handover_groups::version_bytes(state.version);
+    let polls = handover_groups::polls_bytes(state.polls);
+    let source = handover_groups::source_bytes(state.source);
+    let to = put_record(out, at, EFFORT_MARK, &effort);
+    let to = put_record(out, to, VERSION_MARK, &version);
+    let to = put_record(out, to, POLLS_MARK, &polls);
+    put_record(out, to, SOURCE_MARK, &source)
+}
+
+// The whole file, from the start of the buffer.
+fn put_file(out: &mut [u8], settings: Settings, s: CookieStash, state: State, len: usize) -> usize
+    requires { ⌜ (Whole 8 s) × (len ≡ length (stashBytes s)) × (len ≤ 65535) × (62 + len ≤ length (now out)) ⌝ }
+    ensures { λ r. ⌜ Put (now (out .entry)) 0 (groupsFile settings s state) r (now (out .exit)) ⌝ }
+{
+    let first = handover_groups::settings_bytes(settings);
+    let to = put_record(out, 0, SETTINGS_MARK, &first);
+    let to = put_stash(out, to, s, len);
+    put_state(out, to, state)
+}
+
+// A stash with no cookie, at a reading place.
+fn emptied(read: usize) -> CookieStash
+    ensures { λ r. ⌜ r ≡ emptyAt read ⌝ }
+{
+    let mut s = CookieStash::new();
+    s.read = read;
+    s
+}
+
+// Writes the file of an association of one's own, and hands the association back without its cookies: a cookie has one owner.
+pub fn save_owned(a: Association, buffer: &mut [u8]) -> SaveOut
+    ensures { λ r. ⌜ handed r (now (buffer .exit)) ≡ handedOf a (now (buffer .entry)) ⌝ }
+{
+    if !a.whole() {
+        return SaveOut {
+            answer: SaveAnswer::NotWhole,
+            association: a,
+        };
+    }
+    let settings = a.settings;
+    let stash = a.stash;
+    let state = a.state;
+    let n = stash_length(stash);
+    let len = BESIDES + n;
+    if buffer.len() < len {
+        return SaveOut {
+            answer: SaveAnswer::ShortBuffer,
+            association: a,
+        };
+    }
+    put_file(buffer, settings, stash, state, n);
+    let empty = emptied(stash.read);
+    SaveOut {
+        answer: SaveAnswer::Saved(len),
+        association: Association {
+            settings,
+            stash: empty,
+            state,
+        },
+    }
+}
+
+// Writes the file of the association that the caller lends, which is left without its cookies.
+pub fn save(a: &mut Association, buffer: &mut [u8]) -> SaveAnswer
+    ensures { λ r. ⌜ handed (saved r (now (a .exit))) (now (buffer .exit)) ≡ handedOf (now (a .entry)) (now (buffer .entry)) ⌝ }
+{
+    let old = *a;
+    let out = save_owned(old, buffer);
+    *a = out.association;
+    out.answer
+}
