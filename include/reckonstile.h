@@ -10,6 +10,9 @@
      reckonstile_reply          for each datagram that comes back (V5: reckonstile_reply_decoded); on 0 there is a measurement
      reckonstile_collect        with NTS, before reckonstile_reply: the new cookies of a reply, as the list that reckonstile_reply takes
      reckonstile_accept         whether the source may be used
+   Where a box is swapped for another (docs/HANDOVER.md):
+     reckonstile_save           the association as a file, at power-down
+     reckonstile_load           once, instead of reckonstile_new: the association of such a file
    Beside it, with no record at all:
      reckonstile_salvage        a damaged cookie list made clean
      reckonstile_check_calendar whether a calendar of polls keeps to a modem's cap
@@ -40,6 +43,8 @@ extern "C" {
 #define RECKONSTILE_COOKIE_BYTES 724
 /* A buffer of this size holds any request that a timer's 20 asks for. */
 #define RECKONSTILE_REQUEST_BYTES 852
+/* A buffer of this size holds the hand-over file of any association. */
+#define RECKONSTILE_FILE_BYTES 5871
 /* How many gaps of a damaged cookie list have their places told. */
 #define RECKONSTILE_PLACES 32
 /* The most entries of a calendar, and the minutes of its day. */
@@ -48,7 +53,7 @@ extern "C" {
 
 /* ---- numbers: what a call answers */
 
-#define RECKONSTILE_OK 0            /* new, metered: made. profile: met. reply: measured. accept, check_calendar: accepted. collect, write_request, salvage, plan_calendar: written */
+#define RECKONSTILE_OK 0            /* new, metered: made. profile: met. reply: measured. accept, check_calendar: accepted. collect, write_request, salvage, plan_calendar, save: written. load: loaded */
 #define RECKONSTILE_UNDECODABLE 1   /* reply: not a reply. collect: broken fields */
 #define RECKONSTILE_VERSION 2       /* reply: of a version that is not expected */
 #define RECKONSTILE_NO_MATCH 4      /* reply: it answers another request */
@@ -69,7 +74,7 @@ extern "C" {
 #define RECKONSTILE_COOKIE_SIZE 24  /* timer: the cookie is too large to send. As 23 */
 #define RECKONSTILE_SETTINGS 30     /* new, metered: a setting is outside its range, or a code of no kind */
 #define RECKONSTILE_SHORT_BUFFER 31 /* timer: with NTS, a buffer under 724 bytes. collect, plan_calendar: what would be written is longer than the buffer */
-#define RECKONSTILE_NOT_WHOLE 32    /* timer, reply, accept: the record is none that a call has made. Nothing is changed */
+#define RECKONSTILE_NOT_WHOLE 32    /* timer, reply, accept, save: the record is none that a call has made. Nothing is changed */
 #define RECKONSTILE_BROKEN_LIST 33  /* new, metered, reply, with NTS: the cookie list is broken */
 #define RECKONSTILE_LOW_POLL_MIN 34 /* metered: the lower poll limit is below 8 */
 #define RECKONSTILE_HIGH_STARTUP 35 /* metered: the startup limit is over 3 */
@@ -81,6 +86,10 @@ extern "C" {
 #define RECKONSTILE_NOT_WRITTEN 50  /* write_request: V5, or a kind of no kind */
 #define RECKONSTILE_SHORT_OUT 51    /* write_request: the buffer is too short */
 #define RECKONSTILE_ASK 52          /* write_request: with NTS, a cookie over 724 bytes, or not 1 to 8 new ones asked for */
+#define RECKONSTILE_SHORT_FILE 60   /* save: the buffer is shorter than the file */
+#define RECKONSTILE_FILE_MARK 61    /* load: a record of the file does not have the mark that is due */
+#define RECKONSTILE_FILE_LENGTH 62  /* load: a wrong length, or bytes that are missing or left over */
+#define RECKONSTILE_FILE_CONTENT 63 /* load: a code of no kind, or an association that is not whole */
 #define RECKONSTILE_SALVAGE_ROOM 70 /* salvage: the buffer is shorter than the damaged list */
 #define RECKONSTILE_TOO_MANY 80     /* check_calendar, plan_calendar: more than 64 entries */
 #define RECKONSTILE_BAD_REPEAT 81   /* check_calendar, plan_calendar: a repeat is 0 or does not divide 1440 */
@@ -214,7 +223,7 @@ struct reckonstile_decoded {
 };
 
 struct reckonstile_written {
-    uint32_t number;  /* collect: 0, 1, 31; write_request: 0, 50, 51, 52. Where it is not 0 the buffer is as it was and all below is zero */
+    uint32_t number;  /* collect: 0, 1, 31; write_request: 0, 50, 51, 52; save: 0, 32, 60. Where it is not 0 the buffer is as it was and all below is zero */
     uint32_t written; /* 1 where the number is 0 */
     size_t length;    /* how many bytes are written from the buffer's start on */
 };
@@ -317,6 +326,15 @@ struct reckonstile_written reckonstile_collect(const uint8_t *decrypted, size_t 
    0 written; 50 V5, or a kind of no kind; 52 a cookie or a count that no request has; 51 the buffer is too short. */
 struct reckonstile_written reckonstile_write_request(uint8_t kind, int8_t poll, uint64_t id, uint64_t upgrademark, struct reckonstile_uid uid,
                                                      const uint8_t *cookie, size_t cookie_len, uint8_t asked, uint8_t *out, size_t room);
+
+/* The association as a hand-over file, at power-down (docs/HANDOVER.md). The cookies are the file's then: the record comes back with its stash empty and the
+   reading place kept, and all else as it was. The file holds the cookies, and not the NTS keys.
+   In this order: 32 the record is not whole; 60 the buffer is shorter than the file; 0 written. After 32 and 60 record and buffer are as they were. */
+struct reckonstile_written reckonstile_save(struct reckonstile_association *a, uint8_t *out, size_t room);
+
+/* The record, whatever it was, becomes the association of a hand-over file, with nothing sent yet. Load a file once: a cookie has one owner.
+   0 loaded; 61 a mark, 62 a length, whichever is first in the file; then 63 what it says is no association. On these three the record is blank. */
+uint32_t reckonstile_load(struct reckonstile_association *a, const uint8_t *file, size_t file_len);
 
 /* A damaged cookie list, of which cheap flash has lost bytes, made clean: what is left of it is written to the buffer, as a list for reckonstile_new. Each
    place is tried in turn. Where a mark (C0 0E), a length of two bytes and that many bytes fit, and the end or another mark follows, the record is kept and

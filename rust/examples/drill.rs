@@ -319,6 +319,35 @@ impl Drill {
         }
     }
 
+    fn save(&mut self, p: &Pairs) -> String {
+        let before = *self.a.record();
+        let mut out = vec![FILL; number(p.or("room", "8192"))];
+        match self.a.save(&mut out) {
+            Ok(n) => {
+                // Only the stash changes: it is empty, at the same reading place.
+                let mut emptied = before;
+                emptied.stash = Record::BLANK.stash;
+                emptied.stash.read = before.stash.read;
+                let same = filled(&out[n..]) && emptied == *self.a.record();
+                format!("save 0 len={n} file={}{}", hex(&out[..n]), kept(same))
+            }
+            Err(refused) => format!("save {}{}", refused.number(), kept(filled(&out) && before == *self.a.record())),
+        }
+    }
+
+    fn load(&mut self, p: &Pairs) -> String {
+        match Association::load(&p.bytes("file")) {
+            Ok(a) => {
+                self.a = a;
+                "load 0".into()
+            }
+            Err(refused) => {
+                self.a = Association::from_record(Record::BLANK);
+                format!("load {}", refused.number())
+            }
+        }
+    }
+
     fn salvage(p: &Pairs) -> String {
         let mut out = vec![FILL; number(p.or("room", "4096"))];
         let said = match salvage(&p.bytes("list"), &mut out) {
@@ -472,6 +501,8 @@ impl Drill {
             "accept" => self.accept(&p),
             "collect" => Drill::collect(&p),
             "request" => Drill::request(&p),
+            "save" => self.save(&p),
+            "load" => self.load(&p),
             "salvage" => Drill::salvage(&p),
             "calendar" => Drill::calendar(&p),
             "plan" => Drill::plan(&p),

@@ -172,6 +172,35 @@ numbered! {
 }
 
 numbered! {
+    /// Why no hand-over file is written; association and buffer stay as they were.
+    ///
+    /// ```
+    /// use reckonstile::{Association, SaveRefused, Settings};
+    /// let mut a = Association::new(&Settings::default(), &[]).unwrap();
+    /// assert_eq!(a.save(&mut [0; 62]), Err(SaveRefused::ShortBuffer));
+    /// ```
+    SaveRefused {
+        NotWhole = 32, "the record is none that a call has made";
+        ShortBuffer = 60, "the buffer is shorter than the file";
+    }
+}
+
+numbered! {
+    /// Why a hand-over file is not loaded: the first fault in the file, or else that it is no association.
+    ///
+    /// ```
+    /// use reckonstile::{Association, LoadRefused};
+    /// assert_eq!(Association::load(b"").unwrap_err(), LoadRefused::Length);
+    /// assert_eq!(Association::load(b"no file").unwrap_err(), LoadRefused::Mark);
+    /// ```
+    LoadRefused {
+        Mark = 61, "a record of the file does not have the mark that is due";
+        Length = 62, "a wrong length, or bytes that are missing or left over";
+        Content = 63, "a code of no kind, or an association that is not whole";
+    }
+}
+
+numbered! {
     /// Why a cookie list is not salvaged; nothing is written.
     ///
     /// ```
@@ -473,8 +502,8 @@ impl Measurement {
 #[cfg(feature = "std")]
 mod errors {
     use super::{
-        AcceptRefused, CheckRefused, CollectRefused, MeteredRefused, NewRefused, PlanRefused, ReplyRefused, RequestRefused,
-        SalvageRefused, TimerRefused,
+        AcceptRefused, CheckRefused, CollectRefused, LoadRefused, MeteredRefused, NewRefused, PlanRefused, ReplyRefused,
+        RequestRefused, SalvageRefused, SaveRefused, TimerRefused,
     };
     impl std::error::Error for MeteredRefused {}
     impl std::error::Error for NewRefused {}
@@ -483,6 +512,8 @@ mod errors {
     impl std::error::Error for AcceptRefused {}
     impl std::error::Error for CollectRefused {}
     impl std::error::Error for RequestRefused {}
+    impl std::error::Error for SaveRefused {}
+    impl std::error::Error for LoadRefused {}
     impl std::error::Error for SalvageRefused {}
     impl std::error::Error for CheckRefused {}
     impl std::error::Error for PlanRefused {}

@@ -1,7 +1,7 @@
 //! The association and its calls.
 use crate::answers::{
-    AcceptRefused, CollectRefused, Measurement, MeteredRefused, NewRefused, NtpLeapIndicator, Poll, ReplyRefused,
-    RequestRefused, SendKind, TimerRefused,
+    AcceptRefused, CollectRefused, LoadRefused, Measurement, MeteredRefused, NewRefused, NtpLeapIndicator, Poll, ReplyRefused,
+    RequestRefused, SaveRefused, SendKind, TimerRefused,
 };
 use crate::ffi::{self, Record};
 use crate::time::{NtpDuration, NtpInstant, NtpTimestamp, PollInterval, PollIntervalLimits};
@@ -13,6 +13,9 @@ pub const COOKIE_BYTES: usize = 724;
 
 /// A buffer of this size holds any request that the timer asks for; with NTS the caller's authenticator comes behind it.
 pub const REQUEST_BYTES: usize = 852;
+
+/// A buffer of this size holds the hand-over file of any association.
+pub const FILE_BYTES: usize = 5871;
 
 /// An identifier of a source: of an IPv4 address its four bytes, of an IPv6 address the first four bytes of its MD5 digest.
 ///
@@ -495,6 +498,43 @@ impl Association {
         match ffi::accept(&self.record, stratum, local, bloom as u32) {
             0 => Ok(()),
             number => Err(AcceptRefused::from_number(number)),
+        }
+    }
+
+    /// Writes the association to a hand-over file, at power-down, and gives the file's length (docs/HANDOVER.md). Its cookies are the file's then, and this
+    /// association has none; all else of it is as it was. [`FILE_BYTES`] are enough. The NTS keys are not in the file.
+    ///
+    /// # Errors
+    /// [`SaveRefused`]: 32, 60; then nothing is written, and nothing has changed.
+    ///
+    /// ```
+    /// # use reckonstile::*;
+    /// let mut old = Association::new(&Settings { nts: true, ..Settings::default() }, b"\xc0\x0e\0\x03abc").unwrap();
+    /// let before = old.clone();
+    /// let mut file = [0; FILE_BYTES];
+    /// let length = old.save(&mut file).unwrap();
+    /// assert_eq!((length, &file[..2], old.cookies()), (68, &b"SE"[..], 0));
+    /// // The box that is swapped in: the same association, as long as nothing was sent.
+    /// assert_eq!(Association::load(&file[..length]).unwrap(), before);
+    /// ```
+    pub fn save(&mut self, out: &mut [u8]) -> Result<usize, SaveRefused> {
+        let said = ffi::save(&mut self.record, out);
+        match said.number {
+            0 => Ok(said.length),
+            number => Err(SaveRefused::from_number(number)),
+        }
+    }
+
+    /// The association of a hand-over file, with nothing sent yet; call [`Association::timer`] at once. Load a file once, in one box: a cookie has one owner,
+    /// and nothing tells a second time.
+    ///
+    /// # Errors
+    /// [`LoadRefused`]: 61, 62, 63.
+    pub fn load(file: &[u8]) -> Result<Self, LoadRefused> {
+        let mut record = Record::BLANK;
+        match ffi::load(&mut record, file) {
+            0 => Ok(Association { record }),
+            number => Err(LoadRefused::from_number(number)),
         }
     }
 

@@ -89,7 +89,8 @@ pub struct State {
     pub answered: u64,
 }
 
-/// The record of an association as the library reads and writes it: numbers only. For looking at, and for tests; its layout is not a format to store.
+/// The record of an association as the library reads and writes it: numbers only. For looking at, and for tests; its layout is not a format to store:
+/// [`crate::Association::save`] writes one.
 #[repr(C)]
 #[derive(Clone, Copy, Debug, PartialEq, Eq)]
 pub struct Record {
@@ -286,6 +287,8 @@ mod c {
             out: *mut u8,
             room: usize,
         ) -> Written;
+        pub fn reckonstile_save(a: *mut Record, out: *mut u8, room: usize) -> Written;
+        pub fn reckonstile_load(a: *mut Record, file: *const u8, file_len: usize) -> u32;
         pub fn reckonstile_salvage(list: *const u8, list_len: usize, out: *mut u8, room: usize) -> Salvaged;
         pub fn reckonstile_check_calendar(
             cap: u8,
@@ -372,6 +375,16 @@ pub(crate) fn accept(a: &Record, stratum: u8, local: &[ReferenceId], bloom: u32)
 pub(crate) fn collect(decrypted: &[u8], out: &mut [u8]) -> Written {
     // SAFETY: `out` is lent exclusively, so it does not overlap with what is read; no more than its length is written.
     unsafe { c::reckonstile_collect(decrypted.as_ptr(), decrypted.len(), out.as_mut_ptr(), out.len()) }
+}
+
+pub(crate) fn save(a: &mut Record, out: &mut [u8]) -> Written {
+    // SAFETY: `a` and `out` are lent exclusively, so they do not overlap; of the buffer no more than its length is written.
+    unsafe { c::reckonstile_save(a, out.as_mut_ptr(), out.len()) }
+}
+
+pub(crate) fn load(a: &mut Record, file: &[u8]) -> u32 {
+    // SAFETY: `a` is lent exclusively, so the file, which is only read, does not lie in it.
+    unsafe { c::reckonstile_load(a, file.as_ptr(), file.len()) }
 }
 
 #[allow(clippy::too_many_arguments)]

@@ -27,12 +27,12 @@ mod time;
 mod tools;
 
 pub use answers::{
-    AcceptRefused, Action, CheckRefused, CollectRefused, Measurement, MeteredRefused, NewRefused, NtpLeapIndicator,
-    PlanRefused, Poll, ReplyRefused, RequestRefused, SalvageRefused, SendKind, TimerRefused,
+    AcceptRefused, Action, CheckRefused, CollectRefused, LoadRefused, Measurement, MeteredRefused, NewRefused, NtpLeapIndicator,
+    PlanRefused, Poll, ReplyRefused, RequestRefused, SalvageRefused, SaveRefused, SendKind, TimerRefused,
 };
 pub use association::{
     collect, cookie_list, layout, write_request, Association, Bloom, DecodedReply, Kisses, Packet, ProtocolVersion,
-    ReferenceId, Settings, Source, Times, Uid, COOKIE_BYTES, REQUEST_BYTES,
+    ReferenceId, Settings, Source, Times, Uid, COOKIE_BYTES, FILE_BYTES, REQUEST_BYTES,
 };
 pub use ffi::Record;
 pub use time::{NtpDuration, NtpInstant, NtpTimestamp, PollInterval, PollIntervalLimits};

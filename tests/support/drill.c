@@ -7,7 +7,7 @@
 #include <string.h>
 
 #define FILL 0xAA
-#define MOST 8192
+#define MOST 8192 /* bytes of a value, as the drill takes them of a hand-over file */
 
 static struct reckonstile_association a, before;
 
@@ -219,6 +219,31 @@ static void request(void) {
                                       (uint8_t)natural(or_text("asked", "0")), out, natural(or_text("room", "6144"))));
 }
 
+static void save(void) {
+    static uint8_t out[MOST];
+    memset(out, FILL, sizeof out);
+    struct reckonstile_written w = reckonstile_save(&a, out, natural(or_text("room", "8192")));
+    printf("save %" PRIu32, w.number);
+    int right = filled(out + w.length, MOST - w.length) && w.written == (w.number == RECKONSTILE_OK) && (w.written || !w.length);
+    if (w.number == RECKONSTILE_OK) { /* only the stash changes: it is empty, at the same reading place */
+        size_t read = before.stash.read;
+        memset(&before.stash, 0, sizeof before.stash);
+        before.stash.read = read;
+        printf(" len=%zu file=", w.length);
+        hex(out, w.length);
+    }
+    end(right && same());
+}
+
+static void load(void) {
+    static uint8_t file[MOST];
+    size_t n = bytes(text("file"), file);
+    uint32_t number = reckonstile_load(&a, file, n);
+    printf("load %" PRIu32, number);
+    memset(&before, 0, sizeof before);
+    end(number == RECKONSTILE_OK || same());
+}
+
 /* ---- the tools, which have no record */
 
 static void salvage(void) {
@@ -353,7 +378,8 @@ static void blank(void) { puts(reckonstile_blank(&a) == RECKONSTILE_OK ? "blank"
 int main(void) {
     static const struct { const char *word; void (*call)(void); } commands[] = {
         { "new", new_ }, { "metered", metered }, { "profile", profile }, { "timer", timer }, { "reply", reply }, { "reply5", reply5 }, { "accept", accept_ }, { "collect", collect },
-        { "request", request }, { "salvage", salvage }, { "calendar", calendar }, { "plan", plan }, { "show", show }, { "cookies", cookies }, { "poke", poke }, { "blank", blank },
+        { "request", request }, { "save", save }, { "load", load }, { "salvage", salvage }, { "calendar", calendar }, { "plan", plan },
+        { "show", show }, { "cookies", cookies }, { "poke", poke }, { "blank", blank },
     };
     static char line[65536];
     reckonstile_blank(&a);

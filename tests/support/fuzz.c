@@ -297,6 +297,35 @@ int main(int argc, char **argv) {
         expect(reason_right(n, &before.state, time), "reply_decoded: why no request is live", n);
         expect(n == 0 || (n >= 5 && n <= 11) || kept(), "reply_decoded: a refusal changed the record", n);
 
+        /* a file that is written is read as the record, with nothing sent; a byte of it changed, or its end cut, is a number of its own and a record that is whole or blank */
+        static uint8_t file[RECKONSTILE_FILE_BYTES];
+        if (below(4)) lent.a = before;
+        before = lent.a;
+        is_whole = whole(&before);
+        struct reckonstile_written w = reckonstile_save(&lent.a, file, below(4) ? sizeof file : below(100));
+        n = w.number;
+        expect(is_whole ? n == 0 || n == 60 : n == 32, "save", n);
+        expect(w.written == (n == 0) && (n == 0 ? w.length >= 63 : !w.length), "save's answer", n);
+        if (n == 0) {
+            struct reckonstile_association kept_of = before;
+            memset(&kept_of.stash, 0, sizeof kept_of.stash);
+            kept_of.stash.read = before.stash.read;
+            expect(!memcmp(&lent.a, &kept_of, sizeof kept_of), "save: more than the stash changed", n);
+            kept_of.stash = before.stash;
+            kept_of.state.present = 0;
+            kept_of.state.id = kept_of.state.deadline = kept_of.state.answered = 0;
+            memset(kept_of.state.uid, 0, sizeof kept_of.state.uid);
+            n = reckonstile_load(&lent.a, file, w.length);
+            expect(n == 0 && !memcmp(&lent.a, &kept_of, sizeof kept_of), "load of what was saved", n);
+            if (below(2)) file[below(w.length)] = (uint8_t)next();
+            else w.length = below(w.length);
+            n = reckonstile_load(&lent.a, file, w.length);
+            expect(n == 0 || (n >= 61 && n <= 63), "load", n);
+            expect(n == 0 ? whole(&lent.a) && !lent.a.state.present && !lent.a.state.answered : zeros((const uint8_t *)&lent.a, sizeof lent.a), "load's record", n);
+        } else
+            expect(kept(), "save: a refusal changed the record", n);
+        lent.a = before;
+
         salvaged();
         if (!below(16)) scheduled();
 

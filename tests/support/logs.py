@@ -27,7 +27,7 @@ def hexed(b):
 class Logs:
     def __init__(self, seed):
         self.rng, self.model = random.Random(seed), reference()
-        self.record, self.now, self.cookie = self.model.Record(), 0, b''
+        self.record, self.now, self.cookie, self.file = self.model.Record(), 0, b'', b''
 
     def bytes(self, n):
         return self.rng.getrandbits(8 * n).to_bytes(n, 'big') if n else b''
@@ -172,6 +172,18 @@ class Logs:
         }[key]
         return 'poke key=%s value=%s' % (key, value)
 
+    def save(self):
+        length = len(self.model.handover(self.record)) if self.record.whole() else 63
+        return 'save room=%d' % self.rng.choice((8192, 8192, 5871, length, length - 1, 0))
+
+    def load(self):
+        """the last file that was written, with a byte of it changed or its end cut at times"""
+        rng, f = self.rng, self.file
+        if f and rng.random() < 0.4:
+            at = rng.randrange(len(f))
+            f = rng.choice((f[:at] + self.bytes(1) + f[at + 1:], f[:at], f + self.bytes(1), f[:4] + self.bytes(1) + f[5:], b'S' + f[:at]))
+        return 'load file=' + hexed(f)
+
     # ---- a log
 
     def steps(self, count):
@@ -183,13 +195,16 @@ class Logs:
                 line = self.new(rng.choice(('new', 'new', 'metered')))
             else:
                 line = rng.choice((self.timer,) * 5 + (self.reply,) * 9 + (self.reply5,) * (8 if self.record.version[0] in ('upgraded', 'v5') else 1)
-                                  + (self.accept,) * 2 + (self.collect, self.request, self.salvage, self.calendar, self.plan, lambda: self.new('profile')))()
+                                  + (self.accept,) * 2 + (self.collect, self.request, self.salvage, self.calendar, self.plan, lambda: self.new('profile'), self.save)
+                                  + ((self.load,) if self.file else ()))()
                 if rng.random() < 0.02:
                     line = rng.choice((self.poke, self.poke, self.poke, lambda: 'blank'))()
             left -= 1
             self.record, said = self.model.answer(self.record, line)
             if said.startswith('timer 20'):
                 self.cookie = self.model.octets(said.split('cookie=')[1].split(' ')[0])
+            if said.startswith('save 0 '):
+                self.file = bytes.fromhex(said.rsplit('=', 1)[1])
             if not self.record.whole() and rng.random() < 0.3:
                 left = 0  # no call makes such a record whole: begin anew soon
             yield line

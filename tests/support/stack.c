@@ -13,7 +13,8 @@
 static uint8_t painted[STACK] __attribute__((aligned(16)));
 static ucontext_t back, there;
 static struct reckonstile_association a;
-static uint8_t packet[228], decrypted[104], list[8 * 104], buffer[RECKONSTILE_COOKIE_BYTES], out[6144];
+static uint8_t packet[228], decrypted[104], list[8 * 104], buffer[RECKONSTILE_COOKIE_BYTES], out[6144], file[RECKONSTILE_FILE_BYTES];
+static size_t file_len;
 static uint16_t starts[RECKONSTILE_ENTRIES], repeats[RECKONSTILE_ENTRIES];
 static struct reckonstile_uid uid;
 static struct reckonstile_settings settings;
@@ -34,6 +35,13 @@ static void check_calendar(void) { number = reckonstile_check_calendar(64, start
 static void plan_calendar(void) { number = reckonstile_plan_calendar(64, repeats, 64, starts, 64).number; }
 static void request(void) { number = reckonstile_write_request(RECKONSTILE_SEND_NTS_V4, 6, 1, 0, uid, list + 4, 100, 3, out, sizeof out).number; }
 
+static void save(void) {
+    struct reckonstile_written w = reckonstile_save(&a, file, sizeof file);
+    number = w.number;
+    file_len = w.length;
+}
+static void load(void) { number = reckonstile_load(&a, file, file_len); }
+
 static size_t deepest(void (*call)(void)) {
     memset(painted, PAINT, sizeof painted);
     getcontext(&there);
@@ -51,7 +59,7 @@ int main(void) {
     static const struct { const char *name; void (*call)(void); uint32_t number; } calls[] = {
         { "new", new_, 0 }, { "profile", profile, 0 }, { "metered", metered, 0 }, { "timer", timer, 20 }, { "reply", reply, 0 }, { "timer", timer, 20 }, { "reply_decoded", reply_decoded, 2 },
         { "accept", accept_, 0 }, { "collect", collect, 0 }, { "write_request", request, 0 }, { "salvage", salvage, 0 }, { "check_calendar", check_calendar, 0 },
-        { "plan_calendar", plan_calendar, 0 },
+        { "plan_calendar", plan_calendar, 0 }, { "save", save, 0 }, { "load", load, 0 },
     };
     int passed = 0, failed = 0;
     settings.window = 5000;

@@ -187,7 +187,13 @@ def reckonstile_metered():
                 '(r ≡ makeMeteredOf settings (list .now) .number) × (w ≡ makeMeteredOf settings (list .now) .association)', 'ap (λ (s : CMade). s .number) e, ap (λ (s : CMade). s .association) e', USES, [('CSettings', 'Set', 'embed_record')])
 
 
-WALKS = {f.__name__: f for f in (reckonstile_blank, reckonstile_new, reckonstile_metered)}
+def reckonstile_load():
+    return Make('embed', 'reckonstile_load', REC, [('file', Slice('shr', 1))], ('embed_handover', 'load', lambda r: '%s ≡ loadCall (file .now)' % r), 'CLoaded',
+                '(r ≡ loadCall (file .now) .number) × (w ≡ loadCall (file .now) .association)', 'ap (λ (s : CLoaded). s .number) e, ap (λ (s : CLoaded). s .association) e',
+                'use Rattle.embed_handover.specs.Handed.{loadCall}\n')
+
+
+WALKS = {f.__name__: f for f in (reckonstile_blank, reckonstile_new, reckonstile_metered, reckonstile_load)}
 
 if __name__ == '__main__':
     if len(sys.argv) == 1:

@@ -20,7 +20,8 @@ LAST = '‵ (finally u8 (buffer .name) zs)'
 
 
 class Save:
-    """`owned`: the call by value, a crate and a function; `says`: what it ensures of its result r and the buffer's last bytes zs, and what is ensured of the answer r and the record w"""
+    """`owned`: the call by value, a crate and a function; `answer`: a crate, a type, and whether that is an `enum` or a `struct`; `says`: what it ensures of its result r and the buffer's last
+    bytes zs, and what is ensured of the answer r and the record w"""
 
     def __init__(self, crate, fn, record, owned, out, answer, owned_says, says, uses):
         self.crate, self.fn, self.record, self.owned, self.out, self.answer, self.owned_says, self.says, self.uses = crate, fn, record, owned, out, answer, owned_says, says, uses
@@ -104,13 +105,13 @@ module _ (Rec Out Ans : RattleType) (rec : Rec .Denot → Val) (ans : Ans .Denot
     # ---- at the function's own types
     def proof(self):
         home, rec = self.record
-        REC, out, ans = struct(rec, 'Rec'), struct(self.out[1], 'Out'), enum(self.answer[1], 'Ans')
+        REC, out, ans = struct(rec, 'Rec'), struct(self.out[1], 'Out'), self.answer[2](self.answer[1], 'Ans')
         structs = [(rec, 'Rec', home), (self.out[1], 'Out', self.out[0]), (self.answer[1], 'Ans', self.answer[0])]
         core = Callee('core', self.owned[0], self.owned[1], [], lambda: dict(lfts=TOKS, args=[value(REC, 'h', 'h-is'), buffer('buffer', SL)], says=lambda r, ws: self.owned_says(r, '(%s .1 .0)' % ws)), out, ['Unit {0}', 'List ℕ'])
         f = Fn(self.crate, self.fn, 'mut', rec, 'Rec', [('buffer', SL)], ans, self.says, [core],
                'The borrow is opened and the record copied, `%s` is called with the copy and the buffer, and of what it returns the association is stored behind the reference and the answer is the result; the borrow is closed at the new record.' % self.owned[1],
                self.uses, structs)
-        f.enums = [(self.answer[1], 'Ans', self.answer[0])]
+        f.enums = [(self.answer[1], 'Ans', self.answer[0])] if self.answer[2] is enum else []
         of = 'LL.owed Out.the-type Out′.the-laws r vs g'
         f.moredefs = '''-- what whoever holds what the call by value returns knows of its two fields
 answer-is : (r : %s) (vs : List Val) → Is Out.the-row r vs → Is Ans.the-row (r .answer) (Ans-val (r .answer) ∷ [])
@@ -172,12 +173,17 @@ next-is r vs g = %s .1 .0
 
 
 def save():
-    return Save('handover_save', 'save', ('association', 'Association'), ('handover_save', 'save_owned'), ('handover_file', 'SaveOut'), ('handover_file', 'SaveAnswer'),
+    return Save('handover_save', 'save', ('association', 'Association'), ('handover_save', 'save_owned'), ('handover_file', 'SaveOut'), ('handover_file', 'SaveAnswer', enum),
                 lambda r, zs: 'handed %s %s ≡ handedOf h (buffer .now)' % (r, zs), 'handed (saved r w) zs ≡ handedOf h (buffer .now)',
                 'use Rattle.handover_file.specs.Answers.{saved, handed, handedOf}\n')
 
 
-WALKS = {f.__name__: f for f in (save,)}
+def reckonstile_save():
+    return Save('embed', 'reckonstile_save', ('embed_record', 'CAssociation'), ('embed_handover', 'save'), ('embed_handover', 'CSaved'), ('embed_tools', 'CWritten', struct),
+                lambda r, zs: 'gave %s %s ≡ saveCall h (buffer .now)' % (r, zs), 'gave (cSaved r w) zs ≡ saveCall h (buffer .now)', 'use Rattle.embed_handover.specs.Handed.{cSaved, gave, saveCall}\n')
+
+
+WALKS = {f.__name__: f for f in (save, reckonstile_save)}
 
 if __name__ == '__main__':
     if len(sys.argv) == 1:

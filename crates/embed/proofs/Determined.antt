@@ -10,6 +10,7 @@ use borrow.Fn.Read.{all-models, r-last}
 use borrow.Fn.World.{ArgsD, ResD}
 use Rattle.words.specs.Determined.{Determined, DeterminedLent, PostOf}
 use Rattle.embed_record.specs.declared.CAssociation.{CAssociation}
+use Rattle.embed_handover.specs.Handed.{SaveCall}
 use Rattle.embed.specs.Calls.{TimerCall, ReplyCall}
 use Rattle.embed.proofs.reckonstile_size.Reads as size
 use Rattle.embed.proofs.reckonstile_align.Reads as align
@@ -26,6 +27,8 @@ use Rattle.embed.proofs.reckonstile_timer as timer
 use Rattle.embed.proofs.reckonstile_reply as reply
 use Rattle.embed.proofs.reckonstile_reply_decoded as reply-decoded
 use Rattle.embed.proofs.reckonstile_accept as accept
+use Rattle.embed.proofs.reckonstile_save as save
+use Rattle.embed.proofs.reckonstile_load as load
 
 -- ---- what the checker covers
 
@@ -100,3 +103,15 @@ accept-post = PostOf accept.ended (λ w. accept.clauses (w .𝓤) (w .H) (w .�
 
 pub accept-determined : Determined accept-post
 accept-determined κs a y z e f p q = p ∙ sym q
+
+abbrev pub save-post : (κs : Lfts 2) → ArgsD save.signature κs → ResD save.signature κs → AtExit save.ended κs → Type 0
+save-post = PostOf save.ended (λ w. save.clauses (w .𝓤) (w .H) (w .𝓖 .A) (w .𝓜 .mem) (w .𝓡 .run)) (λ w κs a. tt) (λ κs a y e. all-models _ (λ w. r-last _) (λ w. refl) (λ w. refl) (λ w. refl))
+
+pub save-determined : DeterminedLent {S = CAssociation × List ℕ} save-post (λ κs e. (now (e .0), now (e .1 .0)))
+save-determined κs a y z e f p q = let e = p ∙ sym q in (ap (λ (t : SaveCall). t .gives .answer) e, ap (λ (t : SaveCall). (t .gives .association, t .left)) e)
+
+abbrev pub load-post : (κs : Lfts 2) → ArgsD load.signature κs → ResD load.signature κs → AtExit load.ended κs → Type 0
+load-post = PostOf load.ended (λ w. load.clauses (w .𝓤) (w .H) (w .𝓖 .A) (w .𝓜 .mem) (w .𝓡 .run)) (λ w κs a. tt) (λ κs a y e. all-models _ (λ w. r-last _) (λ w. refl) (λ w. refl) (λ w. refl))
+
+pub load-determined : DeterminedLent {S = CAssociation} load-post (λ κs e. now (e .0))
+load-determined κs a y z e f p q = (p .0 ∙ sym (q .0), p .1 ∙ sym (q .1))

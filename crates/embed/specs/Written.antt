@@ -9,14 +9,8 @@ use Rattle.collector.specs.declared.Collected.{Collected}
 use Rattle.collector.specs.declared.Collected.the-variants as C
 use Rattle.request.specs.declared.Requested.{Requested}
 use Rattle.request.specs.declared.Requested.the-variants as R
-use Rattle.embed.specs.declared.CWritten.{CWritten}
-
--- so many bytes are written; or none are, for a reason
-abbrev pub wrote : ℕ → CWritten
-wrote length = record { number = 0; written = 1; length = length }
-
-abbrev pub unwritten : ℕ → CWritten
-unwritten number = record { number = number; written = 0; length = 0 }
+use Rattle.embed_tools.specs.declared.CWritten.{CWritten}
+use Rattle.embed_tools.specs.Told.{wrote, unwritten}
 
 abbrev pub collectedAs : Collected → CWritten
 collectedAs (C.Done length) = wrote length

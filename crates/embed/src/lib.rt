@@ -1,6 +1,7 @@
 // What a caller from C or Rust links: the calls of the association, over a record that the caller lends, and the tools beside it.
 // Promises: each is the call behind it on the unpacked record, packed again, and has a defined answer on any bytes whatever.
-// Rule: RULES, parts 7 and 10 to 12, and No. 1, No. 9 and No. 13; definitions in specs/Calls.antt and specs/Written.antt, of the tools in embed_tools.
+// Rule: RULES, parts 7 and 10 to 12, and No. 1, No. 6, No. 9 and No. 13; definitions in specs/Calls.antt and specs/Written.antt, of the tools in embed_tools, of the
+// hand-over file in embed_handover.
 use collector::Collected;
 use cookiestash::CAPACITY;
 use embed_record::CAssociation;
@@ -12,6 +13,7 @@ use embed_rules::CTimerAnswer;
 use embed_rules::CUid;
 use embed_tools::CCalendarAnswer;
 use embed_tools::CSalvaged;
+use embed_tools::CWritten;
 use request::Requested;
 use time_types::NtpTimestamp;
 use time_types::PollInterval;
@@ -26,8 +28,9 @@ ghost use Rattle.salvage.specs.Salvage.{salvageOf, bufferOf as cleaned};
 ghost use Rattle.calendar.specs.Calendar.{checkOf};
 ghost use Rattle.calendar.specs.Plan.{planOf, bufferOf as planned};
 ghost use Rattle.embed_tools.specs.Told.{salvagedAs, checkedAs, plannedAs};
+ghost use Rattle.embed_handover.specs.Handed.{cSaved, gave, saveCall, loadCall};
 ghost use Rattle.embed.specs.Calls.{timerGave, timerCall, replyGave, replyCall, decodedCall, acceptCall};
-ghost use Rattle.embed.specs.Written.{unwritten, collectedAs, requestedAs, sendIn};
+ghost use Rattle.embed.specs.Written.{collectedAs, requestedAs, sendIn};
 
 // How many bytes a record has, and at a multiple of what it lies.
 #[no_mangle]
@@ -180,23 +183,25 @@ pub extern "C" fn reckonstile_accept(
     embed_rules::accept(settings, state, seen, stratum, local, bloom)
 }
 
-// What is written to a buffer: the number, whether something is written, and its length.
-#[repr(C)]
-pub struct CWritten {
-    pub number: u32,
-    // 1 where something is written.
-    pub written: u32,
-    pub length: usize,
+// The record as a hand-over file, from the buffer's start on: 0, 32, 60. Its cookies are the file's then, and it comes back without them.
+#[no_mangle]
+pub extern "C" fn reckonstile_save(a: &mut CAssociation, buffer: &mut [u8]) -> CWritten
+    ensures { λ r. ⌜ gave (cSaved r (now (a .exit))) (now (buffer .exit)) ≡ saveCall (now (a .entry)) (now (buffer .entry)) ⌝ }
+{
+    let old = *a;
+    let out = embed_handover::save(old, buffer);
+    *a = out.association;
+    out.answer
 }
 
-fn unwritten(number: u32) -> CWritten
-    ensures { λ r. ⌜ r ≡ unwritten number ⌝ }
+// The record becomes that of a hand-over file, with nothing sent yet: 0. Blank where it is refused: 61, 62, 63.
+#[no_mangle]
+pub extern "C" fn reckonstile_load(a: &mut CAssociation, file: &[u8]) -> u32
+    ensures { λ r. ⌜ (r ≡ loadCall (now (file .entry)) .number) × (now (a .exit) ≡ loadCall (now (file .entry)) .association) ⌝ }
 {
-    CWritten {
-        number,
-        written: 0,
-        length: 0,
-    }
+    let out = embed_handover::load(file);
+    *a = out.association;
+    out.number
 }
 
 fn collected(answer: Collected) -> CWritten
@@ -208,8 +213,8 @@ fn collected(answer: Collected) -> CWritten
             written: 1,
             length,
         },
-        Collected::Broken => unwritten(1),
-        Collected::TooLong => unwritten(31),
+        Collected::Broken => embed_tools::unwritten(1),
+        Collected::TooLong => embed_tools::unwritten(31),
     }
 }
 
@@ -222,9 +227,9 @@ fn requested(answer: Requested) -> CWritten
             written: 1,
             length,
         },
-        Requested::VersionFive => unwritten(50),
-        Requested::ShortBuffer => unwritten(51),
-        Requested::CookieOrCount => unwritten(52),
+        Requested::VersionFive => embed_tools::unwritten(50),
+        Requested::ShortBuffer => embed_tools::unwritten(51),
+        Requested::CookieOrCount => embed_tools::unwritten(52),
     }
 }
 

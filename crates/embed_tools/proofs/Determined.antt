@@ -3,9 +3,13 @@
 use mathlib.Core.Path.{_∙_, sym}
 use denote.Ref.{now}
 use Rattle.words.specs.Determined.{Determined, DeterminedLent}
+use Rattle.embed_tools.proofs.unwritten.Reads as unwritten
 use Rattle.embed_tools.proofs.salvage.Reads as salvage
 use Rattle.embed_tools.proofs.check.Reads as check
 use Rattle.embed_tools.proofs.plan.Reads as plan
+
+pub unwritten-determined : Determined unwritten.Post
+unwritten-determined κs a y z e f p q = p ∙ sym q
 
 pub salvage-determined : DeterminedLent salvage.Post (λ κs e. now (e .1 .0))
 salvage-determined κs a y z e f p q = (p .0 ∙ sym (q .0), p .1 ∙ sym (q .1))

@@ -6,8 +6,16 @@ use Rattle.calendar.specs.declared.CheckAnswer.{CheckAnswer}
 use Rattle.calendar.specs.declared.CheckAnswer.the-variants as C
 use Rattle.calendar.specs.declared.PlanAnswer.{PlanAnswer}
 use Rattle.calendar.specs.declared.PlanAnswer.the-variants as P
+use Rattle.embed_tools.specs.declared.CWritten.{CWritten}
 use Rattle.embed_tools.specs.declared.CSalvaged.{CSalvaged}
 use Rattle.embed_tools.specs.declared.CCalendarAnswer.{CCalendarAnswer}
+
+-- so many bytes are written; or none are, for a reason
+abbrev pub wrote : ℕ → CWritten
+wrote length = record { number = 0; written = 1; length = length }
+
+abbrev pub unwritten : ℕ → CWritten
+unwritten number = record { number = number; written = 0; length = 0 }
 
 -- how many gaps have their places told: up to 32
 abbrev pub toldOf : ℕ → ℕ

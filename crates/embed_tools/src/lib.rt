@@ -1,4 +1,5 @@
-// The tools beside the association, as C and Rust call them: salvage of a cookie list, the check of a poll calendar and the planner.
+// The tools beside the association, as C and Rust call them: salvage of a cookie list, the check of a poll calendar and the planner; and the answer of every
+// call that writes to a buffer.
 // Promises: each is the call behind it, with its answer told in numbers and each lent byte as that call leaves it.
 // Rule: RULES, No. 9 and No. 13; definitions in specs/Told.antt.
 use calendar::CheckAnswer;
@@ -11,7 +12,27 @@ ghost use lib.ListN.{length};
 ghost use Rattle.salvage.specs.Salvage.{salvageOf, bufferOf as cleaned};
 ghost use Rattle.calendar.specs.Calendar.{checkOf};
 ghost use Rattle.calendar.specs.Plan.{planOf, bufferOf as planned};
-ghost use Rattle.embed_tools.specs.Told.{toldOf, salvagedAs, named, unnamed, checkedAs, plannedAs};
+ghost use Rattle.embed_tools.specs.Told.{unwritten, toldOf, salvagedAs, named, unnamed, checkedAs, plannedAs};
+
+// What is written to a buffer: the number, whether something is written, and its length.
+#[repr(C)]
+pub struct CWritten {
+    pub number: u32,
+    // 1 where something is written.
+    pub written: u32,
+    pub length: usize,
+}
+
+// Nothing is written, for a reason.
+pub fn unwritten(number: u32) -> CWritten
+    ensures { λ r. ⌜ r ≡ unwritten number ⌝ }
+{
+    CWritten {
+        number,
+        written: 0,
+        length: 0,
+    }
+}
 
 // What salvaging answers, as numbers without padding: `told` places say where the first gaps start, and the others are 0.
 #[repr(C)]

@@ -1,0 +1,2 @@
+-- The definitions that the contracts of `embed_handover` cite.
+pub mod Handed
