@@ -187,6 +187,13 @@ struct reckonstile_uid {
     uint8_t bytes[32];
 };
 
+struct reckonstile_new_answer {
+    uint32_t number;  /* new: 0, 30, 33; metered: those and 34 to 37. Where it is not 0 all below is zero */
+    uint32_t made;    /* 1 where the number is 0 */
+    uint64_t dropped; /* with NTS, how many cookies of the list did not fit: with more than eight the oldest fall out */
+    uint64_t lost;    /* their lengths, summed */
+};
+
 struct reckonstile_timer_answer {
     uint32_t number; /* 20, 21, 22, 23, 24, 31, 32; where it is not 20 all below is zero */
     uint8_t kind;    /* what to send: RECKONSTILE_SEND_V4 .. RECKONSTILE_SEND_NTS_V5 */
@@ -207,6 +214,8 @@ struct reckonstile_reply_answer {
     uint64_t mono;     /* `time` of the call */
     int64_t rootdelay; /* the source's own to its root */
     int64_t rootdisp;
+    uint64_t dropped;  /* with NTS, how many cookies fell out of the stash while the list was stored: the oldest, as many as did not fit */
+    uint64_t lost;     /* their lengths, summed; one over 724 bytes, of which nothing is kept, counts its length too */
 };
 
 /* A V5 reply that the caller has decoded. A code of no kind: 1, as for bytes that are no reply. */
@@ -255,9 +264,12 @@ RECKONSTILE_ASSERT(sizeof(struct reckonstile_state) == 72 && offsetof(struct rec
 RECKONSTILE_ASSERT(sizeof(struct reckonstile_association) == 5928 && offsetof(struct reckonstile_association, stash) == 32 &&
                    offsetof(struct reckonstile_association, state) == 5856, "reckonstile: layout of the record");
 RECKONSTILE_ASSERT(sizeof(struct reckonstile_uid) == 32, "reckonstile: layout of a uid");
+RECKONSTILE_ASSERT(sizeof(struct reckonstile_new_answer) == 24 && offsetof(struct reckonstile_new_answer, dropped) == 8,
+                   "reckonstile: layout of new's answer");
 RECKONSTILE_ASSERT(sizeof(struct reckonstile_timer_answer) == 16 && offsetof(struct reckonstile_timer_answer, length) == 8,
                    "reckonstile: layout of the timer's answer");
-RECKONSTILE_ASSERT(sizeof(struct reckonstile_reply_answer) == 56 && offsetof(struct reckonstile_reply_answer, delay) == 8,
+RECKONSTILE_ASSERT(sizeof(struct reckonstile_reply_answer) == 72 && offsetof(struct reckonstile_reply_answer, delay) == 8 &&
+                   offsetof(struct reckonstile_reply_answer, dropped) == 56,
                    "reckonstile: layout of the reply's answer");
 RECKONSTILE_ASSERT(sizeof(struct reckonstile_decoded) == 56 && offsetof(struct reckonstile_decoded, mode) == 40 &&
                    offsetof(struct reckonstile_decoded, untrusted) == 55, "reckonstile: layout of a decoded reply");
@@ -277,15 +289,16 @@ size_t reckonstile_align(void);
 uint32_t reckonstile_blank(struct reckonstile_association *a);
 
 /* The record, whatever it was, becomes a new association with these settings; with NTS its first cookies are those of the list (as reckonstile_collect writes
-   it), and without NTS the list is not read.
+   it), and without NTS the list is not read. The answer says how many of them did not fit.
    0 made; 30 a setting is outside its range, or a code of no kind; 33 with NTS, the list is broken. On 30 and 33 the record is blank. */
-uint32_t reckonstile_new(struct reckonstile_association *a, struct reckonstile_settings settings, const uint8_t *list, size_t list_len);
+struct reckonstile_new_answer reckonstile_new(struct reckonstile_association *a, struct reckonstile_settings settings, const uint8_t *list, size_t list_len);
 
 /* The same for a link that is paid by the packet: the settings and the list have to meet the metered profile besides, and the record is then the one that
    reckonstile_new makes. No poll that its timer sends has an exponent below 8.
    0 made; 30 and 33 as reckonstile_new; then the first rule of the profile that is broken: 34 min is below 8; 35 startup is over 3; 36 start is
    RECKONSTILE_UPGRADING; 37 with NTS, a cookie of the list has over 100 bytes. On every number but 0 the record is blank. */
-uint32_t reckonstile_metered(struct reckonstile_association *a, struct reckonstile_settings settings, const uint8_t *list, size_t list_len);
+struct reckonstile_new_answer reckonstile_metered(struct reckonstile_association *a, struct reckonstile_settings settings, const uint8_t *list,
+                                                  size_t list_len);
 
 /* The number that reckonstile_metered gives for these settings and this list. */
 uint32_t reckonstile_profile(struct reckonstile_settings settings, const uint8_t *list, size_t list_len);
@@ -302,7 +315,7 @@ struct reckonstile_timer_answer reckonstile_timer(struct reckonstile_association
    none, without NTS and in V3; 0 where the authenticator does not hold (the answer is then 1). `decrypted` are the decrypted bytes of that field and `list` the
    new cookies among them (reckonstile_collect), both empty where there is none; they count only with NTS. The caller has checked the authenticator.
    In this order: 32, 1, 33, 2, then 12, 13 or 14, then 4: the record is as it was. 5 to 11: a matching reply that is not measured; what of it counts the
-   record has. 0 measured: the request is no longer pending but answered, and with NTS the list's cookies are stored. */
+   record has. 0 measured: the request is no longer pending but answered, and with NTS the list's cookies are stored; the answer says what fell out. */
 struct reckonstile_reply_answer reckonstile_reply(struct reckonstile_association *a, const uint8_t *packet, size_t packet_len, size_t end,
                                                   const uint8_t *decrypted, size_t decrypted_len, const uint8_t *list, size_t list_len,
                                                   uint64_t t1, uint64_t t4, uint64_t time);

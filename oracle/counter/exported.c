@@ -26,7 +26,7 @@ static void make(int nts) {
     s.max = 10;
     memset(first, 7, sizeof first);
     for (size_t k = 0; k < 8; k++) memcpy(first + 104 * k, "\xC0\x0E\x00\x64", 4);
-    if (reckonstile_new(&a, s, first, sizeof first) != RECKONSTILE_OK) exit(2);
+    if (reckonstile_new(&a, s, first, sizeof first).number != RECKONSTILE_OK) exit(2);
     for (size_t k = 0; k < RECKONSTILE_ENTRIES; k++) repeats[k] = 60;
     memset(&uid, 0x5A, sizeof uid);
     memcpy(packet, "\x24\x02\x06\xEC\x00\x00\x01\x00\x00\x00\x02\x00\xC0\x00\x02\x01\x00\x00\x00\x00\x00\x00\x00\x00ZZZZZZZZ\x00\x00\x00\x02\x00\x00\x00\x00\x00\x00\x00\x03", 44);

@@ -114,7 +114,7 @@ impl<'a> Link<'a> {
             source: ReferenceId::from(ip),
             ..Settings::default()
         };
-        let association = Association::new(&settings, &list)?;
+        let (association, dropped) = Association::new(&settings, &list)?;
         let limits = settings.poll_interval_limits;
         log.write(
             &format!(
@@ -128,7 +128,7 @@ impl<'a> Link<'a> {
                 settings.source.to_bits(),
                 hex(&list)
             ),
-            "new 0",
+            &format!("new 0 dropped={} lost={}", dropped.count, dropped.bytes),
         )?;
         Ok(Link { association, socket, nts, t1: NtpTimestamp::default(), log })
     }
@@ -252,7 +252,7 @@ fn sent(poll: &Poll<'_>) -> String {
 fn replied(said: &Result<Measurement, ReplyRefused>) -> String {
     match said {
         Ok(m) => format!(
-            "reply 0 delay={} offset={} local={} mono={} stratum={} rootdelay={} rootdisp={} leap={} precision={}",
+            "reply 0 delay={} offset={} local={} mono={} stratum={} rootdelay={} rootdisp={} leap={} precision={} dropped={} lost={}",
             m.delay.to_bits(),
             m.offset.to_bits(),
             m.localtime.to_bits(),
@@ -261,7 +261,9 @@ fn replied(said: &Result<Measurement, ReplyRefused>) -> String {
             m.root_delay.to_bits(),
             m.root_dispersion.to_bits(),
             m.leap.code(),
-            m.precision
+            m.precision,
+            m.dropped.count,
+            m.dropped.bytes
         ),
         Err(refused) => format!("reply {}", refused.number()),
     }

@@ -148,9 +148,9 @@ impl Drill {
 
     fn new(&mut self, p: &Pairs) -> String {
         match Association::new(&Self::settings(p), &p.bytes("list")) {
-            Ok(a) => {
+            Ok((a, d)) => {
                 self.a = a;
-                "new 0".into()
+                format!("new 0 dropped={} lost={}", d.count, d.bytes)
             }
             Err(refused) => {
                 self.a = Association::from_record(Record::BLANK);
@@ -161,9 +161,9 @@ impl Drill {
 
     fn metered(&mut self, p: &Pairs) -> String {
         match Association::metered(&Self::settings(p), &p.bytes("list")) {
-            Ok(a) => {
+            Ok((a, d)) => {
                 self.a = a;
-                "metered 0".into()
+                format!("metered 0 dropped={} lost={}", d.count, d.bytes)
             }
             Err(refused) => {
                 self.a = Association::from_record(Record::BLANK);
@@ -210,7 +210,7 @@ impl Drill {
     fn measured(&self, word: &str, before: &Record, said: Result<Measurement, reckonstile::ReplyRefused>) -> String {
         match said {
             Ok(m) => format!(
-                "{word} 0 delay={} offset={} local={} mono={} stratum={} rootdelay={} rootdisp={} leap={} precision={}",
+                "{word} 0 delay={} offset={} local={} mono={} stratum={} rootdelay={} rootdisp={} leap={} precision={} dropped={} lost={}",
                 m.delay.to_bits(),
                 m.offset.to_bits(),
                 m.localtime.to_bits(),
@@ -219,7 +219,9 @@ impl Drill {
                 m.root_delay.to_bits(),
                 m.root_dispersion.to_bits(),
                 m.leap.code(),
-                m.precision
+                m.precision,
+                m.dropped.count,
+                m.dropped.bytes
             ),
             Err(refused) => {
                 let number = refused.number();

@@ -176,7 +176,7 @@ numbered! {
     ///
     /// ```
     /// use reckonstile::{Association, SaveRefused, Settings};
-    /// let mut a = Association::new(&Settings::default(), &[]).unwrap();
+    /// let (mut a, _) = Association::new(&Settings::default(), &[]).unwrap();
     /// assert_eq!(a.save(&mut [0; 62]), Err(SaveRefused::ShortBuffer));
     /// ```
     SaveRefused {
@@ -392,7 +392,7 @@ impl SendKind {
 ///
 /// ```
 /// use reckonstile::{Association, NtpInstant, PollInterval, SendKind, Settings};
-/// let mut a = Association::new(&Settings::default(), &[]).unwrap();
+/// let (mut a, _) = Association::new(&Settings::default(), &[]).unwrap();
 /// let poll = a.timer(NtpInstant::from_nanos(0), PollInterval::new(6), 0x0102030405060708, [0; 32], &mut []).unwrap();
 /// assert_eq!((poll.kind, poll.poll, poll.cookie.len(), poll.asked), (SendKind::V4, PollInterval::new(6), 0, 0));
 /// ```
@@ -454,7 +454,27 @@ impl NtpLeapIndicator {
     }
 }
 
-/// What a measured reply (0) says: the fields, units and names of the crate's `Measurement`, for its clock steering.
+/// What fell out of the stash while cookies were stored: the oldest, as many as did not fit. With NTS a log is the better for it: cookies are lost where a server
+/// sends more than were asked for. Without NTS nothing does.
+///
+/// ```
+/// use reckonstile::{cookie_list, Association, Dropped, Settings};
+/// let mut list = [0; 128];
+/// let length = cookie_list([&b"the first of nine"[..], b"2", b"3", b"4", b"5", b"6", b"7", b"8", b"9"], &mut list).unwrap();
+/// let (a, dropped) = Association::new(&Settings { nts: true, ..Settings::default() }, &list[..length]).unwrap();
+/// assert_eq!((a.cookies(), dropped), (8, Dropped { count: 1, bytes: 17 }));
+/// ```
+#[derive(Clone, Copy, Debug, Default, PartialEq, Eq, Hash)]
+#[must_use]
+pub struct Dropped {
+    /// How many cookies.
+    pub count: u64,
+    /// Their lengths, summed; one over 724 bytes, of which nothing is kept, counts its length too.
+    pub bytes: u64,
+}
+
+/// What a measured reply (0) says: the fields, units and names of the crate's `Measurement`, for its clock steering, and what
+/// fell out of the stash.
 ///
 /// ```
 /// use reckonstile::Measurement;
@@ -481,6 +501,8 @@ pub struct Measurement {
     pub leap: NtpLeapIndicator,
     /// The precision of the source's clock, as an exponent of two, in seconds.
     pub precision: i8,
+    /// With NTS, what fell out while the reply's cookies were stored.
+    pub dropped: Dropped,
 }
 
 impl Measurement {
@@ -495,6 +517,7 @@ impl Measurement {
             root_dispersion: NtpDuration::from_bits(r.rootdisp),
             leap: NtpLeapIndicator::from_code(r.leap),
             precision: r.precision,
+            dropped: Dropped { count: r.dropped, bytes: r.lost },
         }
     }
 }

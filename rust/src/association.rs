@@ -1,6 +1,6 @@
 //! The association and its calls.
 use crate::answers::{
-    AcceptRefused, CollectRefused, LoadRefused, Measurement, MeteredRefused, NewRefused, NtpLeapIndicator, Poll, ReplyRefused,
+    AcceptRefused, CollectRefused, Dropped, LoadRefused, Measurement, MeteredRefused, NewRefused, NtpLeapIndicator, Poll, ReplyRefused,
     RequestRefused, SaveRefused, SendKind, TimerRefused,
 };
 use crate::ffi::{self, Record};
@@ -155,7 +155,7 @@ impl Settings {
 ///
 /// ```
 /// use reckonstile::{Association, Settings};
-/// let a = Association::new(&Settings::default(), &[]).unwrap();
+/// let (a, _) = Association::new(&Settings::default(), &[]).unwrap();
 /// assert_eq!((a.source().stratum, a.source().denial), (16, false));
 /// ```
 #[derive(Clone, Copy, Debug, PartialEq, Eq)]
@@ -326,7 +326,7 @@ pub enum Bloom {
 /// ```
 /// use reckonstile::{Association, NtpInstant, NtpTimestamp, Packet, PollInterval, ReplyRefused, Settings, Times, REQUEST_BYTES};
 ///
-/// let mut a = Association::new(&Settings::default(), &[])?;
+/// let (mut a, _) = Association::new(&Settings::default(), &[])?;
 /// let id = 0x0102030405060708; // 64 random bits, drawn anew for each call
 /// let poll = a.timer(NtpInstant::from_nanos(0), PollInterval::new(6), id, [0; 32], &mut [])?;
 /// let mut out = [0; REQUEST_BYTES];
@@ -366,28 +366,30 @@ impl fmt::Debug for Association {
 }
 
 impl Association {
-    /// A new association (0); with NTS `list` has the cookies of the key exchange, as [`cookie_list`] writes them, and else it is not looked at. Call
-    /// [`Association::timer`] at once.
+    /// A new association (0); with NTS `list` has the cookies of the key exchange, as [`cookie_list`] writes them, and else it is not looked at. Beside
+    /// it, what of that list did not fit. Call [`Association::timer`] at once.
     ///
     /// # Errors
     /// [`NewRefused`]: 30, 33.
-    pub fn new(settings: &Settings, list: &[u8]) -> Result<Self, NewRefused> {
+    pub fn new(settings: &Settings, list: &[u8]) -> Result<(Self, Dropped), NewRefused> {
         let mut record = Record::BLANK;
-        match ffi::new(&mut record, settings.numbers(), list) {
-            0 => Ok(Association { record }),
+        let said = ffi::new(&mut record, settings.numbers(), list);
+        match said.number {
+            0 => Ok((Association { record }, Dropped { count: said.dropped, bytes: said.lost })),
             number => Err(NewRefused::from_number(number)),
         }
     }
 
-    /// A new association for a link that is paid by the packet (0): the one that [`Association::new`] makes, where settings and list meet the metered profile.
+    /// A new association for a link that is paid by the packet (0): what [`Association::new`] gives, where settings and list meet the metered profile.
     /// No poll that it sends has an exponent below 8.
     ///
     /// # Errors
     /// [`MeteredRefused`]: 30, 33 to 37.
-    pub fn metered(settings: &Settings, list: &[u8]) -> Result<Self, MeteredRefused> {
+    pub fn metered(settings: &Settings, list: &[u8]) -> Result<(Self, Dropped), MeteredRefused> {
         let mut record = Record::BLANK;
-        match ffi::metered(&mut record, settings.numbers(), list) {
-            0 => Ok(Association { record }),
+        let said = ffi::metered(&mut record, settings.numbers(), list);
+        match said.number {
+            0 => Ok((Association { record }, Dropped { count: said.dropped, bytes: said.lost })),
             number => Err(MeteredRefused::from_number(number)),
         }
     }
@@ -463,7 +465,7 @@ impl Association {
     ///
     /// ```
     /// # use reckonstile::*;
-    /// # let mut a = Association::new(&Settings { version: ProtocolVersion::V5, ..Settings::default() }, &[]).unwrap();
+    /// # let (mut a, _) = Association::new(&Settings { version: ProtocolVersion::V5, ..Settings::default() }, &[]).unwrap();
     /// # let zero = NtpTimestamp::from_bits(0);
     /// let d = DecodedReply {
     ///     leap: NtpLeapIndicator::NoWarning, response: true, stratum: 2, poll: PollInterval::new(6), precision: -20,
@@ -491,7 +493,7 @@ impl Association {
     ///
     /// ```
     /// # use reckonstile::*;
-    /// let a = Association::new(&Settings::default(), &[]).unwrap();
+    /// let (a, _) = Association::new(&Settings::default(), &[]).unwrap();
     /// assert_eq!(a.accept(17, &[ReferenceId::from(core::net::Ipv4Addr::LOCALHOST)], Bloom::NoFilter), Err(AcceptRefused::Unreachable));
     /// ```
     pub fn accept(&self, stratum: u8, local: &[ReferenceId], bloom: Bloom) -> Result<(), AcceptRefused> {
@@ -509,7 +511,7 @@ impl Association {
     ///
     /// ```
     /// # use reckonstile::*;
-    /// let mut old = Association::new(&Settings { nts: true, ..Settings::default() }, b"\xc0\x0e\0\x03abc").unwrap();
+    /// let (mut old, _) = Association::new(&Settings { nts: true, ..Settings::default() }, b"\xc0\x0e\0\x03abc").unwrap();
     /// let before = old.clone();
     /// let mut file = [0; FILE_BYTES];
     /// let length = old.save(&mut file).unwrap();

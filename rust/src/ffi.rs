@@ -134,6 +134,15 @@ pub(crate) struct Uid {
 
 #[repr(C)]
 #[derive(Clone, Copy, Default)]
+pub(crate) struct Made {
+    pub number: u32,
+    pub made: u32,
+    pub dropped: u64,
+    pub lost: u64,
+}
+
+#[repr(C)]
+#[derive(Clone, Copy, Default)]
 pub(crate) struct Timed {
     pub number: u32,
     pub kind: u8,
@@ -156,6 +165,8 @@ pub(crate) struct Replied {
     pub mono: u64,
     pub rootdelay: i64,
     pub rootdisp: i64,
+    pub dropped: u64,
+    pub lost: u64,
 }
 
 #[repr(C)]
@@ -227,7 +238,8 @@ const _: () = {
             && offset_of!(Record, state) == 5856
     );
     assert!(size_of::<Uid>() == 32 && size_of::<Timed>() == 16 && offset_of!(Timed, length) == 8);
-    assert!(size_of::<Replied>() == 56 && offset_of!(Replied, delay) == 8);
+    assert!(size_of::<Made>() == 24 && offset_of!(Made, dropped) == 8);
+    assert!(size_of::<Replied>() == 72 && offset_of!(Replied, delay) == 8 && offset_of!(Replied, dropped) == 56);
     assert!(size_of::<Decoded>() == 56 && offset_of!(Decoded, mode) == 40 && offset_of!(Decoded, untrusted) == 55);
     assert!(size_of::<Written>() == 16 && offset_of!(Written, length) == 8);
     assert!(size_of::<Salvaged>() == 296 && offset_of!(Salvaged, kept) == 8 && offset_of!(Salvaged, places) == 40);
@@ -235,12 +247,12 @@ const _: () = {
 };
 
 mod c {
-    use super::{Decoded, Record, Replied, Salvaged, Scheduled, Settings, Timed, Uid, Written};
+    use super::{Decoded, Made, Record, Replied, Salvaged, Scheduled, Settings, Timed, Uid, Written};
     extern "C" {
         pub fn reckonstile_size() -> usize;
         pub fn reckonstile_align() -> usize;
-        pub fn reckonstile_new(a: *mut Record, settings: Settings, list: *const u8, list_len: usize) -> u32;
-        pub fn reckonstile_metered(a: *mut Record, settings: Settings, list: *const u8, list_len: usize) -> u32;
+        pub fn reckonstile_new(a: *mut Record, settings: Settings, list: *const u8, list_len: usize) -> Made;
+        pub fn reckonstile_metered(a: *mut Record, settings: Settings, list: *const u8, list_len: usize) -> Made;
         pub fn reckonstile_profile(settings: Settings, list: *const u8, list_len: usize) -> u32;
         pub fn reckonstile_timer(
             a: *mut Record,
@@ -313,12 +325,12 @@ pub(crate) fn layout() -> (usize, usize) {
     unsafe { (c::reckonstile_size(), c::reckonstile_align()) }
 }
 
-pub(crate) fn new(a: &mut Record, settings: Settings, list: &[u8]) -> u32 {
+pub(crate) fn new(a: &mut Record, settings: Settings, list: &[u8]) -> Made {
     // SAFETY: `a` is lent exclusively; `list` is a pointer that is not null and its length.
     unsafe { c::reckonstile_new(a, settings, list.as_ptr(), list.len()) }
 }
 
-pub(crate) fn metered(a: &mut Record, settings: Settings, list: &[u8]) -> u32 {
+pub(crate) fn metered(a: &mut Record, settings: Settings, list: &[u8]) -> Made {
     // SAFETY: `a` is lent exclusively; `list` is a pointer that is not null and its length.
     unsafe { c::reckonstile_metered(a, settings, list.as_ptr(), list.len()) }
 }

@@ -27,7 +27,7 @@ mod time;
 mod tools;
 
 pub use answers::{
-    AcceptRefused, Action, CheckRefused, CollectRefused, LoadRefused, Measurement, MeteredRefused, NewRefused, NtpLeapIndicator,
+    AcceptRefused, Action, CheckRefused, CollectRefused, Dropped, LoadRefused, Measurement, MeteredRefused, NewRefused, NtpLeapIndicator,
     PlanRefused, Poll, ReplyRefused, RequestRefused, SalvageRefused, SaveRefused, SendKind, TimerRefused,
 };
 pub use association::{

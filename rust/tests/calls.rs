@@ -1,8 +1,8 @@
 //! The crate's own words, held to what docs/CALLERS.md and the cases of RULES say; the behaviour behind them is held to the drill by `tests/embed`.
 use reckonstile::{
-    check_calendar, cookie_list, plan_calendar, salvage, Action, Association, Bloom, CheckRefused, NewRefused, NtpInstant,
-    NtpTimestamp, Packet, PlanRefused, PollInterval, ProtocolVersion, Record, ReferenceId, ReplyRefused, RequestRefused,
-    SalvageRefused, SendKind, Settings, TimerRefused, Times, COOKIE_BYTES, ENTRIES, REQUEST_BYTES,
+    check_calendar, cookie_list, plan_calendar, salvage, Action, Association, Bloom, CheckRefused, Dropped, NewRefused,
+    NtpInstant, NtpTimestamp, Packet, PlanRefused, PollInterval, ProtocolVersion, Record, ReferenceId, ReplyRefused,
+    RequestRefused, SalvageRefused, SendKind, Settings, TimerRefused, Times, COOKIE_BYTES, ENTRIES, REQUEST_BYTES,
 };
 use std::time::{Duration, SystemTime, UNIX_EPOCH};
 
@@ -23,7 +23,7 @@ fn reply(id: u64) -> [u8; 48] {
 
 #[test]
 fn a_night_in_which_a_modem_keeps_three_replies() {
-    let mut a = Association::new(&Settings::default(), &[]).unwrap();
+    let (mut a, _) = Association::new(&Settings::default(), &[]).unwrap();
     for poll in 1..=3 {
         assert_eq!(tick(&mut a, poll * 60_000_000_000, poll), Ok(SendKind::V4));
     }
@@ -40,7 +40,7 @@ fn a_night_in_which_a_modem_keeps_three_replies() {
 
 #[test]
 fn a_reply_without_a_live_request_says_why() {
-    let mut a = Association::new(&Settings::default(), &[]).unwrap();
+    let (mut a, _) = Association::new(&Settings::default(), &[]).unwrap();
     let heard = |a: &mut Association, id: u64, at: u64| {
         let before = *a.record();
         let said = a.reply(&Packet::plain(&reply(id)), times(at));
@@ -67,7 +67,7 @@ fn a_reply_without_a_live_request_says_why() {
 fn the_window_ends_at_its_last_nanosecond() {
     let window = 5_000_000_000;
     for (after, measured) in [(0, true), (window, true), (window + 1, false)] {
-        let mut a = Association::new(&Settings::default(), &[]).unwrap();
+        let (mut a, _) = Association::new(&Settings::default(), &[]).unwrap();
         tick(&mut a, 7, 1).unwrap();
         assert_eq!(a.reply(&Packet::plain(&reply(1)), times(7 + after)).is_ok(), measured, "{after}");
     }
@@ -78,7 +78,7 @@ fn cookies_go_in_and_out() {
     let mut list = [0; 64];
     let length = cookie_list([&[1; 20][..], &[2; 20]], &mut list).unwrap();
     let settings = Settings { nts: true, ..Settings::default() };
-    let mut a = Association::new(&settings, &list[..length]).unwrap();
+    let (mut a, _) = Association::new(&settings, &list[..length]).unwrap();
     assert_eq!(a.cookies(), 2);
     let mut short = [0; COOKIE_BYTES - 1];
     assert_eq!(
@@ -97,6 +97,20 @@ fn cookies_go_in_and_out() {
 }
 
 #[test]
+fn cookies_that_do_not_fit_are_told() {
+    let mut list = [0; 128];
+    let length = cookie_list([&[1; 20][..], &[2; 3], &[], &[], &[], &[], &[], &[], &[9; 4], &[]], &mut list).unwrap();
+    let settings = Settings { nts: true, ..Settings::default() };
+    let (a, dropped) = Association::new(&settings, &list[..length]).unwrap();
+    assert_eq!((a.cookies(), dropped), (8, Dropped { count: 2, bytes: 23 }));
+    let (_, dropped) = Association::new(&settings, &[]).unwrap();
+    assert_eq!(dropped, Dropped::default());
+    // Without NTS the list is not looked at.
+    let (_, dropped) = Association::new(&Settings::default(), &list[..length]).unwrap();
+    assert_eq!(dropped, Dropped::default());
+}
+
+#[test]
 fn a_version_is_kept_with_its_tries() {
     for version in [
         ProtocolVersion::V4,
@@ -104,7 +118,7 @@ fn a_version_is_kept_with_its_tries() {
         ProtocolVersion::UpgradedToV5,
         ProtocolVersion::V5,
     ] {
-        let a = Association::new(&Settings { version, ..Settings::default() }, &[]).unwrap();
+        let (a, _) = Association::new(&Settings { version, ..Settings::default() }, &[]).unwrap();
         assert_eq!(a.version(), version);
     }
 }
@@ -126,7 +140,7 @@ fn settings_out_of_range_are_refused() {
 #[test]
 fn more_identifiers_than_any_machine_has() {
     let mut local = vec![ReferenceId::from_bits(1); 10_000];
-    let mut a = Association::new(&Settings { source: ReferenceId::from_bits(2), ..Settings::default() }, &[]).unwrap();
+    let (mut a, _) = Association::new(&Settings { source: ReferenceId::from_bits(2), ..Settings::default() }, &[]).unwrap();
     tick(&mut a, 0, 1).unwrap();
     let _ = a.reply(&Packet::plain(&reply(1)), times(0)).unwrap();
     assert_eq!(a.accept(16, &local, Bloom::NoFilter), Ok(()));
@@ -136,7 +150,7 @@ fn more_identifiers_than_any_machine_has() {
 
 #[test]
 fn a_record_of_any_numbers_is_refused_untouched() {
-    let whole = *Association::new(&Settings::default(), &[]).unwrap().record();
+    let whole = *Association::new(&Settings::default(), &[]).unwrap().0.record();
     let mut broken = [whole; 6];
     broken[0].settings.nts = 2;
     broken[1].settings.start = 4;
@@ -166,7 +180,7 @@ fn the_system_clock_as_a_timestamp() {
 
 #[test]
 fn an_association_may_go_to_another_thread() {
-    let mut a = Association::new(&Settings::default(), &[]).unwrap();
+    let (mut a, _) = Association::new(&Settings::default(), &[]).unwrap();
     let kind = std::thread::spawn(move || tick(&mut a, 0, 1)).join().unwrap();
     assert_eq!(kind, Ok(SendKind::V4));
 }
@@ -182,7 +196,7 @@ fn a_damaged_list_starts_an_association() {
     let salvaged = salvage(&list[..length], &mut out).unwrap();
     assert_eq!((salvaged.kept, salvaged.skipped, salvaged.gaps, salvaged.places()), (1, 24, 1, &[0][..]));
     assert_eq!(salvaged.list, &list[24..length]);
-    assert_eq!(Association::new(&settings, salvaged.list).unwrap().cookies(), 1);
+    assert_eq!(Association::new(&settings, salvaged.list).unwrap().0.cookies(), 1);
     assert_eq!(out[24..], [0xEE; 40]);
     assert_eq!(salvage(&list[..length], &mut out[..length - 1]).unwrap_err(), SalvageRefused::ShortBuffer);
 }

@@ -87,16 +87,22 @@ static struct reckonstile_settings settings(void) {
     return s;
 }
 
+static void made(const char *word, struct reckonstile_new_answer r) {
+    printf("%s %" PRIu32, word, r.number);
+    if (r.number == RECKONSTILE_OK) printf(" dropped=%" PRIu64 " lost=%" PRIu64, r.dropped, r.lost);
+    end(r.number == RECKONSTILE_OK ? r.made == 1 : !r.made && !r.dropped && !r.lost);
+}
+
 static void new_(void) {
     uint8_t list[MOST];
     size_t n = bytes(or_text("list", "-"), list);
-    printf("new %" PRIu32 "\n", reckonstile_new(&a, settings(), list, n));
+    made("new", reckonstile_new(&a, settings(), list, n));
 }
 
 static void metered(void) {
     uint8_t list[MOST];
     size_t n = bytes(or_text("list", "-"), list);
-    printf("metered %" PRIu32 "\n", reckonstile_metered(&a, settings(), list, n));
+    made("metered", reckonstile_metered(&a, settings(), list, n));
 }
 
 static void profile(void) {
@@ -126,13 +132,13 @@ static void timer(void) {
 static void replied(const char *word, struct reckonstile_reply_answer r) {
     printf("%s %" PRIu32, word, r.number);
     if (r.number == RECKONSTILE_OK) {
-        printf(" delay=%" PRId64 " offset=%" PRId64 " local=%" PRIu64 " mono=%" PRIu64 " stratum=%u rootdelay=%" PRId64 " rootdisp=%" PRId64 " leap=%u precision=%d", r.delay,
-               r.offset, r.local, r.mono, (unsigned)r.stratum, r.rootdelay, r.rootdisp, (unsigned)r.leap, r.precision);
+        printf(" delay=%" PRId64 " offset=%" PRId64 " local=%" PRIu64 " mono=%" PRIu64 " stratum=%u rootdelay=%" PRId64 " rootdisp=%" PRId64 " leap=%u precision=%d dropped=%" PRIu64
+               " lost=%" PRIu64, r.delay, r.offset, r.local, r.mono, (unsigned)r.stratum, r.rootdelay, r.rootdisp, (unsigned)r.leap, r.precision, r.dropped, r.lost);
         end(r.measured == 1);
         return;
     }
     int changes = r.number >= RECKONSTILE_RATE && r.number <= RECKONSTILE_NOT_SERVER;
-    int zero = !r.measured && !r.delay && !r.offset && !r.local && !r.mono && !r.stratum && !r.rootdelay && !r.rootdisp && !r.leap && !r.precision;
+    int zero = !r.measured && !r.delay && !r.offset && !r.local && !r.mono && !r.stratum && !r.rootdelay && !r.rootdisp && !r.leap && !r.precision && !r.dropped && !r.lost;
     end((changes || same()) && zero);
 }
 

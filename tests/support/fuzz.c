@@ -104,7 +104,7 @@ static void make(void) {
     s.max = (int8_t)below(18);
     s.min = (int8_t)below((uint64_t)s.max + 1);
     size_t n = list_of(list, below(2) ? sizeof list : 1000);
-    uint32_t number = reckonstile_new(&lent.a, s, list, n);
+    uint32_t number = reckonstile_new(&lent.a, s, list, n).number;
     expect(number == RECKONSTILE_OK && whole(&lent.a), "new was refused, or its record is not whole", number);
     for (uint64_t k = below(4); k; k--) {
         random_bytes(&uid, sizeof uid);
@@ -118,6 +118,26 @@ static void make(void) {
         else if (below(2)) at = offsetof(struct reckonstile_association, stash.read) + below(16);
         ((uint8_t *)&lent.a)[at] = (uint8_t)(below(2) ? below(4) : next());
     }
+}
+
+/* What falls out where a list is stored: of the lengths held and those of the list, oldest first, as many as do not fit. With another number than 0, and without NTS,
+   nothing is stored. */
+static int dropped_right(uint32_t number, uint32_t nts, const struct reckonstile_stash *s, const uint8_t *list, size_t n, uint64_t dropped, uint64_t lost) {
+    if (number || !nts) return !dropped && !lost;
+    uint64_t cookies = 0, sum = 0;
+    for (size_t at = 0; at < n; at += 4u + (size_t)(list[at + 2] << 8 | list[at + 3])) cookies++;
+    uint64_t over = s->held + cookies > 8 ? s->held + cookies - 8 : 0;
+    size_t at = 0;
+    for (uint64_t k = 0; k < over; k++) {
+        if (k < s->held) {
+            sum += s->slots[(s->read + k) % 8].len;
+            continue;
+        }
+        size_t len = (size_t)(list[at + 2] << 8 | list[at + 3]);
+        sum += len;
+        at += 4 + len;
+    }
+    return dropped == over && lost == sum;
 }
 
 /* ---- a reply that may match, and what may be said of one */
@@ -240,6 +260,7 @@ int main(int argc, char **argv) {
     }
     state = strtoull(argv[1], NULL, 10);
     static uint8_t packet[256], list[1024], plain[256];
+    static const struct reckonstile_stash empty;
     memset(&lent, 0x5A, sizeof lent);
     memset(&out, 0x5A, sizeof out);
     for (unsigned long rounds = strtoul(argv[2], NULL, 10); rounds; rounds--) {
@@ -275,6 +296,7 @@ int main(int argc, char **argv) {
         expect(reason_right(n, &before.state, time), "reply: why no request is live", n);
         expect(n == 0 || (n >= 5 && n <= 11) || kept(), "reply: a refusal changed the record", n);
         expect(r.measured == (n == 0) && (n == 0 || (!r.delay && !r.offset && !r.local && !r.mono && !r.leap && !r.stratum && !r.precision && !r.rootdelay && !r.rootdisp)), "reply's answer", n);
+        expect(dropped_right(n, before.settings.nts, &before.stash, list, list_len, r.dropped, r.lost), "reply: what the stash dropped", n);
 
         if (below(4)) lent.a = before;
         before = lent.a;
@@ -296,6 +318,7 @@ int main(int argc, char **argv) {
         expect(settings_kept() && (is_whole ? reply_number(n) : n == 32) && (!is_whole || whole(&lent.a)), "reply_decoded", n);
         expect(reason_right(n, &before.state, time), "reply_decoded: why no request is live", n);
         expect(n == 0 || (n >= 5 && n <= 11) || kept(), "reply_decoded: a refusal changed the record", n);
+        expect(dropped_right(n, before.settings.nts, &before.stash, list, list_len, r.dropped, r.lost), "reply_decoded: what the stash dropped", n);
 
         /* a file that is written is read as the record, with nothing sent; a byte of it changed, or its end cut, is a number of its own and a record that is whole or blank */
         static uint8_t file[RECKONSTILE_FILE_BYTES];
@@ -331,17 +354,21 @@ int main(int argc, char **argv) {
 
         /* settings of any kind: made and whole, or blank */
         struct reckonstile_settings s = before.settings;
-        n = reckonstile_new(&lent.a, s, list, list_len);
+        struct reckonstile_new_answer made = reckonstile_new(&lent.a, s, list, list_len);
+        n = made.number;
         int good = version_ok(s.start, s.left) && s.nts <= 1 && settings_ok(&s);
         expect(good ? n == 0 || (n == 33 && s.nts) : n == 30, "new", n);
         expect(n == 0 ? whole(&lent.a) && settings_kept() : zeros((const uint8_t *)&lent.a, sizeof lent.a), "new's record", n);
+        expect(made.made == (n == 0) && dropped_right(n, s.nts, &empty, list, list_len, made.dropped, made.lost), "new: what the stash dropped", n);
 
         /* the same for a metered link: the plain record where the profile is met, and the check's number */
         struct reckonstile_association plain = lent.a;
-        uint32_t told = reckonstile_profile(s, list, list_len), m = reckonstile_metered(&lent.a, s, list, list_len);
+        struct reckonstile_new_answer metered = reckonstile_metered(&lent.a, s, list, list_len);
+        uint32_t told = reckonstile_profile(s, list, list_len), m = metered.number;
         int slow = s.min >= 8 && s.startup <= 3 && s.start != RECKONSTILE_UPGRADING;
         expect(m == told && (n != 0 ? m == n : m == 0 ? slow : m >= 34 && m <= 37 && (!slow || (m == 37 && s.nts))), "metered", m);
         expect(m == 0 ? !memcmp(&lent.a, &plain, sizeof plain) : zeros((const uint8_t *)&lent.a, sizeof lent.a), "metered's record", m);
+        expect(metered.made == (m == 0) && dropped_right(m, s.nts, &empty, list, list_len, metered.dropped, metered.lost), "metered: what the stash dropped", m);
     }
     printf("%lu of the records were whole\n%lu passed, %lu failed\n", wholes, passed, failed);
     return failed != 0;

@@ -33,7 +33,8 @@ int main(void) {
     s.max = 16;
     uint8_t list[] = { 0xC0, 0x0E, 0, 5, 11, 12, 13, 14, 15, 0xC0, 0x0E, 0, 2, 21, 22 };
     memset(&a, 0xEE, sizeof a);
-    EXPECT(reckonstile_new(&a, s, list, sizeof list) == RECKONSTILE_OK);
+    struct reckonstile_new_answer m = reckonstile_new(&a, s, list, sizeof list);
+    EXPECT(m.number == RECKONSTILE_OK && m.made == 1 && m.dropped == 0 && m.lost == 0);
     b.settings = s;
     b.stash.slots[0].len = 5;
     memcpy(b.stash.slots[0].bytes, list + 4, 5);
@@ -68,7 +69,7 @@ int main(void) {
     s.window = 5000;
     s.max = 17;
     s.startup = 1;
-    EXPECT(reckonstile_new(&a, s, none, 0) == RECKONSTILE_OK);
+    EXPECT(reckonstile_new(&a, s, none, 0).number == RECKONSTILE_OK);
     memset(&uid, 0, sizeof uid);
     t = reckonstile_timer(&a, 1000, -5, 0x0102030405060708, uid, none, 0);
     EXPECT(t.number == RECKONSTILE_SENT && t.kind == RECKONSTILE_SEND_V4 && t.poll == 0 && t.asked == 0 && t.length == 0);
@@ -85,7 +86,7 @@ int main(void) {
     struct reckonstile_reply_answer r = reckonstile_reply(&a, packet, 48, 48, none, 0, none, 0, (uint64_t)100 << 32, (uint64_t)101 << 32, 6000);
     EXPECT(r.number == RECKONSTILE_OK && r.measured == 1 && r.leap == RECKONSTILE_LEAP_61 && r.stratum == 2 && r.precision == -20);
     EXPECT(r.delay == (int64_t)1 << 31 && r.offset == ((int64_t)11 << 32) / 4 && r.local == ((uint64_t)100 << 32 | (uint64_t)1 << 31) && r.mono == 6000);
-    EXPECT(r.rootdelay == (int64_t)256 << 16 && r.rootdisp == (int64_t)512 << 16);
+    EXPECT(r.rootdelay == (int64_t)256 << 16 && r.rootdisp == (int64_t)512 << 16 && r.dropped == 0 && r.lost == 0);
     memset(&b, 0, sizeof b);
     b.settings = s;
     b.state.reach = 1;
@@ -120,7 +121,7 @@ int main(void) {
 
     /* a decoded reply: each field in its place. V5 from the start, poll raised to the server's. */
     s.start = RECKONSTILE_V5;
-    EXPECT(reckonstile_new(&a, s, none, 0) == RECKONSTILE_OK && a.state.version == RECKONSTILE_V5);
+    EXPECT(reckonstile_new(&a, s, none, 0).number == RECKONSTILE_OK && a.state.version == RECKONSTILE_V5);
     t = reckonstile_timer(&a, 1, 4, 99, uid, none, 0);
     EXPECT(t.number == RECKONSTILE_SENT && t.kind == RECKONSTILE_SEND_V5);
     struct reckonstile_decoded d;
@@ -163,11 +164,31 @@ int main(void) {
     d.mode = RECKONSTILE_MODE_REQUEST;
     EXPECT(reckonstile_reply_decoded(&a, d, none, 0, 0, 0, 10).number == RECKONSTILE_NOT_SERVER);
 
+    /* what the stash dropped: of nine cookies the first, of three bytes; then, where one is taken and two come, the oldest, of 700; on a refusal nothing */
+    uint8_t nine[39] = { 0xC0, 0x0E, 0, 3, 1, 2, 3 }, two[8];
+    for (int k = 0; k < 8; k++) memcpy(nine + 7 + 4 * k, "\xC0\x0E\0\0", 4);
+    for (int k = 0; k < 2; k++) memcpy(two + 4 * k, "\xC0\x0E\0\0", 4);
+    s.nts = 1;
+    m = reckonstile_new(&a, s, nine, sizeof nine);
+    EXPECT(m.number == RECKONSTILE_OK && m.made == 1 && m.dropped == 1 && m.lost == 3 && a.stash.held == 8);
+    a.stash.slots[(a.stash.read + 1) % 8].len = 700;
+    EXPECT(reckonstile_timer(&a, 1, 4, 99, uid, buffer, sizeof buffer).number == RECKONSTILE_SENT && a.stash.held == 7);
+    memset(&d.rate, 0, 5);
+    d.mode = RECKONSTILE_MODE_RESPONSE;
+    d.leap = RECKONSTILE_LEAP_UNKNOWN;
+    d.authenticated = RECKONSTILE_UID_AGREE;
+    d.encrypted = d.untrusted = RECKONSTILE_UID_ABSENT;
+    r = reckonstile_reply_decoded(&a, d, two, sizeof two, 0, 0, 2);
+    EXPECT(r.number == RECKONSTILE_OK && r.dropped == 1 && r.lost == 700);
+    m = reckonstile_new(&a, s, nine, sizeof nine - 1);
+    EXPECT(m.number == RECKONSTILE_BROKEN_LIST && !m.made && !m.dropped && !m.lost);
+    s.nts = 0;
+
     /* accept: the words of the Bloom filter, and the identifiers as numbers */
     uint32_t local[] = { 1, 0xC0000201 };
     s.start = RECKONSTILE_V4;
     s.source = 0xC0000201;
-    EXPECT(reckonstile_new(&a, s, none, 0) == RECKONSTILE_OK);
+    EXPECT(reckonstile_new(&a, s, none, 0).number == RECKONSTILE_OK);
     a.state.reach = 1;
     EXPECT(reckonstile_accept(&a, 16, local, 2, RECKONSTILE_BLOOM_NONE) == RECKONSTILE_STRATUM);
     EXPECT(reckonstile_accept(&a, 17, local, 2, RECKONSTILE_BLOOM_NONE) == RECKONSTILE_LOOP);

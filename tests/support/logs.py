@@ -41,7 +41,7 @@ class Logs:
 
     def list(self, longest=1000):
         found = b''
-        for _ in range(self.rng.choice((0, 1, 1, 2, 7, 8, 9))):
+        for _ in range(self.rng.choice((0, 1, 1, 2, 7, 8, 9, 12))):
             cookie = self.cookie_of()[:longest]
             if len(found) + 4 + len(cookie) <= 4000:
                 found += b'\xc0\x0e' + len(cookie).to_bytes(2, 'big') + cookie

@@ -35,7 +35,14 @@ class Log:
 
     def __init__(self, minimum, maximum, startup, window, mark, start, nts, source, first_cookies):
         self.min, self.max, self.startup, self.window, self.mark, self.nts, self.source = minimum, maximum, startup, window, mark, nts, source
-        self.start, self.polls, self.matched, self.cookies = start, [], [], list(first_cookies)[-SLOTS:]
+        self.start, self.polls, self.matched, self.cookies = start, [], [], []
+        self.store(first_cookies)
+
+    def store(self, more):
+        """keeps the newest cookies; how many of the oldest did not fit, and their bytes, in the drill's words"""
+        every = self.cookies + list(more) if self.nts else []
+        gone, self.cookies = every[:-SLOTS], every[-SLOTS:]
+        self.dropped = 'dropped=%d lost=%d' % (len(gone), sum(map(len, gone)))
 
     # ---- what the log says of the moment
 
@@ -140,7 +147,7 @@ class Log:
         else:
             number = 0
             poll.measured = True
-            self.cookies = (self.cookies + new_cookies)[-SLOTS:] if self.nts else []
+            self.store(new_cookies)
         self.matched.append(('reply', number))
         self.stratum = stratum if number == 0 else getattr(self, 'stratum', 16)
         return number

@@ -22,8 +22,8 @@ static struct reckonstile_decoded decoded;
 static volatile uint32_t number;
 
 static void nothing(void) { number = 0; }
-static void new_(void) { number = reckonstile_new(&a, settings, list, sizeof list); }
-static void metered(void) { number = reckonstile_metered(&a, settings, list, sizeof list); }
+static void new_(void) { number = reckonstile_new(&a, settings, list, sizeof list).number; }
+static void metered(void) { number = reckonstile_metered(&a, settings, list, sizeof list).number; }
 static void profile(void) { number = reckonstile_profile(settings, list, sizeof list); }
 static void timer(void) { number = reckonstile_timer(&a, 1000, 6, 1, uid, buffer, sizeof buffer).number; }
 static void reply(void) { number = reckonstile_reply(&a, packet, sizeof packet, 84, decrypted, sizeof decrypted, list, 104, 1, 2, 2000).number; }

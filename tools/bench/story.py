@@ -204,9 +204,15 @@ def why(step):
     return step.row.says
 
 
+def dropped(step):
+    """what fell out of the stash while cookies were stored; nothing where nothing did"""
+    n = int(step.gave.get('dropped', 0))
+    return '; %d cookie%s did not fit and fell out (%s bytes)' % (n, '' if n == 1 else 's', step.gave['lost']) if n else ''
+
+
 def measured(step):
     g = step.gave
-    return 'offset %s, delay %s, stratum %s' % (human.milliseconds(int(g['offset']), sign=True), human.milliseconds(int(g['delay'])), g['stratum'])
+    return 'offset %s, delay %s, stratum %s%s' % (human.milliseconds(int(g['offset']), sign=True), human.milliseconds(int(g['delay'])), g['stratum'], dropped(step))
 
 
 def settings(g):
@@ -215,7 +221,7 @@ def settings(g):
 
 
 def made(step):
-    return settings(step.given)
+    return settings(step.given) + dropped(step)
 
 
 def in_file(f):

@@ -29,7 +29,7 @@ from inplace import *
 
 Fn.by = 'mkcalls.py'
 CRATE = 'calls'
-STA, STATE, KIND = struct('CookieStash', 'Sta'), struct('State', 'Sm'), struct('Kind', 'What')
+STA, STATE, KIND, DROP = struct('CookieStash', 'Sta'), struct('State', 'Sm'), struct('Kind', 'What'), struct('Dropped', 'Drop')
 L = lambda *a: lambda w: w.loc(*a)
 LIT = lambda w: '(lit ! tt)'
 code = lambda s: listed(str(ord(x)) for x in s)
@@ -55,11 +55,11 @@ def ready():
     room = Callee('room', CRATE, 'with_held', [], lambda: dict(lfts=[], args=[value(STA, 'h .stash', 's-is'), value(USIZE, 'held', 'h-is')], says=None), STA, ['Unit {0}', 'Unit {0}'])
     after = Callee('after', 'lent_stash', 'refill', [('β', 'ℕ'), ('δ', 'GName'), ('s', 'CookieStash')],
                    lambda β, δ, s: dict(lfts=[(β + ' ∷ []', 'fullShare', 'tok' + β), ('κ1', 'q1', 'tok1')], args=[stash(β, δ, s), value(U8, '8', 'c-is'), value(BOOL, 'stores', 's-is'), shared('list', l)],
-                                     says=lambda r, ws: '%s .0 ≡ cond stores (storeListOf 8 %s (list .now)) %s' % (ws, s, s)), UNIT, ['CookieStash', 'Unit {0}', 'Unit {0}', 'Unit {0}'])
+                                     says=lambda r, ws: '(%s .0 ≡ cond stores (storeListOf 8 %s (list .now)) %s) × (%s ≡ cond stores (droppedOf 8 %s (list .now)) noneDropped)' % (ws, s, s, r, s)), DROP, ['CookieStash', 'Unit {0}', 'Unit {0}', 'Unit {0}'])
     f = Fn(CRATE, 'ready', 'mut', 'Association', 'Rec', params, UNIT, None, [rule, room, after],
            'The borrow is opened; the state is copied and passed to `put_back`, and what comes back is stored where the old one lay; so is the stash, with `with_held`; the stash, where it lies, is lent to `refill`; the borrow is closed.',
-           LENT + 'use Rattle.cookiestash.specs.StoreList.{storeListOf}\nuse Rattle.lent_stash.proofs.Lends.{lies-in, lies-out, lies-told, field-out, FieldBack, field-back}\n',
-           [('Association', 'Rec', 'association'), ('Settings', 'Set', 'association'), ('State', 'Sm', 'association'), ('CookieStash', 'Sta', 'cookiestash'), ('Kind', 'What', CRATE)])
+           LENT + 'use Rattle.cookiestash.specs.StoreList.{storeListOf}\nuse Rattle.cookiestash.specs.Falling.{noneDropped, droppedOf}\nuse Rattle.lent_stash.proofs.Lends.{lies-in, lies-out, lies-told, field-out, FieldBack, field-back}\n',
+           [('Association', 'Rec', 'association'), ('Settings', 'Set', 'association'), ('State', 'Sm', 'association'), ('CookieStash', 'Sta', 'cookiestash'), ('Dropped', 'Drop', 'cookiestash'), ('Kind', 'What', CRATE)])
     owed = 'LL.owed Rec.the-type Rec′.the-laws y vs g'
     f.moredefs = '''-- what whoever holds a record knows of its parts
 sta-is : (y : Association) (vs : List Val) → Is Rec.the-row y vs → Is Sta.the-row (y .stash) (Sta-val (y .stash) ∷ [])
@@ -85,8 +85,8 @@ dist = up (align Sta′.mir) (up (align Set′.mir) zero + size Set′.mir)
 
 '''
     field = lambda k: 'place 1 (deref (%s) ∷ field %d ∷ [])' % (REC, k)
-    tys = ['tyUnit', 'tyRef (named 0) mut τ-to', 'τ-kind', 'tyInt w64', 'tyBool', l.mir, 'τ-sm', 'τ-sm', 'τ-sta', 'τ-sta', 'tyUnit', 'tyRef erased mut τ-sto']
-    names = 'τ-to τ-sto τ-set τ-sta τ-sm τ-kind'
+    tys = ['tyUnit', 'tyRef (named 0) mut τ-to', 'τ-kind', 'tyInt w64', 'tyBool', l.mir, 'τ-sm', 'τ-sm', 'τ-sta', 'τ-sta', 'τ-drop', 'tyRef erased mut τ-sto']
+    names = 'τ-to τ-sto τ-set τ-sta τ-sm τ-kind τ-drop'
     fn = '(shape ν %s)' % names
     mir = '''-- the function, over any types of the record's groups (τ-to and τ-sto are the names of the record and of the stash, behind a reference) and of the kind of call
 abbrev shape : Sym → (%s : Ty) → Fn
@@ -116,12 +116,13 @@ shape ν %s =
     β = [('β ∷ []', 'fullShare', 'tokβ'), ('κ1', 'q1', 'tok1')]
     vals = ['vptr b o', 'kind', 'vint w64 held', 'vbool stores', 'slice-val list']
     o = mir + '''-- The walk, over any rows of the groups and any machine values: it asks only that these are of their types.
-module _ (Rec Set Sta Sm : RattleType) (set : Set .Denot → Val) (sta : Sta .Denot → Val) (sm : Sm .Denot → Val)
+module _ (Rec Set Sta Sm Drop : RattleType) (set : Set .Denot → Val) (sta : Sta .Denot → Val) (sm : Sm .Denot → Val)
     (settings : Rec .Denot → Set .Denot) (stash : Rec .Denot → Sta .Denot) (state : Rec .Denot → Sm .Denot) (with : Rec .Denot → Sta .Denot → Sm .Denot → Rec .Denot)
     (ν : Sym) (%s : Ty) (rec-mir : Rec .mir ≡ %s ∷ []) (sta-mir : Sta .mir ≡ τ-sta ∷ [])
     (rec-tells : Tells Rec (Is Rec) (λ y. %s ∷ [])) (sta-tells : Tells Sta (Is Sta) (λ y. sta y ∷ [])) (sm-tells : Tells Sm (Is Sm) (λ y. sm y ∷ []))
     (sm-typed : (y : Sm .Denot) (v : Val) → Is Sm y (v ∷ []) → T (hasTy τ-sm v) × WT v)
     (sta-typed : (y : Sta .Denot) (v : Val) → Is Sta y (v ∷ []) → T (hasTy τ-sta v) × WT v)
+    (drop-typed : (y : Drop .Denot) (v : Val) → Is Drop y (v ∷ []) → T (hasTy τ-drop v) × WT v)
     (sta-is : (y : Rec .Denot) (vs : List Val) → Is Rec y vs → Is Sta (stash y) (sta (stash y) ∷ []))
     (sm-is : (y : Rec .Denot) (vs : List Val) → Is Rec y vs → Is Sm (state y) (sm (state y) ∷ []))
     (with-is : (y : Rec .Denot) (w : Sta .Denot) (s : Sm .Denot) (vs : List Val) → Is Rec y vs → Is Sta w (sta w ∷ []) → Is Sm s (sm s ∷ []) → Is Rec (with y w s) (%s ∷ []))
@@ -144,14 +145,14 @@ module _ (Rec Set Sta Sm : RattleType) (set : Set .Denot → Val) (sta : Sta .De
 
   -- what is known of the calls, and how it ends
   module _ (PreR : SProp 𝓤) (BackR : Val → SProp 𝓤) (EnsuredR : Sm .Denot → SProp 𝓤) (PreH : SProp 𝓤) (BackH : Val → SProp 𝓤) (EnsuredH : Sta .Denot → SProp 𝓤)
-      (PreA : ℕ → GName → Sta .Denot → SProp 𝓤) (BackA : ℕ → GName → Sta .Denot → Val → SProp 𝓤) (EnsuredA : ℕ → GName → Sta .Denot → Unit {0} → SProp 𝓤) (Post : Val → SProp 𝓤)
+      (PreA : ℕ → GName → Sta .Denot → SProp 𝓤) (BackA : ℕ → GName → Sta .Denot → Val → SProp 𝓤) (EnsuredA : ℕ → GName → Sta .Denot → Drop .Denot → SProp 𝓤) (Post : Val → SProp 𝓤)
       (goes-rule : Is Sm (state h) (sm (state h) ∷ []) → ent 𝓤 (⋆ 𝓤 H A (‵ ftrue ∷ [])) PreR)
       (comes-rule : (v : Val) → ent 𝓤 (BackR v) (mean 𝓤 H A (later (some (λ (r : Sm .Denot). (‵ ftrue ⊛ ‵ (Sm .own r (v ∷ []))) ⊛ raw (EnsuredR r))))))
       (goes-room : Is Sta (stash h) (sta (stash h) ∷ []) → ent 𝓤 (⋆ 𝓤 H A (‵ ftrue ∷ [])) PreH)
       (comes-room : (v : Val) → ent 𝓤 (BackH v) (mean 𝓤 H A (later (some (λ (r : Sta .Denot). (‵ ftrue ⊛ ‵ (Sta .own r (v ∷ []))) ⊛ raw (EnsuredH r))))))
       (goes-after : (β : ℕ) (δ : GName) (s : Sta .Denot) → ent 𝓤 (⋆ 𝓤 H A (%s)) (PreA β δ s))
-      (comes-after : (β : ℕ) (δ : GName) (s : Sta .Denot) (v : Val) → ent 𝓤 (BackA β δ s v) (mean 𝓤 H A (later (some (λ (r : Unit {0}). (%s ⊛ ‵ (unit .own r (v ∷ []))) ⊛ raw (EnsuredA β δ s r))))))
-      (said-after : (β : ℕ) (δ : GName) (s : Sta .Denot) (r : Unit {0}) → ent 𝓤 (EnsuredA β δ s r) (mean 𝓤 H A (some (λ (w : Sta .Denot). ‵ (fres δ (Sta .coded .code w))))))
+      (comes-after : (β : ℕ) (δ : GName) (s : Sta .Denot) (v : Val) → ent 𝓤 (BackA β δ s v) (mean 𝓤 H A (later (some (λ (r : Drop .Denot). (%s ⊛ ‵ (Drop .own r (v ∷ []))) ⊛ raw (EnsuredA β δ s r))))))
+      (said-after : (β : ℕ) (δ : GName) (s : Sta .Denot) (r : Drop .Denot) → ent 𝓤 (EnsuredA β δ s r) (mean 𝓤 H A (some (λ (w : Sta .Denot). ‵ (fres δ (Sta .coded .code w))))))
       (exits : (s : Sm .Denot) (w : Sta .Denot) → ent 𝓤 (⋆ 𝓤 H A (%s)) (Post vunit))
       (C : Calls 𝓤 H) (Λ : Loops 𝓤 H) (fm : FmC 𝓤 H (W .laws) C)
       (known-rule : ent 𝓤 PreR (C #calls·put-back (sm (state h) ∷ kind ∷ []) BackR))
@@ -205,13 +206,13 @@ module _ (Rec Set Sta Sm : RattleType) (set : Set .Denot → Val) (sta : Sta .De
     w.top(k, "the callee's")
     ops = ''.join('(and-then ! %s ' % x(w) for x in [L(11), LIT, L(4), L(5)]) + '(no-more !)' + ')' * 4
     w.emit('calls-from ! fm (raw (PreA β δ₂ rh)) (vptr b %s ∷ vint w8 8 ∷ vbool stores ∷ slice-val list ∷ []) (BackA β δ₂ rh) (known-after β δ₂ rh) %s (λ va.' % (AT, ops))
-    w.emit('use1 W (later (some (λ (r : Unit {0}). (%s ⊛ ‵ (unit .own r (va ∷ []))) ⊛ raw (EnsuredA β δ₂ rh r)))) (comes-after β δ₂ rh va) $ await ! tt $ pick ! (λ ra. split ! $ move ! (1 ∷ []) $' % Callee.toks(β))
+    w.emit('use1 W (later (some (λ (r : Drop .Denot). (%s ⊛ ‵ (Drop .own r (va ∷ []))) ⊛ raw (EnsuredA β δ₂ rh r)))) (comes-after β δ₂ rh va) $ await ! tt $ pick ! (λ ra. split ! $ move ! (1 ∷ []) $' % Callee.toks(β))
     w.emit('use1 W (some (λ (w : Sta .Denot). ‵ (fres δ₂ (Sta .coded .code w)))) (said-after β δ₂ rh ra) $ pick ! (λ w.')
     w.top(1, 'resδ₂', 'result')
-    t = w.front('result') + 'split ! $ move ! (1 ∷ []) $ peeks ! unit (Is unit) (shows 𝓤 H A unit) ra (va ∷ []) (λ isa. drop ! $ '
+    t = w.front('result') + 'split ! $ move ! (1 ∷ []) $ peeks ! Drop (Is Drop) (shows 𝓤 H A Drop) ra (va ∷ []) (λ isa. drop ! $ '
     w.top(1, 'toks')
     w.emit(t + w.untokens(['tokβ', 'tok1']))
-    w.emit('land ! (from ! (stop !)) (init ! %d refl (nothing-lawful 𝓤 H A W .typed ra _ isa .0)) $' % w.i('L10'))
+    w.emit('land ! (from ! (stop !)) (init ! %d refl (drop-typed ra va isa)) $' % w.i('L10'))
     w.changed(any_sta, LIES, 'stash', 'w', 'β', 'δ₂', AT, 'gw')
     w.puts_back(*fld, 'stash', 'the way back', 'record', REC, 'sta w', 'new w rr')
     w.note()
@@ -230,7 +231,7 @@ module _ (Rec Set Sta Sm : RattleType) (set : Set .Denot → Val) (sta : Sta .De
     b = after.build('β', 'δ', 's')
     κs, xs = after.ensured(b)
     says = b['says']('r', 'ws')
-    p += '''  said-after : (β : ℕ) (δ : GName) (s : CookieStash) (r : Unit {0}) → ent 𝓤 (E-after β δ s r) (mean 𝓤 H A (some (λ (w : CookieStash). ‵ (fres δ (Sta.the-row .coded .code w)))))
+    p += '''  said-after : (β : ℕ) (δ : GName) (s : CookieStash) (r : Dropped) → ent 𝓤 (E-after β δ s r) (mean 𝓤 H A (some (λ (w : CookieStash). ‵ (fres δ (Sta.the-row .coded .code w)))))
   said-after β δ s r =
       qed W (raw (E-after β δ s r) ∷ []) ∵ use1 W (some (λ (ws : %s). ‵ (lasts after.ended %s %s ws) ⊛ raw (fact 𝓤 (%s)))) (id⊢ 𝓤 _) $ pick ! (λ ws. split ! $ move ! (1 ∷ []) $ drop ! $ fsplit ! $ move ! (1 ∷ []) $ drop ! $
       show ! (λ (w : CookieStash). mean 𝓤 H A (‵ (fres δ (Sta.the-row .coded .code w)))) (ws .0) $ done !)
@@ -239,9 +240,9 @@ module _ (Rec Set Sta Sm : RattleType) (set : Set .Denot → Val) (sta : Sta .De
     p += f.section()
     w = f.laid_out()
     w.emit(w.front(*ctx) + 'by ! (walkᵃ')
-    for a in ['Rec.the-row Set.the-row Sta.the-row Sm.the-row Set-val Sta-val Sm-val (λ y. y .settings) (λ y. y .stash) (λ y. y .state) with',
-              '(%s) (tyNamed (%s, [])) (tyNamed (%s, [])) Set′.mir Sta′.mir Sm′.mir What′.mir refl refl' % (code('association::Association'), code('association::Association'), code('cookiestash::CookieStash')),
-              '(LL.tells Rec.the-type Rec′.the-laws) (LL.tells Sta.the-type Sta′.the-laws) (LL.tells Sm.the-type Sm′.the-laws) (λ y v g. %s) (λ y v g. %s)' % (STATE.typed('y', 'g'), STA.typed('y', 'g')),
+    for a in ['Rec.the-row Set.the-row Sta.the-row Sm.the-row Drop.the-row Set-val Sta-val Sm-val (λ y. y .settings) (λ y. y .stash) (λ y. y .state) with',
+              '(%s) (tyNamed (%s, [])) (tyNamed (%s, [])) Set′.mir Sta′.mir Sm′.mir What′.mir Drop′.mir refl refl' % (code('association::Association'), code('association::Association'), code('cookiestash::CookieStash')),
+              '(LL.tells Rec.the-type Rec′.the-laws) (LL.tells Sta.the-type Sta′.the-laws) (LL.tells Sm.the-type Sm′.the-laws) (λ y v g. %s) (λ y v g. %s) (λ y v g. %s)' % (STATE.typed('y', 'g'), STA.typed('y', 'g'), DROP.typed('y', 'g')),
               'sta-is sm-is with-is 𝓤 H A W (LL.makes Rec.the-type Rec′.the-plain 𝓤 H A) (LL.makes Sta.the-type Sta′.the-plain 𝓤 H A)',
               'κ κ1 q q1 b o γ h (What-val kind) held stores list %s (%s .1) list-is' % (KIND.typed('kind', 'kind-is'), USIZE.typed('held', 'held-is')),
               '(C-rule 𝓤 H A at-mem run .pre to-rule) (C-rule 𝓤 H A at-mem run .post to-rule) E-rule (C-room 𝓤 H A at-mem run .pre to-room) (C-room 𝓤 H A at-mem run .post to-room) E-room (λ β δ s. C-after 𝓤 H A at-mem run .pre (to-after β δ s)) (λ β δ s. C-after 𝓤 H A at-mem run .post (to-after β δ s)) E-after Post',
@@ -252,12 +253,12 @@ module _ (Rec Set Sta Sm : RattleType) (set : Set .Denot → Val) (sta : Sta .De
 
 
 class Loop:
-    """`call`: the crate and the function that each turn lends the record to; `passed`: the parameters that it is given; `answer`: the type of its result, with its crate; `params`: the parameters
+    """`call`: the crate and the function that each turn lends the record to; `passed`: the parameters that it is given; `answer`: the type of its result, with its crate and what it is; `params`: the parameters
     after `stores`; `ensures`: what the call ensures of its answer r and its last values ws"""
 
     def __init__(self, fn, call, answer, params, passed, ensures, uses, structs):
         self.fn, self.call, self.answer, self.passed, self.ensures, self.uses, self.structs = fn, call, answer, passed, ensures, uses, structs
-        self.params = [('calls', U64), ('calling', BOOL), ('before', enum(answer[0], 'Ans')), ('kind', KIND), ('held', USIZE), ('stores', BOOL)] + params
+        self.params = [('calls', U64), ('calling', BOOL), ('before', answer[2](answer[0], 'Ans')), ('kind', KIND), ('held', USIZE), ('stores', BOOL)] + params
         self.types = dict(self.params)
         self.at = {p: 2 + k for k, (p, _) in enumerate(self.params)}
         self.slices = [(p, t) for p, t in self.params if isinstance(t, Slice)]
@@ -602,7 +603,7 @@ module _ (Rec Ans : RattleType) (ans : Ans .Denot → Val) (%s : Ty)
         cl = Callee('call', self.call[0], self.call[1], formals, build, ans, ['Association'] + ['List ℕ' if p == B else 'Unit {0}' for p in self.passed])
         f = Fn(CRATE, self.fn, 'mut', 'Association', 'Rec', self.params, ans, None, [rd, cl],
                'In each turn the lent record is lent once more, to `ready` and to `%s`, for a lifetime of its own, and comes back once that has ended.' % self.call[1], LENT + self.uses, structs, tables=True)
-        f.enums = [(self.answer[0], 'Ans', self.answer[1])]
+        f.enums = [(self.answer[0], 'Ans', self.answer[1])] if self.answer[2] is enum else []
         walk = re.sub(r'(?<![\w·°′.-])(ref|over)(?![\w·°′.-])', r'\1°', self.walk())   # at its own types these names are had once more
         head = f.head()
         cut, val = head.index('abbrev stayed'), head.index('abbrev slice-val')
@@ -629,7 +630,7 @@ module _ (Rec Ans : RattleType) (ans : Ans .Denot → Val) (%s : Ty)
         rest = ''.join(' %s-is' % x for x in self.passed if not isinstance(self.types[x], Slice))
         more = (' zs', ' n') if B else ('', '')
         for a in ['Rec.the-row Ans.the-row Ans-val (tyNamed (%s, [])) Rec′.mir Ans′.mir %s' % (code('association::Association'), ' '.join(atom(self.types[x].mir) for x in self.vars)),
-                  '(EL.tells Ans.the-type Ans′.the-laws) (λ y v g. %s)' % ans.typed('y', 'g'),
+                  '(%s) (λ y v g. %s)' % (ans.tells, ans.typed('y', 'g')),
                   '𝓤 H A W %s %s b o γ h calls calling before %s' % (' '.join(k for k, _, _ in f.lfts), ' '.join(q for _, q, _ in f.lfts), ' '.join(x if isinstance(t, Slice) else atom(t.v(x)) for x, t in self.params[3:])),
                   '(%s .1) before-is %s' % (U64.typed('calls', 'calls-is'), ' '.join(x + '-is' if isinstance(t, Slice) else t.typed(x, x + '-is') for x, t in self.params[3:])),
                   '(λ α δ y. C-ready 𝓤 H A at-mem run .pre (to-ready α δ y)) (λ α δ y. C-ready 𝓤 H A at-mem run .post (to-ready α δ y)) E-ready',
@@ -642,14 +643,14 @@ module _ (Rec Ans : RattleType) (ans : Ans .Denot → Val) (%s : Ty)
 
 
 def timers():
-    return Loop('timers', ('timer', 'timer'), ('TimerAnswer', 'timer_rules'), [('time', U64), ('desired', struct('PollInterval', 'Poll')), ('id', U64), ('uid', array(32)), ('list', Slice('shr', 1)), ('buffer', Slice('mut', 2))],
+    return Loop('timers', ('timer', 'timer'), ('TimerAnswer', 'timer_rules', enum), [('time', U64), ('desired', struct('PollInterval', 'Poll')), ('id', U64), ('uid', array(32)), ('list', Slice('shr', 1)), ('buffer', Slice('mut', 2))],
                 ['time', 'desired', 'id', 'uid', 'buffer'], lambda r, ws, y, zs: 'timed (out %s %s) %s ≡ timedOf %s (timerInput time desired id uid) %s' % (r, path(ws, 0), path(ws, 5), y, zs),
                 'use Rattle.timer_rules.specs.Poll.{timerInput}\nuse Rattle.timer.specs.Timer.{out, timed, timedOf}\n', [('PollInterval', 'Poll', 'time_types')]).proof()
 
 
 def replies():
     time = struct('NtpTimestamp', 'Time')
-    return Loop('replies', ('reply', 'reply'), ('ReplyAnswer', 'reply_rules'), [('packet', Slice('shr', 1)), ('end', USIZE), ('decrypted', Slice('shr', 2)), ('list', Slice('shr', 3)), ('t1', time), ('t4', time), ('time', U64)],
+    return Loop('replies', ('reply', 'reply'), ('Replied', 'reply', struct), [('packet', Slice('shr', 1)), ('end', USIZE), ('decrypted', Slice('shr', 2)), ('list', Slice('shr', 3)), ('t1', time), ('t4', time), ('time', U64)],
                 ['packet', 'end', 'decrypted', 'list', 't1', 't4', 'time'], None, '', [('NtpTimestamp', 'Time', 'time_types')]).proof()
 
 

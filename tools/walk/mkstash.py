@@ -5,11 +5,13 @@ from inplace import *
 
 CRATE = 'lent_stash'
 OWN = 'Rattle.lent_stash.proofs.'
-LENT = 'use Rattle.lent_stash.specs.Lent.{slotSeen, weighedOf, wrote, handedOf, changed, clearedOf, Stored, Stores, startOf}\n'
+LENT = 'use Rattle.lent_stash.specs.Lent.{slotSeen, weighedOf, wrote, handedOf, changed, clearedOf, Stores, startOf, Small, pushedOut, Advanced}\n'
+FALLS = 'use Rattle.cookiestash.specs.Falling.{oldestOf, noneDropped, plusOf, Fit}\n'
 STASH = 'use Rattle.cookiestash.specs.Stash.{stored, slotAt, rangeOf, getOf}\n'
-S, T, N, U, G = struct('Slot', 'S'), struct('CookieStash', 'T'), struct('SlotSeen', 'N'), struct('Change', 'U'), struct('Seen', 'G')
+S, T, N, U, G, P, D = struct('Slot', 'S'), struct('CookieStash', 'T'), struct('SlotSeen', 'N'), struct('Change', 'U'), struct('Seen', 'G'), struct('Progress', 'P'), struct('Dropped', 'D')
 BYTES = array(724)
 SLOT_T, STASH_T, SEEN_T, CHANGE_T, SLOTSEEN_T = ('Slot', 'S', 'cookiestash'), ('CookieStash', 'T', 'cookiestash'), ('Seen', 'G', 'cookiestash'), ('Change', 'U', CRATE), ('SlotSeen', 'N', CRATE)
+PROGRESS_T, DROPPED_T = ('Progress', 'P', CRATE), ('Dropped', 'D', 'cookiestash')
 Fn.by = 'mkstash.py'
 
 LIES = ('𝓤 H A W T.the-row T-val T′.mir refl (LL.tells T.the-type T′.the-laws) (LL.makes T.the-type T′.the-plain 𝓤 H A)', 'fullShare')
@@ -102,6 +104,14 @@ BYTES_REF = Arg('lent δ', 'vptr b ' + BYTES_AT, item='the reference', own='‵ 
 IN_SLOT = ('q′', 0, BYTES.mir, '0', SLOT_AT, 'ofList (bytes-val bs ∷ vint w16 (cell .len) ∷ [])')
 
 
+def slot_back(w):
+    """the slot at `i` goes back where it was"""
+    w.emit('rewrite ! 0 (λ (u : R .Denot). ‵ (fat q′ S′.mir b %s (val u))) (sym found) refl $ ' % SLOT_AT + w.front('slot', 'the other slots'))
+    w.emit('use2 W (given (Is (Array R 8) (parts h) (slots (parts h) ∷ [])) (‵ (fat q′ (%s) b (o + 0) (slots (parts h))))) (elem-back %s none req (%s .1 .0 .1) gs) $ learn ! (λ _.' % (ARR, ELEM % ('q′', 'i'), OWED))
+    w.top(2, 'slots')
+    w.puts_back('q′', 0, ARR, '0', 'o', 'fields h', 'slots', 'the way back', 'stash', 'T′.mir', 'slots (parts h)', 'T-val h')
+
+
 def bytes_lent(w, slot, length, bytes_, first, calls):
     """the slot at `i`: its address, its length and its bytes go to locals, the bytes are lent while `calls` runs, and all is put back"""
     w.looks('T', 'stash')
@@ -120,10 +130,7 @@ def bytes_lent(w, slot, length, bytes_, first, calls):
     calls[1](w)
     w.returned(BYTES, BYTES_LIE, 'bytes', 'bs', 'α', BYTES_AT)
     w.puts_back(*IN_SLOT, 'bytes', 'the way back to the slot', 'slot', 'S′.mir', 'bytes-val bs', 'val (into cell)')
-    w.emit('rewrite ! 0 (λ (u : R .Denot). ‵ (fat q′ S′.mir b %s (val u))) (sym found) refl $ ' % SLOT_AT + w.front('slot', 'the other slots'))
-    w.emit('use2 W (given (Is (Array R 8) (parts h) (slots (parts h) ∷ [])) (‵ (fat q′ (%s) b (o + 0) (slots (parts h))))) (elem-back %s none req (%s .1 .0 .1) gs) $ learn ! (λ _.' % (ARR, ELEM % ('q′', 'i'), OWED))
-    w.top(2, 'slots')
-    w.puts_back('q′', 0, ARR, '0', 'o', 'fields h', 'slots', 'the way back', 'stash', 'T′.mir', 'slots (parts h)', 'T-val h')
+    slot_back(w)
     w.note()
 
 
@@ -153,6 +160,27 @@ def slot_at():
     w.shuts('T', 'stash')
     w.returns(range(9, -1, -1), f.keep, 'exits (seen rp) (%s) (tested rp ep)' % known)
     return o + '    %s\n    walk =\n' % f.walk_type() + w.text() + '\n\n' + f.tie()
+
+
+def length_at():
+    f = Fn(CRATE, 'length_at', 'shr', 'CookieStash', 'T', [('i', USIZE)], U16, 'r ≡ slotAt (h .slots) i .len', [],
+           'The shared borrow is looked into; of the share of the stash\'s cell the slot at the index is taken out and its length is read; then all is put back and the borrow is shut.',
+           STASH + LENT + LENDS, [SLOT_T, STASH_T], requires='i < 8', defs=SLOTS + BYTES_VAL)
+    o = f.head() + f.frame(CELL + FITS % 'i') + f.section().replace(' (fm : FmC 𝓤 H (W .laws) C) ', '')
+    w = f.begin(7)
+    w.looks('T', 'stash')
+    w.note()
+    index(w, 'i', L(2), 4, 5, 6)
+    w.addr(3, 6)
+    slot_out(w, 'q′', 'i')
+    w.emit('rewrite ! 0 (λ (u : R .Denot). ‵ (fat q′ S′.mir b %s (val u))) found refl $' % SLOT_AT)
+    w.note()
+    w.opd(0, w.behind(3, 'slot', 1), U16.typed('cell .len', 'len-is gs'))
+    slot_back(w)
+    w.shuts('T', 'stash')
+    w.returns(range(6, -1, -1), f.keep, 'exits (cell .len) (len-is gs) refl')
+    t = f.tie().replace('C Λ fm', 'C Λ').replace(' → FmC 𝓤 H (W .laws) C', '').replace('(𝓣 .C) (𝓣 .Λ) (fmOf 𝓤 H (W .laws) 𝓣)', '(𝓣 .C) (𝓣 .Λ)')
+    return o + '    %s\n    walk =\n' % f.walk_type() + w.text() + '\n\n' + t
 
 
 def give():
@@ -359,69 +387,106 @@ off-is false z = refl
 
 def store_next():
     l = Slice('shr', 1)
-    step = Callee('step', CRATE, 'step', [], lambda: dict(lfts=[('κ1', 'q1', 'tok1')], args=[shared('list', l), value(USIZE, 'from-at', 'p-is'), value(U8, 'capacity', 'c-is')] + PLACE,
-                                                        requires='rangeOf capacity (h .read) (h .held) ≡ true', says=lambda r, ws: 'Stores capacity (list .now) from-at (h .read) (h .held) %s' % r), U)
-    f = Fn(CRATE, 'store_next', 'mut', 'CookieStash', 'T', [CAP, ('list', l), ('from-at', USIZE)], USIZE, 'Stored capacity h (list .now) from-at r w', [step, APPLY],
-           'The borrow is opened; the place and the count are read; `step` says what is to be stored; the stash, where it lies, is lent to `apply`; the borrow is closed.',
-           STASH + LENT + LENDS, [STASH_T, CHANGE_T], requires='rangeOf capacity (h .read) (h .held) ≡ true')
-    o = f.head() + f.frame(ISES) + f.section()
-    w = f.begin(10)
+    length = Callee('long', CRATE, 'length_at', [('α', 'ℕ'), ('δ', 'GName')],
+                    lambda α, δ: dict(lfts=[(α + ' ∷ []', 'fullShare', 'tok' + α)], args=[ref('shr', α, 'h', δ), PLACE[0]], requires='h .read < 8', says=lambda r, ws: '%s ≡ slotAt (h .slots) (h .read) .len' % r), U16)
+    step = Callee('step', CRATE, 'step', [], lambda: dict(lfts=[('κ1', 'q1', 'tok1')], args=[shared('list', l), value(USIZE, 'p .at', 'a-is'), value(U8, 'capacity', 'c-is')] + PLACE,
+                                                        requires='rangeOf capacity (h .read) (h .held) ≡ true', says=lambda r, ws: 'Stores capacity (list .now) (p .at) (h .read) (h .held) %s' % r), U)
+    on = Callee('advanced', CRATE, 'advanced', [('old', 'ℕ'), ('end', 'ℕ')],
+                lambda old, end: dict(lfts=[], args=[value(U8, 'capacity', 'c-is'), PLACE[1], value(U16, old, 'o-is'), value(D, 'p .dropped', 'd-is'), value(USIZE, end, 'e-is')],
+                                      requires='Fit (plusOf (p .dropped) (pushedOut capacity (h .held) %s))' % atom(old),
+                                      says=lambda r, ws: '%s ≡ record { at = %s; dropped = plusOf (p .dropped) (pushedOut capacity (h .held) %s) }' % (r, end, atom(old))), P)
+    f = Fn(CRATE, 'store_next', 'mut', 'CookieStash', 'T', [CAP, ('list', l), ('p', P)], P, 'Advanced capacity h (list .now) p r w', [length, step, APPLY, on],
+           'The borrow is opened; the place and the count are read; the stash, where it lies, is lent to `length_at`; `step` says what is to be stored; the stash is lent to `apply`; `advanced` adds what fell out; the borrow is closed.',
+           STASH + LENT + FALLS + 'use Rattle.cookiestash.proofs.Range.{within}\nuse %sRefilled.{fit-pushed, advances}\n' % OWN + LENDS, [STASH_T, CHANGE_T, PROGRESS_T, DROPPED_T],
+           requires='(rangeOf capacity (h .read) (h .held) ≡ true) × Fit (plusOf (p .dropped) (oldestOf capacity h))')
+    owed = 'LL.owed P.the-type P′.the-laws p _ p-is'
+    laws = ISES + '''  at-is : Is usize (p .at) (vint w64 (p .at) ∷ [])
+  at-is = %s .0
+
+  dropped-is : Is D.the-row (p .dropped) (D-val (p .dropped) ∷ [])
+  dropped-is = %s .1 .0
+
+  read-in : h .read < 8
+  read-in = omega (arith, within capacity (h .read) (h .held) (req .0))
+
+''' % (owed, owed)
+    o = f.head() + f.frame(laws) + f.section()
+    w = f.begin(12)
     w.opens('T', 'stash')
     w.note()
     w.opd(5, w.behind(1, 'stash', 1), READ)
     w.opd(6, w.behind(1, 'stash', 2), HELD)
-    w.twice('list', l)
-    step.call(w, [L(3), L(4), L(2), L(5), L(6)], ['from-at-is', 'capacity-is', 'read-is g', 'held-is g', 'req'], 7, s='c')
-    w.note()
     w.addr(9, 1)
+    lends(w, 'shr', 'h', 'g', 'α', 'δ')
+    length.call(w, [L(9), L(5)], ['read-is g', 'read-in'], 7, s='l')
+    w.returned(T, LIES, 'stash', 'h', 'α', 'o')
+    w.note()
+    w.twice('list', l)
+    step.call(w, [L(3), L(4, 0), L(2), L(5), L(6)], ['at-is', 'capacity-is', 'read-is g', 'held-is g', 'req .0'], 8, s='c')
+    w.note()
+    w.addr(11, 1)
     lends(w, 'mut', 'h', 'g', 'β', 'δ₂')
-    APPLY.call(w, [L(9), L(7)], [step.is_told('c'), 'ec .0'], 8, actuals=['β', 'δ₂', 'rc'], s='2')
+    APPLY.call(w, [L(11), L(8)], [step.is_told('c'), 'ec .0'], 10, actuals=['β', 'δ₂', 'rc'], s='2')
     w.changed(T, LIES, 'stash', '(ws2 .0)', 'β', 'δ₂', 'o', 'gw')
     w.note()
     end = '(LL.owed U.the-type U′.the-laws rc _ isc .1 .1 .1 .1 .0)'
-    w.opd(0, w.loc(7, 4), USIZE.typed('rc .end', end))
+    on.call(w, [L(2), L(6), L(7), L(4, 1), L(8, 4)], ['capacity-is', 'held-is g', length.is_told('l'), 'dropped-is', end, 'fit-pushed capacity h (p .dropped) rl el (req .1)'], 0, actuals=['rl', '(rc .end)'], s='a')
     w.closes('T', 'stash', '(ws2 .0)', 'gw')
-    w.returns(range(9, -1, -1), f.keep, 'exits (rc .end) (ws2 .0) %s (λ start end p. (ec .1 h refl refl start end p .0, e2 ∙ ec .1 h refl refl start end p .1))' % end)
+    w.returns(range(11, -1, -1), f.keep, 'exits ra (ws2 .0) %s (advances capacity h (list .now) p rc (ws2 .0) rl ra ec e2 el ea)' % on.is_told('a'))
     return o + '    %s\n    walk =\n' % f.walk_type() + w.text() + '\n\n' + f.tie()
 
 
 def refill():
     l = Slice('shr', 1)
     start = Callee('start', CRATE, 'start', [], lambda: dict(lfts=[('κ1', 'q1', 'tok1')], args=[value(U8, 'capacity', 'c-is'), value(BOOL, 'stores', 't-is'), shared('list', l)] + PLACE,
-                                                          says=lambda r, ws: '%s ≡ startOf capacity stores (list .now) (h .read) (h .held)' % r), USIZE)
-    more = Callee('more', CRATE, 'store_next', [('β', 'ℕ'), ('δ', 'GName'), ('w', 'CookieStash'), ('p', 'ℕ')],
-                  lambda β, δ, w, p: dict(lfts=[(β + ' ∷ []', 'fullShare', 'tok' + β), ('κ1', 'q1', 'tok1')], args=[ref('mut', β, w, δ), value(U8, 'capacity', 'c-is'), shared('list', l), value(USIZE, p, 'p-is')],
-                                          requires='rangeOf capacity (%s .read) (%s .held) ≡ true' % (w, w), says=lambda r, ws: 'Stored capacity %s (list .now) %s %s (%s .0)' % (w, p, r, ws)), USIZE, ['CookieStash', 'Unit {0}', 'Unit {0}', 'Unit {0}'])
-    f = Fn(CRATE, 'refill', 'mut', 'CookieStash', 'T', [CAP, ('stores', BOOL), ('list', l)], UNIT, 'w ≡ target capacity h stores (list .now)', [start, more],
-           'The borrow is opened once, before the loop, and closed once, after it; in each turn the stash, where it lies, is lent to `store_next`. The invariant (`Along`): with what is left of the list stored, the stash is what it is to become.',
-           STASH + LENT + 'use %sRefilled.{Along, target, starts, next, range-at}\n' % OWN + LENDS, [STASH_T], tables=True,
+                                                          says=lambda r, ws: '(%s ≡ record { at = startOf capacity stores (list .now) (h .read) (h .held); dropped = noneDropped }) × Small (list .now)' % r), P)
+    more = Callee('more', CRATE, 'store_next', [('β', 'ℕ'), ('δ', 'GName'), ('w', 'CookieStash'), ('p', 'Progress')],
+                  lambda β, δ, w, p: dict(lfts=[(β + ' ∷ []', 'fullShare', 'tok' + β), ('κ1', 'q1', 'tok1')], args=[ref('mut', β, w, δ), value(U8, 'capacity', 'c-is'), shared('list', l), value(P, p, 'p-is')],
+                                          requires='(rangeOf capacity (%s .read) (%s .held) ≡ true) × Fit (plusOf (%s .dropped) (oldestOf capacity %s))' % (w, w, p, w),
+                                          says=lambda r, ws: 'Advanced capacity %s (list .now) %s %s (%s .0)' % (w, p, r, ws)), P, ['CookieStash', 'Unit {0}', 'Unit {0}', 'Unit {0}'])
+    T_, D_, A_ = 'target capacity h stores (list .now)', 'total capacity h stores (list .now)', 'length (list .now)'
+    f = Fn(CRATE, 'refill', 'mut', 'CookieStash', 'T', [CAP, ('stores', BOOL), ('list', l)], D, '(w ≡ %s) × (r ≡ %s)' % (T_, D_), [start, more],
+           'The borrow is opened once, before the loop, and closed once, after it; in each turn the stash, where it lies, is lent to `store_next`. The invariant (`Along`): with what is left of the list stored, the stash and what fell out are what they are to become.',
+           STASH + LENT + FALLS + 'use Rattle.cookiestash.proofs.Typed.{typed-is}\nuse %sRefilled.{Along, target, total, starts, next, ready}\n' % OWN + LENDS, [STASH_T, PROGRESS_T, DROPPED_T], tables=True,
            defs='''-- a turn, and what is done after the loop
 abbrev turn-body : Code
 turn-body = seq (assign (place 10 []) (addrOf (place 1 (deref T′.mir ∷ [])))) (call #lent-stash·store-next (copy (place 10 []) ∷ copy (place 2 []) ∷ copy (place 4 []) ∷ copy (place 7 []) ∷ []) (place 7 []))
 
 abbrev turn : Code
-turn = seq (assign (place 8 []) (rvOpd (copy (place 4 (field 1 ∷ []))))) (seq (assign (place 9 []) (op2 (lt unsigned) (copy (place 7 [])) (copy (place 8 [])))) (seq (condᴹ (copy (place 9 [])) skipᴹ (exit 1)) turn-body))
+turn = seq (assign (place 8 []) (rvOpd (copy (place 4 (field 1 ∷ []))))) (seq (assign (place 9 []) (op2 (lt unsigned) (copy (place 7 (field 0 ∷ []))) (copy (place 8 [])))) (seq (condᴹ (copy (place 9 [])) skipᴹ (exit 1)) turn-body))
 
-''' + LAST)
-    T_, A_ = 'target capacity h stores (list .now)', 'length (list .now)'
-    tys = ['tyUnit', 'tyRef (named 0) mut (%s)' % PTR, 'tyInt w8', 'tyBool', l.mir, 'tyInt w64', 'tyInt w64', 'tyInt w64', 'tyInt w64', 'tyBool', 'tyRef erased mut (%s)' % PTR]
+-- what is done after the loop
+abbrev last : Code
+last = seq (assign (place 0 []) (rvOpd (copy (place 7 (field 1 ∷ []))))) return
+
+''')
+    tys = ['D′.mir', 'tyRef (named 0) mut (%s)' % PTR, 'tyInt w8', 'tyBool', l.mir, 'tyInt w64', 'tyInt w64', 'P′.mir', 'tyInt w64', 'tyBool', 'tyRef erased mut (%s)' % PTR]
     n = len(tys)
     ls = ' '.join('l%d' % k for k in range(n))
-    vals = {1: 'vptr b o', 2: 'vint w8 capacity', 3: 'vbool stores', 4: 'slice-val list', 5: 'vint w64 (h .read)', 6: 'vint w64 (h .held)', 7: 'vint w64 (i .from-at)'}
-    o = f.head() + f.frame(ISES)
-    o += '''  -- where a turn begins: an offset, the stash there, and what is known of them
+    vals = {1: 'vptr b o', 2: 'vint w8 capacity', 3: 'vbool stores', 4: 'slice-val list', 5: 'vint w64 (h .read)', 6: 'vint w64 (h .held)', 7: 'P-val (i .progress)'}
+    begins = '''  -- how it begins
+  long : %s < 18446744073709551616
+  long = omega (arith, list-is .0 .1 .0)
+
+  begins : (p : Progress) → (p ≡ record { at = startOf capacity stores (list .now) (h .read) (h .held); dropped = noneDropped }) × Small (list .now) → Is T.the-row h (T-val h ∷ [])
+      → Along capacity (%s) (%s) h (list .now) p
+  begins p e g = subst (λ (j : Progress). Along capacity (%s) (%s) h (list .now) j) (sym (e .0)) (starts capacity h (list .now) (typed-is h _ g) (e .1) long stores)
+
+''' % (A_, T_, D_, T_, D_)
+    o = f.head() + f.frame(ISES + begins)
+    o += '''  -- where a turn begins: how far the list is read, the stash there, and what is known of them
   record Turning : Type 0 where
-    from-at : ℕ
+    progress : Progress
     stash : CookieStash
-    at-is : Is usize from-at (vint w64 from-at ∷ [])
+    progress-is : Is P.the-row progress (P-val progress ∷ [])
     stash-is : Is T.the-row stash (T-val stash ∷ [])
-    along : Along capacity (%s) stash (list .now) from-at
+    along : Along capacity (%s) (%s) stash (list .now) progress
 
   abbrev Nearer : Turning → Turning → Type 0
-  Nearer j i = %s - j .from-at < %s - i .from-at
+  Nearer j i = %s - j .progress .at < %s - i .progress .at
 
   Nearer-wf : WellFounded Nearer
-  Nearer-wf = InvImage·wf (λ (i : Turning). %s - i .from-at) (Nat·lt-wfRel .wf)
+  Nearer-wf = InvImage·wf (λ (i : Turning). %s - i .progress .at) (Nat·lt-wfRel .wf)
 
   module _ (𝓣 : Tables 𝓤 H) %s where
     abbrev C : Calls 𝓤 H
@@ -437,7 +502,7 @@ turn = seq (assign (place 8 []) (rvOpd (copy (place 4 (field 1 ∷ []))))) (seq 
       abbrev En : Env 𝓤 H
       En = %s
 
-''' % (T_, A_, A_, A_, ' '.join(c.known('𝓣 .C') for c in f.callees), ls, listed('(%s, l%d)' % (t, k) for k, t in enumerate(tys)))
+''' % (T_, D_, A_, A_, A_, ' '.join(c.known('𝓣 .C') for c in f.callees), ls, listed('(%s, l%d)' % (t, k) for k, t in enumerate(tys)))
     canon = ['stash', 'obor', 'obs', 'auth'] + [y for k in reversed(range(n)) for y in ('L%d' % k, 'D%d' % k)] + ['list', 'tok1']
     text = {'stash': '‵ (fat fullShare T′.mir b o (T-val (i .stash)))', 'obor': '‵ (fobor κ q (Body (mem T.the-row) b o γ))', 'obs': '‵ (fobs γ (T.the-row .coded .code h))', 'auth': '‵ (fauth γ (T.the-row .coded .code h))', 'list': l.own('list'), 'tok1': '‵ (flft κ1 q1)'}
     for k, t in enumerate(tys):
@@ -455,32 +520,38 @@ turn = seq (assign (place 8 []) (rvOpd (copy (place 4 (field 1 ∷ []))))) (seq 
     w = Walk(canon)
     w.n = n
     w.opd(8, w.loc(4, 1), '(tt, record { fits = list-is .0 .1 .0 })')
-    w.assign(9, '(bin ! %s %s tt)' % (w.loc(7), w.loc(8)), '(tt, tt)')
+    w.assign(9, '(bin ! %s %s tt)' % (w.loc(7, 0), w.loc(8)), '(tt, tt)')
     w.emit('first ! $ branches ! %s' % w.loc(9))
     saved, mark = list(w.ctx), len(w.out)
     w.emit('(λ less. skips ! $ exec ! C Λ En turn-body (anyQ (Turned i)) $')
     w.twice('list', l)
     w.addr(10, 1)
     lends(w, 'mut', '(i .stash)', '(i .stash-is)', 'β', 'δ')
-    lt = '(ltb→lt (i .from-at) (%s) less)' % A_
-    more.call(w, [L(10), L(2), L(4), L(7)], ['capacity-is', 'i .at-is', 'range-at capacity (%s) (i .stash) (list .now) (i .from-at) (i .along) %s' % (T_, lt)], 7, actuals=['β', 'δ', '(i .stash)', '(i .from-at)'], how='store', last=True, s='2',
+    lt = '(ltb→lt (i .progress .at) (%s) less)' % A_
+    eight = '(typed-is (i .stash) _ (i .stash-is) .eight)'
+    more.call(w, [L(10), L(2), L(4), L(7)], ['capacity-is', 'i .progress-is', 'ready capacity (%s) (%s) (i .stash) (list .now) (i .progress) %s (i .along) %s' % (T_, D_, eight, lt)], 7, actuals=['β', 'δ', '(i .stash)', '(i .progress)'], how='store', last=True, s='2',
               before_landing=lambda: w.changed(T, LIES, 'stash', '(ws2 .0)', 'β', 'δ', 'o', 'gw'))
     w.emit(' $ '.join('forget ! %d refl' % w.i('L%d' % k) for k in (10, 9, 8)) + ' $ keep ! (%s) $' % listed(str(w.i(x)) for x in canon))
     w.emit('again ! Nearer At i (after less r2 (ws2 .0) e2 %s gw) (nearer less r2 (ws2 .0) e2))' % more.is_told('2'))
     w.close(mark)
     w.ctx = saved
     w.emit('(λ over. jumps ! $ exec ! C Λ En last (atRet En Post) $')
-    w.opd(0, '(unit-lit !)', '(tt, tt)')
+    dropped = '(LL.owed P.the-type P′.the-laws (i .progress) _ (i .progress-is) .1 .0)'
+    w.opd(0, w.loc(7, 1), D.typed('i .progress .dropped', dropped))
     w.closes('T', 'stash', '(i .stash)', '(i .stash-is)')
-    w.returns([9, 8, 7, 6, 5, 4, 3, 2, 1, 0], f.keep, 'exits (i .stash) (i .along .over (le-antisymm (i .along .inside) (nltb→le (i .from-at) (%s) over)))' % A_)
-    nx = 'next capacity (%s) (i .stash) (list .now) (i .from-at) r w %s (i .along) e' % (T_, lt)
+    w.returns([9, 8, 7, 6, 5, 4, 3, 2, 1, 0], f.keep, 'exits (i .progress .dropped) (i .stash) %s (i .along .over (le-antisymm (i .along .inside) (nltb→le (i .progress .at) (%s) over)))' % (dropped, A_))
+    nx = 'next capacity (%s) (%s) (i .stash) (list .now) (i .progress) r w %s %s (i .along) e' % (T_, D_, eight, lt)
     o += w.text() + '''
         where
-          after : T (ltb (i .from-at) (%s)) → (r : ℕ) (w : CookieStash) → Stored capacity (i .stash) (list .now) (i .from-at) r w → Is usize r (vint w64 r ∷ []) → Is T.the-row w (T-val w ∷ []) → Turning
-          after less r w e r-is w-is = record { from-at = r; stash = w; at-is = r-is; stash-is = w-is; along = %s .0 }
+          after : T (ltb (i .progress .at) (%s)) → (r : Progress) (w : CookieStash) → Advanced capacity (i .stash) (list .now) (i .progress) r w → Is P.the-row r (P-val r ∷ []) → Is T.the-row w (T-val w ∷ []) → Turning
+          after less r w e r-is w-is = record { progress = r; stash = w; progress-is = r-is; stash-is = w-is; along = %s .0 }
 
-          nearer : (less : T (ltb (i .from-at) (%s))) (r : ℕ) (w : CookieStash) → Stored capacity (i .stash) (list .now) (i .from-at) r w → %s - r < %s - i .from-at
+          nearer : (less : T (ltb (i .progress .at) (%s))) (r : Progress) (w : CookieStash) → Advanced capacity (i .stash) (list .now) (i .progress) r w → %s - r .at < %s - i .progress .at
           nearer less r w e = %s .1
+
+      -- the loop, and what is done after it: by itself, since the kernel checks each declaration within a number of steps
+      loop-on : (i : Turning) → Sq W (At i) (runs C Λ En (seq (block (loopᴹ turn)) last) (atRet En Post))
+      loop-on i = first ! $ blocks ! $ loops ! 𝓣 Nearer Nearer-wf At turns i
 
 ''' % (A_, nx, A_, A_, A_, nx)
     w = f.begin(n)
@@ -491,12 +562,12 @@ turn = seq (assign (place 8 []) (rvOpd (copy (place 4 (field 1 ∷ []))))) (seq 
     w.twice('list', l)
     start.call(w, [L(2), L(3), L(4), L(5), L(6)], ['capacity-is', 'stores-is', 'read-is g', 'held-is g'], 7, s='c')
     w.emit('keep ! (%s) $' % listed(str(w.i(x)) for x in canon))
-    w.emit('first ! $ blocks ! $ loops ! 𝓣 Nearer Nearer-wf (At %s) (turns %s)' % (ls, ls))
-    w.emit('(record { from-at = rc; stash = h; at-is = %s; stash-is = g; along = subst (λ (j : ℕ). Along capacity (%s) h (list .now) j) (sym ec) (starts capacity h stores (list .now)) })' % (start.is_told('c'), T_))
+    w.emit('loop-on %s' % ls)
+    w.emit('(record { progress = rc; stash = h; progress-is = %s; stash-is = g; along = begins rc ec g })' % start.is_told('c'))
     return o + '    %s\n    walk =\n' % f.walk_type() + w.text() + '\n\n' + f.tie()
 
 
-WALKS = dict(slot_at=slot_at, see=see, give=give, apply=apply, take=take, store_next=store_next, refill=refill)
+WALKS = dict(slot_at=slot_at, length_at=length_at, see=see, give=give, apply=apply, take=take, store_next=store_next, refill=refill)
 
 if __name__ == '__main__':
     if len(sys.argv) == 1:

@@ -10,6 +10,11 @@
     lent_stash::AFTER(&mut a.stash, CAPACITY, decision.FLAG, SLICE);
     decision.answer
 
+or, where AFTER tells what fell out of the stash (`gives`), with these last lines:
+
+    let dropped = lent_stash::AFTER(&mut a.stash, CAPACITY, decision.FLAG, SLICE);
+    GIVES { answer: decision.answer, dropped }
+
 The walk itself is over any types of these shapes, so that no type is written out in it; below it is put at FN's own. With no argument the script lists its walks."""
 import sys
 from inplace import *
@@ -25,6 +30,7 @@ CAPACITY = '(refl, lit< tt)'
 TYS = '(tcons τ-set (tcons τ-sta (tcons τ-sm tnil)))'
 REC = 'tyStruct ν ' + TYS
 OUT = 'tyStruct ν-out (tcons τ-ans (tcons τ-sm (tcons tyBool tnil)))'
+RES = 'tyStruct ν-res (tcons τ-ans (tcons τ-drop tnil))'
 VALUE = 'vstruct (ofList (set (settings %s) ∷ sta %s ∷ sm %s ∷ []))'
 LIES = ('𝓤 H A W Sta sta τ-sta sta-mir sta-tells sta-makes', 'fullShare')
 AT = '(o + away)'
@@ -50,12 +56,13 @@ def toks(lfts):
 class Thin:
     """`rules`: a crate, a function and what it ensures of its result; `out`: the struct that it returns, of an answer, the next state, and `flag`; `after`: what stores
     in the stash, and what it ensures; `over`: the slice that it is given; `input`: the struct that the parameters are gathered in that have its fields' names;
-    `says`: what is ensured; `told`: its proof, from what was seen (rs, es), decided (rd, ed) and left (w, ea)"""
+    `says`: what is ensured; `told`: its proof, from what was seen (rs, es), decided (rd, ed) and left (w, ea; and fell out, fell); `gives`: the struct that tells what fell out too"""
 
     # the record that is lent: its crate, its name, and the names of its settings and of its state; and what the answer is
     record, answer_is = ('association', 'Association', 'Settings', 'State'), enum
 
-    def __init__(self, crate, fn, params, rules, out, flag, answer, after, over, says, told, uses, structs=(), input=None):
+    def __init__(self, crate, fn, params, rules, out, flag, answer, after, over, says, told, uses, structs=(), input=None, gives=None):
+        self.gives = gives
         self.crate, self.fn, self.params, self.rules, self.out, self.flag, self.answer, self.after, self.over = crate, fn, params, rules, out, flag, answer, after, over
         self.says, self.told, self.uses, self.structs, self.input = says, told, uses, list(structs), input
         self.types = dict(params)
@@ -68,9 +75,12 @@ class Thin:
         n = iter(range(len(params) + 2, 99))
         self.SEEN, self.SET, self.STATE = next(n), next(n), next(n)
         self.INPUT = next(n) if input else None
-        self.OUT, self.REF = next(n), next(n)
+        self.OUT = next(n)
+        self.DROPPED = next(n) if gives else None
+        self.REF = next(n)
         self.ROOM = next(n) if self.lent else None
-        self.UNIT, self.MUT = next(n), next(n)
+        self.UNIT = self.DROPPED if gives else next(n)
+        self.MUT = next(n)
         self.PTR, self.SLICE = (next(n), next(n)) if self.lent else (None, None)
         self.n = next(n)
         self.at = {p: 2 + k for k, p in enumerate(self.names)}
@@ -83,8 +93,8 @@ class Thin:
     def mir(self):
         loc = lambda t: 'local %s valueLocal' % atom(t)
         byte = 'tyRef erased mut (tyInt w8)'
-        tys = ['τ-ans', 'tyRef (named 0) mut τ-to'] + [t.mir if isinstance(t, Slice) else 'τ-' + p for p, t in self.params] + ['τ-seen', 'τ-set', 'τ-sm'] + (['τ-in'] if self.input else []) + [OUT, 'tyRef erased imm τ-sto']
-        tys += (['tyInt w64'] if self.lent else []) + ['tyUnit', 'tyRef erased mut τ-sto'] + ([byte, 'sliceTy (%s)' % byte] if self.lent else [])
+        tys = [RES if self.gives else 'τ-ans', 'tyRef (named 0) mut τ-to'] + [t.mir if isinstance(t, Slice) else 'τ-' + p for p, t in self.params] + ['τ-seen', 'τ-set', 'τ-sm'] + (['τ-in'] if self.input else []) + [OUT] + (['τ-drop'] if self.gives else []) + ['tyRef erased imm τ-sto']
+        tys += (['tyInt w64'] if self.lent else []) + ([] if self.gives else ['tyUnit']) + ['tyRef erased mut τ-sto'] + ([byte, 'sliceTy (%s)' % byte] if self.lent else [])
         field = lambda k: 'place 1 (deref (%s) ∷ field %d ∷ [])' % (REC, k)
         cp = lambda k, f=None: 'copy (place %d %s)' % (k, '(field %d ∷ [])' % f if f is not None else '[]')
         key = lambda c, f: '#%s·%s' % (kebab(c), kebab(f))
@@ -99,10 +109,10 @@ class Thin:
         if self.lent:
             b = self.at[self.over]
             st += ['assign (place %d []) (addrOf (place %d (field 0 ∷ deref (tyInt w8) ∷ [])))' % (self.PTR, b), 'assign (place %d []) (aggregate (%s))' % (self.SLICE, listed([cp(self.PTR), cp(b, 1)]))]
-        st += ['call %s (%s) (place %d [])' % (key('lent_stash', self.after[0]), listed([cp(self.MUT), 'int w8 8', cp(self.OUT, 2), cp(self.given())]), self.UNIT), 'assign (place 0 []) (rvOpd (%s))' % cp(self.OUT, 0)]
+        st += ['call %s (%s) (place %d [])' % (key('lent_stash', self.after[0]), listed([cp(self.MUT), 'int w8 8', cp(self.OUT, 2), cp(self.given())]), self.UNIT), 'assign (place 0 []) (%s)' % ('aggregate (%s)' % listed([cp(self.OUT, 0), cp(self.DROPPED)]) if self.gives else 'rvOpd (%s)' % cp(self.OUT, 0))]
         o = '''-- the function, over any types of the record's groups (τ-to and τ-sto are the names of the record and of the stash, behind a reference), of what is seen of the stash, of the answer and of the other arguments
-abbrev shape : (ν ν-out : Sym) → (%s : Ty) → Fn
-shape ν ν-out %s =
+abbrev shape : (%s : Sym) → (%s : Ty) → Fn
+shape %s %s =
     record {
       lifetimes = %d;
       outlives = [];
@@ -113,11 +123,14 @@ shape ν ν-out %s =
           return%s;
     }
 
-''' % (self.tynames(), self.tynames(), 1 + len(self.slices), 1 + len(self.params), listed(map(loc, tys)), '\n          '.join(('(' if k else '') + 'seq (%s)' % x for k, x in enumerate(st)), ')' * (len(st) - 1))
+''' % (self.syms(), self.tynames(), self.syms(), self.tynames(), 1 + len(self.slices), 1 + len(self.params), listed(map(loc, tys)), '\n          '.join(('(' if k else '') + 'seq (%s)' % x for k, x in enumerate(st)), ')' * (len(st) - 1))
         return o
 
+    def syms(self):
+        return 'ν ν-out' + (' ν-res' if self.gives else '')
+
     def tynames(self):
-        return ' '.join(['τ-to', 'τ-sto', 'τ-set', 'τ-sta', 'τ-sm', 'τ-seen', 'τ-ans'] + (['τ-in'] if self.input else []) + ['τ-' + p for p, _ in self.plain])
+        return ' '.join(['τ-to', 'τ-sto', 'τ-set', 'τ-sta', 'τ-sm', 'τ-seen', 'τ-ans'] + (['τ-drop'] if self.gives else []) + (['τ-in'] if self.input else []) + ['τ-' + p for p, _ in self.plain])
 
     def passed(self):
         """the locals that the rules are given"""
@@ -135,6 +148,11 @@ shape ν ν-out %s =
         v += [atom(self.inval())] if self.input else ['slice-val ' + p if isinstance(t, Slice) else p for p, t in self.params]
         return listed(v + (['vint w64 (length (%s .now))' % self.over] if self.lent else []))
 
+    def filled(self, names, text):
+        for k in sorted(names, key=len, reverse=True):
+            text = text.replace(k, names[k])
+        return text.replace('$SYMS', self.syms())
+
     # ---- the walk
     def walk(self):
         W = 'Sta .Denot × List ℕ' if self.lent else 'Sta .Denot'
@@ -151,18 +169,24 @@ shape ν ν-out %s =
         self.ends = ['obs', 'bor', 'tok'] + [t for _, _, t in self.lfts] + (['last'] if self.lent else [])
         α, β = [('α ∷ []', 'fullShare', 'tokα')], [('β ∷ []', 'fullShare', 'tokβ'), self.alft]
         rown = [own[p] for p in self.shared] if not self.input else []
-        o = self.mir() + '''-- The walk, over any rows of the groups and any machine values: it asks only that these are of their types.
-module _ (Rec Set Sta Sm Seen Out Ans : RattleType) (set : Set .Denot → Val) (sta : Sta .Denot → Val) (sm : Sm .Denot → Val) (seen : Seen .Denot → Val) (ans : Ans .Denot → Val)
+        dropped = 'vstruct (ofList (ans (answer %s) ∷ dro %s ∷ []))'
+        # with what fell out: a type more, and what is asked of it
+        more = {'$ROWS': ' Drop', '$VALS': ' (dro : Drop .Denot → Val)', '$TELLS': ' (dro-tells : Tells Drop (Is Drop) (λ y. dro y ∷ []))',
+                '$TYPED': '\n    (dro-typed : (y : Drop .Denot) (v : Val) → Is Drop y (v ∷ []) → T (hasTy τ-drop v) × WT v)\n    (res-typed : (y : Out .Denot) (vs : List Val) (d : Drop .Denot) → Is Out y vs → Is Drop d (dro d ∷ []) → T (hasTy (%s) (%s)) × WT (%s))' % (RES, dropped % ('y', 'd'), dropped % ('y', 'd')),
+                '$DROPS': ' Drop .Denot →', '$R': 'Drop .Denot', '$OWN': 'Drop', '$DENOT': ' r', '$D': ' (d : Drop .Denot)', '$ISD': ' Is Drop d (dro d ∷ []) →', '$GAVE': ' d', '$POST': dropped % ('rd', 'd')} if self.gives else {
+                '$ROWS': '', '$VALS': '', '$TELLS': '', '$TYPED': '', '$DROPS': '', '$R': 'Unit {0}', '$OWN': 'unit', '$DENOT': '', '$D': '', '$ISD': '', '$GAVE': '', '$POST': 'ans (answer rd)'}
+        o = self.mir() + self.filled(more, '''-- The walk, over any rows of the groups and any machine values: it asks only that these are of their types.
+module _ (Rec Set Sta Sm Seen Out Ans$ROWS : RattleType) (set : Set .Denot → Val) (sta : Sta .Denot → Val) (sm : Sm .Denot → Val) (seen : Seen .Denot → Val) (ans : Ans .Denot → Val)$VALS
     (settings : Rec .Denot → Set .Denot) (stash : Rec .Denot → Sta .Denot) (state : Rec .Denot → Sm .Denot) (put : Rec .Denot → Sta .Denot → Sm .Denot → Rec .Denot)
     (answer : Out .Denot → Ans .Denot) (next : Out .Denot → Sm .Denot) (flag : Out .Denot → Bool)
-    (ν ν-out : Sym) (%s : Ty) (rec-mir : Rec .mir ≡ %s ∷ []) (sta-mir : Sta .mir ≡ τ-sta ∷ [])
-    (rec-tells : Tells Rec (Is Rec) (λ y. %s ∷ [])) (sta-tells : Tells Sta (Is Sta) (λ y. sta y ∷ [])) (seen-tells : Tells Seen (Is Seen) (λ y. seen y ∷ []))
+    ($SYMS : Sym) (%s : Ty) (rec-mir : Rec .mir ≡ %s ∷ []) (sta-mir : Sta .mir ≡ τ-sta ∷ [])
+    (rec-tells : Tells Rec (Is Rec) (λ y. %s ∷ [])) (sta-tells : Tells Sta (Is Sta) (λ y. sta y ∷ [])) (seen-tells : Tells Seen (Is Seen) (λ y. seen y ∷ []))$TELLS
     (out-tells : Tells Out (Is Out) (λ y. vstruct (ofList (ans (answer y) ∷ sm (next y) ∷ vbool (flag y) ∷ [])) ∷ []))
     (set-typed : (y : Set .Denot) → Is Set y (set y ∷ []) → T (hasTy τ-set (set y)) × WT (set y))
     (sm-typed : (y : Sm .Denot) → Is Sm y (sm y ∷ []) → T (hasTy τ-sm (sm y)) × WT (sm y))
     (ans-typed : (y : Ans .Denot) → Is Ans y (ans y ∷ []) → T (hasTy τ-ans (ans y)) × WT (ans y))
     (seen-typed : (y : Seen .Denot) (v : Val) → Is Seen y (v ∷ []) → T (hasTy τ-seen v) × WT v)
-    (out-typed : (y : Out .Denot) (v : Val) → Is Out y (v ∷ []) → T (hasTy (%s) v) × WT v)
+    (out-typed : (y : Out .Denot) (v : Val) → Is Out y (v ∷ []) → T (hasTy (%s) v) × WT v)$TYPED
     (set-is : (y : Rec .Denot) (vs : List Val) → Is Rec y vs → Is Set (settings y) (set (settings y) ∷ []))
     (sta-is : (y : Rec .Denot) (vs : List Val) → Is Rec y vs → Is Sta (stash y) (sta (stash y) ∷ []))
     (sm-is : (y : Rec .Denot) (vs : List Val) → Is Rec y vs → Is Sm (state y) (sm (state y) ∷ []))
@@ -187,10 +211,10 @@ module _ (Rec Set Sta Sm Seen Out Ans : RattleType) (set : Set .Denot → Val) (
   lent δ = record { ptr = (b, o + away); name = δ; now = stash h }
 
   -- what is known of the calls, and how it ends
-  module _ (SaysS : Seen .Denot → Type 0) (SaysR : Seen .Denot → Out .Denot → Type 0) (SaysA : Out .Denot → %s → Type 0)
+  module _ (SaysS : Seen .Denot → Type 0) (SaysR : Seen .Denot → Out .Denot → Type 0) (SaysA : Out .Denot →$DROPS %s → Type 0)
       (PreS : ℕ → GName → SProp 𝓤) (BackS : ℕ → GName → Val → SProp 𝓤) (EnsuredS : ℕ → GName → Seen .Denot → SProp 𝓤)
       (PreR : Seen .Denot → SProp 𝓤) (BackR : Seen .Denot → Val → SProp 𝓤) (EnsuredR : Seen .Denot → Out .Denot → SProp 𝓤)
-      (PreA : ℕ → GName → Out .Denot → SProp 𝓤) (BackA : ℕ → GName → Out .Denot → Val → SProp 𝓤) (EnsuredA : ℕ → GName → Out .Denot → Unit {0} → SProp 𝓤) (Post : Val → SProp 𝓤)
+      (PreA : ℕ → GName → Out .Denot → SProp 𝓤) (BackA : ℕ → GName → Out .Denot → Val → SProp 𝓤) (EnsuredA : ℕ → GName → Out .Denot → $R → SProp 𝓤) (Post : Val → SProp 𝓤)
       (goes-see : (α : ℕ) (δ : GName) → ent 𝓤 (⋆ 𝓤 H A (%s)) (PreS α δ))
       (comes-see : (α : ℕ) (δ : GName) (v : Val) → ent 𝓤 (BackS α δ v) (mean 𝓤 H A (later (some (λ (r : Seen .Denot). (%s ⊛ ‵ (Seen .own r (v ∷ []))) ⊛ raw (EnsuredS α δ r))))))
       (said-see : (α : ℕ) (δ : GName) (r : Seen .Denot) → ent 𝓤 (EnsuredS α δ r) (fact 𝓤 (SaysS r)))
@@ -198,21 +222,21 @@ module _ (Rec Set Sta Sm Seen Out Ans : RattleType) (set : Set .Denot → Val) (
       (comes-rule : (rs : Seen .Denot) (v : Val) → ent 𝓤 (BackR rs v) (mean 𝓤 H A (later (some (λ (r : Out .Denot). (%s ⊛ ‵ (Out .own r (v ∷ []))) ⊛ raw (EnsuredR rs r))))))
       (said-rule : (rs : Seen .Denot) (r : Out .Denot) → ent 𝓤 (EnsuredR rs r) (fact 𝓤 (SaysR rs r)))
       (goes-after : (β : ℕ) (δ : GName) (rd : Out .Denot) (vs : List Val) → Is Out rd vs → ent 𝓤 (⋆ 𝓤 H A (%s)) (PreA β δ rd))
-      (comes-after : (β : ℕ) (δ : GName) (rd : Out .Denot) (v : Val) → ent 𝓤 (BackA β δ rd v) (mean 𝓤 H A (later (some (λ (r : Unit {0}). (%s ⊛ ‵ (unit .own r (v ∷ []))) ⊛ raw (EnsuredA β δ rd r))))))
-      (said-after : (β : ℕ) (δ : GName) (rd : Out .Denot) (r : Unit {0}) → ent 𝓤 (EnsuredA β δ rd r) (mean 𝓤 H A (some (λ (w : %s). given (SaysA rd w) (%s)))))
-      (exits : (rs : Seen .Denot) (rd : Out .Denot) (w : %s) (vs : List Val) → Is Out rd vs → SaysS rs → SaysR rs rd → SaysA rd w → ent 𝓤 (⋆ 𝓤 H A (%s)) (Post (ans (answer rd))))
+      (comes-after : (β : ℕ) (δ : GName) (rd : Out .Denot) (v : Val) → ent 𝓤 (BackA β δ rd v) (mean 𝓤 H A (later (some (λ (r : $R). (%s ⊛ ‵ ($OWN .own r (v ∷ []))) ⊛ raw (EnsuredA β δ rd r))))))
+      (said-after : (β : ℕ) (δ : GName) (rd : Out .Denot) (r : $R) → ent 𝓤 (EnsuredA β δ rd r) (mean 𝓤 H A (some (λ (w : %s). given (SaysA rd$DENOT w) (%s)))))
+      (exits : (rs : Seen .Denot) (rd : Out .Denot)$D (w : %s) (vs : List Val) → Is Out rd vs →$ISD SaysS rs → SaysR rs rd → SaysA rd$GAVE w → ent 𝓤 (⋆ 𝓤 H A (%s)) (Post ($POST)))
       (C : Calls 𝓤 H) (Λ : Loops 𝓤 H) (fm : FmC 𝓤 H (W .laws) C)
       (known-see : (α : ℕ) (δ : GName) → ent 𝓤 (PreS α δ) (C #lent-stash·see (vptr b %s ∷ vint w8 8 ∷ []) (BackS α δ)))
       (known-rule : (rs : Seen .Denot) → ent 𝓤 (PreR rs) (C #%s·%s (%s) (BackR rs)))
       (known-after : (β : ℕ) (δ : GName) (rd : Out .Denot) → ent 𝓤 (PreA β δ rd) (C #lent-stash·%s (vptr b %s ∷ vint w8 8 ∷ vbool (flag rd) ∷ slice-val %s ∷ []) (BackA β δ rd))) where
-''' % (self.tynames(), REC, VALUE % ('y', '(stash y)', '(state y)'), OUT, VALUE % ('y', 'w', 's'),
+''') % (self.tynames(), REC, VALUE % ('y', '(stash y)', '(state y)'), OUT, VALUE % ('y', 'w', 's'),
             ''.join(' ' + κ for κ, _, _ in self.lfts), ''.join(' ' + q for _, q, _ in self.lfts),
             ''.join(' (%s : %s)' % (p, 'RefT (List ℕ)' if isinstance(t, Slice) else 'Val') for p, t in self.params),
             ' '.join('(%s-is : %s)' % (p, t.Is(p)) if isinstance(t, Slice) else '(%s-typed : T (hasTy τ-%s %s) × WT %s)' % (p, p, p, p) for p, t in self.params) + (' (input-typed : T (hasTy τ-in (%s)) × WT (%s))' % (self.inval(), self.inval()) if self.input else ''),
             VALUE % ('h', '(stash h)', '(state h)'), VALUE % ('h', 'w', 's'), W,
             listed([toks(α), reft('ShrRef', 'α', 'δ')]), toks(α), listed([toks(self.rlfts)] + rown), toks(self.rlfts),
             listed([toks(β), reft('MutRef', 'β', 'δ'), own[self.over]]), toks(β), W, left('w', 'δ'), W, listed(ends), AT, kebab(self.rules[0]), kebab(self.rules[1]), self.passedv('rs'), self.after[0], AT, self.over)
-        fn = '(shape ν ν-out %s)' % self.tynames()
+        fn = '(shape %s %s)' % (self.syms(), self.tynames())
         o += '    walk : ent 𝓤 (⋆ 𝓤 H A (%s)) (WpFn 𝓤 H C Λ %s (%s) Post)\n    walk =\n' % (listed(item[x] for x in ctx), fn, listed(vals))
         w = Walk(ctx)
         w.emit('qed W (%s) ∵ enter ! C Λ %s (%s) _ $' % (listed(item[x] for x in ctx), fn, listed(vals)))
@@ -285,20 +309,27 @@ module _ (Rec Set Sta Sm Seen Out Ans : RattleType) (set : Set .Denot → Val) (
             w.twice(self.over, self.types[self.over])
         w.takes_out(*field('(next rr)'), 'record', 'stash', 'the way back', 'sta (stash h)')
         w.lends(ASTA, LIES, 'stash', 'mut', '(stash h)', 'sta-is h _ g', 'β', 'δ₂', AT, lambda δ: 'lent ' + δ)
-        call('after', 'A', 'β δ₂ rr', ['tokβ', self.alft[2]], ['the reference', self.over if self.lent else self.over + ' again'], ['_', 'isr'], 'vptr b %s ∷ vint w8 8 ∷ vbool (flag rr) ∷ slice-val %s ∷ []' % (AT, self.over), [L(self.MUT), LIT, L(self.OUT, 2), L(self.given())], 'Unit {0}', 'unit')
-        w.emit('use1 W (some (λ (w : %s). given (SaysA rr w) (%s))) (said-after β δ₂ rr ra) $ pick ! (λ w. learn ! (λ ea. %s' % (W, left('w', 'δ₂'), 'split ! $' if self.lent else ''))
+        call('after', 'A', 'β δ₂ rr', ['tokβ', self.alft[2]], ['the reference', self.over if self.lent else self.over + ' again'], ['_', 'isr'], 'vptr b %s ∷ vint w8 8 ∷ vbool (flag rr) ∷ slice-val %s ∷ []' % (AT, self.over), [L(self.MUT), LIT, L(self.OUT, 2), L(self.given())], more['$R'], more['$OWN'])
+        w.emit('use1 W (some (λ (w : %s). given (SaysA rr%s w) (%s))) (said-after β δ₂ rr ra) $ pick ! (λ w. learn ! (λ ea. %s' % (W, ' ra' if self.gives else '', left('w', 'δ₂'), 'split ! $' if self.lent else ''))
         w.top(1, *(['resδ₂', 'last'] if self.lent else ['resδ₂']), 'result')
-        landed('after', ['tokβ', self.alft[2]], 'unit', self.UNIT, '(nothing-lawful 𝓤 H A W .typed ra _ isa .0)', None, None)
+        if self.gives:
+            landed('after', ['tokβ', self.alft[2]], 'Drop', self.DROPPED, '(dro-typed ra va isa)', 'τ-drop', 'dro-tells')
+        else:
+            landed('after', ['tokβ', self.alft[2]], 'unit', self.UNIT, '(nothing-lawful 𝓤 H A W .typed ra _ isa .0)', None, None)
         w.changed(ASTA, LIES, 'stash', w0('w'), 'β', 'δ₂', AT, 'gw')
         w.puts_back(*field('(next rr)'), 'stash', 'the way back', 'record', REC, 'sta ' + w0('w'), 'new %s (next rr)' % w0('w'))
         w.note()
-        w.opd(0, w.loc(self.OUT, 0), AANS.typed('answer rr', 'answer-is rr _ isr'))
+        fallen = '(subst (Is Drop ra) (dro-tells ra _ isa) isa)'
+        if self.gives:
+            w.assign(0, '(agg ! (and-then ! %s (and-then ! %s (no-more !))))' % (w.loc(self.OUT, 0), w.loc(self.DROPPED)), '(res-typed rr _ ra isr %s)' % fallen)
+        else:
+            w.opd(0, w.loc(self.OUT, 0), AANS.typed('answer rr', 'answer-is rr _ isr'))
         new, put = '(new %s (next rr))' % w0('w'), '(put h %s (next rr))' % w0('w')
         t = w.front('record', 'obor', 'obs', 'auth')
         w.top(4, 'obs', 'bor', 'tok')
         w.emit(t + 'use1 W (‵ (cellAt fullShare (%s ∷ []) (%s ∷ []) b o)) (W .laws .at-raw fullShare (%s) b o %s) $ rewrite ! 0 (λ (τs : List Ty). ‵ (cellAt fullShare τs (%s ∷ []) b o)) (sym rec-mir) refl $' % (REC, new, REC, new, new))
         w.emit('owned ! Rec (Is Rec) rec-makes %s _ (put-is h %s (next rr) _ g gw (next-is rr _ isr)) $ move ! (1 ∷ 0 ∷ []) $ closes ! tt Rec %s (%s ∷ []) b o $' % (put, w0('w'), put, new))
-        w.returns(range(self.n - 1, -1, -1), self.ends, 'exits rs rr w _ isr es er ea')
+        w.returns(range(self.n - 1, -1, -1), self.ends, 'exits rs rr%s w _ isr%s es er ea' % (' ra' if self.gives else '', ' ' + fallen if self.gives else ''))
         return o + w.text() + '\n\n', ctx
 
     # ---- at the function's own types
@@ -306,8 +337,9 @@ module _ (Rec Set Sta Sm Seen Out Ans : RattleType) (set : Set .Denot → Val) (
         own = self.rules[0]
         home, rec, gs, ss = self.record
         SET, STATE = struct(gs, 'Set'), struct(ss, 'Sm')
-        structs = [(rec, 'Rec', home), (gs, 'Set', home), (ss, 'Sm', home), ('CookieStash', 'Sta', 'cookiestash'), ('Seen', 'Seen·', 'cookiestash'), (self.out, 'Out', own), (self.answer, 'Ans', own)] + self.structs
+        structs = [(rec, 'Rec', home), (gs, 'Set', home), (ss, 'Sm', home), ('CookieStash', 'Sta', 'cookiestash'), ('Seen', 'Seen·', 'cookiestash'), (self.out, 'Out', own), (self.answer, 'Ans', own)] + ([('Dropped', 'Drop', 'cookiestash'), (self.gives, 'Res', self.crate)] if self.gives else []) + self.structs
         out, ans = struct(self.out, 'Out'), type(self).answer_is(self.answer, 'Ans')
+        drop, res = struct('Dropped', 'Drop'), struct(self.gives, 'Res') if self.gives else ans
         inp = struct(self.input[0], 'In') if self.input else None
         if self.input:
             structs.append((self.input[0], 'In', own))
@@ -328,8 +360,8 @@ module _ (Rec Set Sta Sm Seen Out Ans : RattleType) (set : Set .Denot → Val) (
         over = buffer(self.over, sl) if self.lent else shared(self.over, sl)
         after = Callee('after', 'lent_stash', self.after[0], [('β', 'ℕ'), ('δ', 'GName'), ('rd', self.out)],
                        lambda β, δ, rd: dict(lfts=[(β + ' ∷ []', 'fullShare', 'tok' + β), self.alft], args=[stash('mut', β, δ), value(U8, '8', 'c-is'), value(BOOL, '%s .%s' % (rd, self.flag), 'f-is'), over],
-                                             says=lambda r, ws: self.after[1](rd, '%s .0' % ws, '%s .1 .1 .1 .0' % ws)), UNIT, ['CookieStash', 'Unit {0}', 'Unit {0}', 'List ℕ' if self.lent else 'Unit {0}'])
-        f = Fn(self.crate, self.fn, 'mut', rec, 'Rec', self.params, ans, self.says, [see, rule, after],
+                                             says=lambda r, ws: self.after[1](rd, '%s .0' % ws, r if self.gives else '%s .1 .1 .1 .0' % ws)), drop if self.gives else UNIT, ['CookieStash', 'Unit {0}', 'Unit {0}', 'List ℕ' if self.lent else 'Unit {0}'])
+        f = Fn(self.crate, self.fn, 'mut', rec, 'Rec', self.params, res, self.says, [see, rule, after],
                'The borrow is opened; the stash, where it lies, is lent to `see`; settings and state are copied and passed to `%s` with what was seen; its state is stored where the old one lay; the stash, where it lies, is lent to `%s`; the borrow is closed.' % (self.rules[1], self.after[0]),
                self.uses + 'use Rattle.lent_stash.proofs.Elements.{map-same}\nuse Rattle.lent_stash.proofs.Lends.{lies-in, lies-out, lies-told, field-out, FieldBack, field-back}\n', structs)
         f.enums = [(self.answer, 'Ans', own)] if ans.lawful.startswith('EL.') else []
@@ -365,7 +397,14 @@ put-is y w s vs g j k = LL.owes Rec.the-type Rec′.the-laws (put y w s) (set-is
 abbrev dist : ℕ
 dist = up (align Sta′.mir) (up (align Set′.mir) zero + size Set′.mir)
 
-''' % (owed, owed, owed, self.out, of, self.out, of, self.out, self.flag, self.flag, of)).replace('$REC', rec).replace('$ST', ss)
+$GAVE''' % (owed, owed, owed, self.out, of, self.out, of, self.out, self.flag, self.flag, of)).replace('$REC', rec).replace('$ST', ss).replace('$GAVE', '' if not self.gives else '''-- the answer, with what fell out
+abbrev gave : %s → Dropped → %s
+gave y d = record { answer = y .answer; dropped = d }
+
+gave-is : (y : %s) (vs : List Val) (d : Dropped) → Is Out.the-row y vs → Is Drop.the-row d (Drop-val d ∷ []) → Is Res.the-row (gave y d) (Res-val (gave y d) ∷ [])
+gave-is y vs d g k = LL.owes Res.the-type Res′.the-laws (gave y d) (answer-is y vs g, (k, tt))
+
+''' % (self.out, self.gives, self.out))
         laws = '''  abbrev stash-ref : GName → RefT CookieStash
   stash-ref δ = record { ptr = (b, o + dist); name = δ; now = h .stash }
 
@@ -393,7 +432,8 @@ dist = up (align Sta′.mir) (up (align Set′.mir) zero + size Set′.mir)
         o = head[:cut] + head[val:end] + walk + head[cut:val] + head[end:]
         o += f.frame(laws)
         w2 = 'CookieStash × List ℕ' if self.lent else 'CookieStash'
-        w0, w1 = ('w .0', 'w .1') if self.lent else ('w', None)
+        w0, w1 = ('w .0', 'w .1') if self.lent else ('w', 'r')
+        unit, row, told_of = ('Dropped', 'Drop.the-row', ' r') if self.gives else ('Unit {0}', 'unit', '')
         sa = ('(length (w .1) ≡ length (%s .now)) × (%s)' % (self.over, self.after[1]('rd', w0, w1))) if self.lent else self.after[1]('rd', w0, w1)
         left = '‵ (fres δ (Sta.the-row .coded .code %s))' % atom(w0) + (' ⊛ ‵ (finally u8 (%s .name) (w .1))' % self.over if self.lent else '')
         b = after.build('β', 'δ', 'rd')
@@ -405,14 +445,14 @@ dist = up (align Sta′.mir) (up (align Set′.mir) zero + size Set′.mir)
   comes-rule : (rs : Seen) (v : Val) → ent 𝓤 (C-rule 𝓤 H A at-mem run .post (to-rule rs) v) (mean 𝓤 H A (later (some (λ (r : %s). (%s ⊛ ‵ (Out.the-row .own r (v ∷ []))) ⊛ raw (E-rule rs r)))))
   comes-rule rs v = id⊢ 𝓤 _
 
-  comes-after : (β : ℕ) (δ : GName) (rd : %s) (v : Val) → ent 𝓤 (C-after 𝓤 H A at-mem run .post (to-after β δ rd) v) (mean 𝓤 H A (later (some (λ (r : Unit {0}). (%s ⊛ ‵ (unit .own r (v ∷ []))) ⊛ raw (E-after β δ rd r)))))
+  comes-after : (β : ℕ) (δ : GName) (rd : %s) (v : Val) → ent 𝓤 (C-after 𝓤 H A at-mem run .post (to-after β δ rd) v) (mean 𝓤 H A (later (some (λ (r : %s). (%s ⊛ ‵ (%s .own r (v ∷ []))) ⊛ raw (E-after β δ rd r)))))
   comes-after β δ rd v = id⊢ 𝓤 _
 
-  said-after : (β : ℕ) (δ : GName) (rd : %s) (r : Unit {0}) → ent 𝓤 (E-after β δ rd r) (mean 𝓤 H A (some (λ (w : %s). given (%s) (%s))))
+  said-after : (β : ℕ) (δ : GName) (rd : %s) (r : %s) → ent 𝓤 (E-after β δ rd r) (mean 𝓤 H A (some (λ (w : %s). given (%s) (%s))))
   said-after β δ rd r =
       qed W (raw (E-after β δ rd r) ∷ []) ∵ use1 W (some (λ (ws : %s). ‵ (lasts after.ended %s %s ws) ⊛ raw (fact 𝓤 (%s)))) (id⊢ 𝓤 _) $ pick ! (λ ws. split ! $ move ! (1 ∷ []) $ heard ! (%s) (λ e. fsplit ! $ move ! (1 ∷ []) $ %s
 
-''' % (toks([('α ∷ []', 'fullShare', '')]), self.out, toks(self.rlfts), self.out, toks([('β ∷ []', 'fullShare', ''), self.alft]), self.out, w2, sa, left, prod(after.lasts), κs, xs, ws('ws'), ws('ws'),
+''' % (toks([('α ∷ []', 'fullShare', '')]), self.out, toks(self.rlfts), self.out, unit, toks([('β ∷ []', 'fullShare', ''), self.alft]), row, self.out, unit, w2, sa, left, prod(after.lasts), κs, xs, ws('ws'), ws('ws'),
             ('fsplit ! $ drop ! $ fsplit ! $ drop ! $ fsplit ! $ fsplit ! $ move ! (1 ∷ []) $ feqL ! (λ n. move ! (1 ∷ []) $ drop ! $ move ! (1 ∷ 0 ∷ []) $ join ! $\n      show ! (λ (w : %s). guard 𝓤 (%s) (mean 𝓤 H A (%s))) (ws .0, ws .1 .1 .1 .0) $ check ! (n, e) $ done !)))' % (w2, sa, left)) if self.lent else
             ('drop ! $\n      show ! (λ (w : %s). guard 𝓤 (%s) (mean 𝓤 H A (%s))) (ws .0) $ check ! e $ done !))' % (w2, sa, left)))
         o += f.section()
@@ -421,18 +461,19 @@ dist = up (align Sta′.mir) (up (align Set′.mir) zero + size Set′.mir)
         rest = ' input-is' if self.input else ''.join(' %s-is' % p for p, _ in self.plain)
         room = ' (refl, %s-is .0 .1 .0)' % self.over if self.lent else ''
         w.emit(w.front(*ctx) + 'by ! (walkᵃ')
-        args = ['Rec.the-row Set.the-row Sta.the-row Sm.the-row Seen·.the-row Out.the-row Ans.the-row Set-val Sta-val Sm-val Seen·-val Ans-val (λ y. y .settings) (λ y. y .stash) (λ y. y .state) put (λ y. y .answer) (λ y. y .state) (λ y. y .%s)' % self.flag,
-                '(%s) (%s) (tyNamed (%s, [])) (tyNamed (%s, [])) Set′.mir Sta′.mir Sm′.mir Seen·′.mir Ans′.mir%s%s refl refl' % (code(home + '::' + rec), code(own + '::' + self.out), code(home + '::' + rec), code('cookiestash::CookieStash'), ' In′.mir' if self.input else '', ''.join(' ' + atom(t.mir) for _, t in self.plain)),
-                '(LL.tells Rec.the-type Rec′.the-laws) (LL.tells Sta.the-type Sta′.the-laws) (LL.tells Seen·.the-type Seen·′.the-laws) (LL.tells Out.the-type Out′.the-laws)',
-                '(λ y g. %s) (λ y g. %s) (λ y g. %s) (λ y v g. %s) (λ y v g. %s)' % (SET.typed('y', 'g'), STATE.typed('y', 'g'), ans.typed('y', 'g'), SEEN.typed('y', 'g'), out.typed('y', 'g')),
+        drops = lambda t: t if self.gives else ''
+        args = ['Rec.the-row Set.the-row Sta.the-row Sm.the-row Seen·.the-row Out.the-row Ans.the-row' + drops(' Drop.the-row') + ' Set-val Sta-val Sm-val Seen·-val Ans-val' + drops(' Drop-val') + ' (λ y. y .settings) (λ y. y .stash) (λ y. y .state) put (λ y. y .answer) (λ y. y .state) (λ y. y .%s)' % self.flag,
+                '(%s) (%s)%s (tyNamed (%s, [])) (tyNamed (%s, [])) Set′.mir Sta′.mir Sm′.mir Seen·′.mir Ans′.mir%s%s%s refl refl' % (code(home + '::' + rec), code(own + '::' + self.out), drops(' (%s)' % code('%s::%s' % (self.crate, self.gives))), code(home + '::' + rec), code('cookiestash::CookieStash'), drops(' Drop′.mir'), ' In′.mir' if self.input else '', ''.join(' ' + atom(t.mir) for _, t in self.plain)),
+                '(LL.tells Rec.the-type Rec′.the-laws) (LL.tells Sta.the-type Sta′.the-laws) (LL.tells Seen·.the-type Seen·′.the-laws)' + drops(' (LL.tells Drop.the-type Drop′.the-laws)') + ' (LL.tells Out.the-type Out′.the-laws)',
+                '(λ y g. %s) (λ y g. %s) (λ y g. %s) (λ y v g. %s) (λ y v g. %s)' % (SET.typed('y', 'g'), STATE.typed('y', 'g'), ans.typed('y', 'g'), SEEN.typed('y', 'g'), out.typed('y', 'g')) + drops(' (λ y v g. %s) (λ y vs d g k. %s)' % (drop.typed('y', 'g'), res.typed('gave y d', 'gave-is y vs d g k'))),
                 'set-is sta-is sm-is answer-is next-is put-is 𝓤 H A W (LL.makes Rec.the-type Rec′.the-plain 𝓤 H A) (LL.makes Sta.the-type Sta′.the-plain 𝓤 H A)',
                 'κ%s q%s b o γ h %s' % (''.join(' ' + κ for κ, _, _ in self.lfts), ''.join(' ' + q for _, q, _ in self.lfts), ' '.join(p if isinstance(t, Slice) else atom(t.v(p)) for p, t in self.params)),
                 ' '.join(p + '-is' if isinstance(t, Slice) else t.typed(p, p + '-is') for p, t in self.params) + (' ' + inp.typed('input', 'input-is') if self.input else ''),
-                '(λ r. r ≡ seenOf 8 (h .stash)) (λ rs r. %s) (λ rd w. %s)' % (self.rules[2]('r', 'rs'), sa),
+                '(λ r. r ≡ seenOf 8 (h .stash)) (λ rs r. %s) (λ rd%s w. %s)' % (self.rules[2]('r', 'rs'), told_of, sa),
                 '(λ α δ. C-see 𝓤 H A at-mem run .pre (to-see α δ)) (λ α δ. C-see 𝓤 H A at-mem run .post (to-see α δ)) E-see (λ rs. C-rule 𝓤 H A at-mem run .pre (to-rule rs)) (λ rs. C-rule 𝓤 H A at-mem run .post (to-rule rs)) E-rule',
                 '(λ β δ rd. C-after 𝓤 H A at-mem run .pre (to-after β δ rd)) (λ β δ rd. C-after 𝓤 H A at-mem run .post (to-after β δ rd)) E-after Post',
                 '(λ α δ. goes-see α δ %s) comes-see said-see (λ rs g₁ g₂ g₃. goes-rule rs g₁ g₂ g₃%s%s) comes-rule said-rule (λ β δ rd vs g. goes-after β δ rd %s (flag-is rd vs g)) comes-after said-after' % (CAPACITY, rest, room, CAPACITY),
-                '(λ rs rd w vs g es ed ea. exits (rd .answer) (put h %s (rd .state))%s (answer-is rd vs g)%s (%s))' % (atom(w0), ' (w .1)' if self.lent else '', ' (ea .0)' if self.lent else '', self.told),
+                '(λ rs rd%s w vs g%s es ed ea. exits %s (put h %s (rd .state))%s %s%s (%s))' % (drops(' fell'), drops(' k'), '(gave rd fell)' if self.gives else '(rd .answer)', atom(w0), ' (w .1)' if self.lent else '', '(gave-is rd vs fell g k)' if self.gives else '(answer-is rd vs g)', ' (ea .0)' if self.lent else '', self.told),
                 'C Λ fm (λ α δ. known-see (to-see α δ)) (λ rs. known-rule (to-rule rs)) (λ β δ rd. known-after (to-after β δ rd)))']
         for a in args:
             w.emit('  ' + a)
@@ -442,7 +483,7 @@ dist = up (align Sta′.mir) (up (align Set′.mir) zero + size Set′.mir)
 
 # what stores in the stash, and what it ensures
 TAKE = ('take', lambda rd, w, zs: '(%s ≡ cond (%s .takes) (getOf 8 (h .stash) .stash) (h .stash)) × (%s ≡ cond (%s .takes) (handedOf (getOf 8 (h .stash) .slot) (buffer .now)) (buffer .now))' % (w, rd, zs, rd))
-REFILL = ('refill', lambda rd, w, zs: '%s ≡ cond (%s .stores) (storeListOf 8 (h .stash) (list .now)) (h .stash)' % (w, rd))
+REFILL = ('refill', lambda rd, w, d: '(%s ≡ cond (%s .stores) (storeListOf 8 (h .stash) (list .now)) (h .stash)) × (%s ≡ cond (%s .stores) (droppedOf 8 (h .stash) (list .now)) noneDropped)' % (w, rd, d, rd))
 
 
 def timer():
@@ -462,12 +503,13 @@ use Rattle.timer.proofs.Thin.{told}
 
 def replying(fn, params, rule, read, define, structs=()):
     arrival = 'arrival (list .now) t1 t4 time'
-    t = 'told h (%s) (%s) rs rd w es ed ea' % (read, arrival)
+    t = 'told h (%s) (%s) rs rd w fell es ed (ea .0) (ea .1)' % (read, arrival)
     of = '%s (%s)' % (define, arrival)
     return Thin('reply', fn, params, ('reply_rules', rule, lambda r, rs: '%s ≡ verdictOf (h .settings) (h .state) %s (%s) (%s)' % (r, rs, read, arrival)), 'Verdict', 'stores', 'ReplyAnswer',
                 REFILL, 'list',
-                '(r ≡ %s .answer) × (w ≡ %s .association)' % (of, of), 'ap (λ (s : ReplyOut). s .answer) (%s), ap (λ (s : ReplyOut). s .association) (%s)' % (t, t),
+                '(r ≡ %s .replied) × (w ≡ %s .association)' % (of, of), 'ap (λ (s : ReplyOut). s .replied) (%s), ap (λ (s : ReplyOut). s .association) (%s)' % (t, t),
                 '''use Rattle.cookiestash.specs.StoreList.{storeListOf}
+use Rattle.cookiestash.specs.Falling.{noneDropped, droppedOf}
 use Rattle.cookiestash.specs.Whole.{seenOf}
 use Rattle.incoming.specs.declared.ReplyRead.the-variants.{Decoded}
 use Rattle.incoming.specs.Incoming.{decodedOf}
@@ -476,7 +518,7 @@ use Rattle.reply_rules.specs.Judge.{verdictOf, readWith}
 use Rattle.reply.specs.declared.ReplyOut.{ReplyOut}
 use Rattle.reply.specs.Reply.{replyOf, replyDecodedOf}
 use Rattle.reply.proofs.Thin.{told}
-''', [('NtpTimestamp', 'Time', 'time_types')] + list(structs))
+''', [('NtpTimestamp', 'Time', 'time_types')] + list(structs), gives='Replied')
 
 
 PACKET = [('packet', Slice('shr', 1)), ('end', USIZE), ('decrypted', Slice('shr', 2)), ('list', Slice('shr', 3))]
@@ -514,15 +556,16 @@ use Rattle.embed.proofs.Thin.{timer-told}
 def exported(fn, params, rule, read, define, structs=()):
     arrival = 'arrival (list .now) t1 t4 time'
     return Export('embed', fn, params, ('embed_rules', rule, lambda r, rs: '%s ≡ judgeOf (h .settings) (h .state) %s (%s) (%s)' % (r, rs, read, arrival)), 'CVerdict', 'stores', 'CReplyAnswer', REFILL, 'list',
-                  'replyGave r w ≡ %s (%s)' % (define, arrival), 'reply-told h (%s) (%s) rs rd w es ed ea' % (read, arrival),
+                  'replyGave r w ≡ %s (%s)' % (define, arrival), 'reply-told h (%s) (%s) rs rd w fell es ed (ea .0) (ea .1)' % (read, arrival),
                   '''use Rattle.cookiestash.specs.StoreList.{storeListOf}
+use Rattle.cookiestash.specs.Falling.{noneDropped, droppedOf}
 use Rattle.cookiestash.specs.Whole.{seenOf}
 use Rattle.reply_clauses.specs.After.{arrival}
 use Rattle.embed_rules.specs.Decoded.{decodedRead}
 use Rattle.embed_rules.specs.Rules.{judgeOf, packetRead}
 use Rattle.embed.specs.Calls.{replyGave, replyCall, decodedCall}
 use Rattle.embed.proofs.Thin.{reply-told}
-''', [('NtpTimestamp', 'Time', 'time_types')] + list(structs))
+''', [('NtpTimestamp', 'Time', 'time_types')] + list(structs), gives='CReplied')
 
 
 def reckonstile_reply():

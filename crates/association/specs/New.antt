@@ -4,7 +4,9 @@ use mathlib.Core.Bool.{cond}
 use mathlib.Core.List.{List}
 use Prim.Native.Nat.{ℕ}
 use Rattle.cookielist.specs.List.{listBroken}
+use Rattle.cookiestash.specs.declared.Dropped.{Dropped}
 use Rattle.cookiestash.specs.StoreList.{storeListOf}
+use Rattle.cookiestash.specs.Falling.{noneDropped, droppedOf}
 use Rattle.association.specs.declared.Settings.{Settings}
 use Rattle.association.specs.declared.Association.{Association}
 use Rattle.association.specs.declared.NewAnswer.{NewAnswer}
@@ -19,12 +21,20 @@ numberOf Made = 0
 numberOf BadSettings = 30
 numberOf BrokenList = 33
 
+-- an answer with which nothing is stored
 abbrev pub out : NewAnswer → Association → NewOut
-out r a = record { answer = r; association = a }
+out r a = record { answer = r; dropped = noneDropped; association = a }
 
 -- with NTS it takes a first cookie list
 unfoldable pub madeOf : Settings → List ℕ → Association
 madeOf s list = cond (s .nts) (withStash (freshOf s) (storeListOf 8 (freshOf s .stash) list)) (freshOf s)
+
+-- and tells what of it fell out (RULES, No. 5)
+unfoldable pub firstDropped : Settings → List ℕ → Dropped
+firstDropped s list = cond (s .nts) (droppedOf 8 (freshOf s .stash) list) noneDropped
+
+abbrev pub newMade : Settings → List ℕ → NewOut
+newMade s list = record { answer = Made; dropped = firstDropped s list; association = madeOf s list }
 
 -- in order 30, 33; a refusal leaves the blank record
 unfoldable pub newOf : Settings → List ℕ → NewOut
@@ -32,5 +42,5 @@ newOf s list =
     cond (settingsValid s)
     (cond (listBroken (s .nts) list)
     (out BrokenList blankOf)
-    (out Made (madeOf s list)))
+    (newMade s list))
     (out BadSettings blankOf)

@@ -6,14 +6,14 @@ use mathlib.Core.List.{List}
 use Prim.Native.Nat.{ℕ}
 use Rattle.cookielist.specs.List.{listBroken}
 use Rattle.association.specs.declared.Settings.{Settings}
-use Rattle.association.specs.declared.NewAnswer.the-variants.{Made, BadSettings, BrokenList}
+use Rattle.association.specs.declared.NewAnswer.the-variants.{BadSettings, BrokenList}
 use Rattle.association.specs.declared.NewOut.{NewOut}
 use Rattle.association.specs.Settings.{settingsValid}
 use Rattle.association.specs.Record.{blankOf}
-use Rattle.association.specs.New.{out, madeOf}
+use Rattle.association.specs.New.{out, newMade}
 
 module _ (s : Settings) (list : List ℕ) where
   pub data Given : ℕ → NewOut → Type 0 where
     bad-settings : settingsValid s ≡ false → Given 30 (out BadSettings blankOf)
     broken-list : settingsValid s ≡ true → listBroken (s .nts) list ≡ true → Given 33 (out BrokenList blankOf)
-    made : settingsValid s ≡ true → listBroken (s .nts) list ≡ false → Given 0 (out Made (madeOf s list))
+    made : settingsValid s ≡ true → listBroken (s .nts) list ≡ false → Given 0 (newMade s list)

@@ -1,8 +1,9 @@
 // The association's settings and record, when a record is whole, and how a new one is made.
 // Promises: `new` gives 0 with a whole record, or 30 or 33 with the blank one, each exactly under its rule.
-// Rule: RULES, "Settings and a whole record"; definitions in specs/Settings.antt, specs/Record.antt and specs/New.antt.
+// Rule: RULES, "Settings and a whole record" and No. 5; definitions in specs/Settings.antt, specs/Record.antt and specs/New.antt.
 use cookiestash::CAPACITY;
 use cookiestash::CookieStash;
+use cookiestash::Dropped;
 use cookiestash::Seen;
 use identifiers::ReferenceId;
 use reach::Reach;
@@ -268,14 +269,16 @@ impl Association {
         }
     }
 
-    // Makes an association; with NTS it takes a first cookie list.
+    // Makes an association; with NTS it takes a first cookie list, and tells what of it fell out.
     pub fn new(settings: Settings, list: &[u8]) -> NewOut
         ensures { λ r. ⌜ r ≡ newOf settings (now (list .entry)) ⌝ }
     {
+        let none = Dropped::none();
         if !settings.valid() {
             let blank = Association::blank();
             return NewOut {
                 answer: NewAnswer::BadSettings,
+                dropped: none,
                 association: blank,
             };
         }
@@ -285,19 +288,24 @@ impl Association {
                 let blank = Association::blank();
                 return NewOut {
                     answer: NewAnswer::BrokenList,
+                    dropped: none,
                     association: blank,
                 };
             }
             let empty = made.stash;
-            let stash = empty.store_list(CAPACITY, list);
+            let stored = empty.store_list(CAPACITY, list);
+            let stash = stored.stash;
             made.stash = stash;
+            let dropped = stored.dropped;
             return NewOut {
                 answer: NewAnswer::Made,
+                dropped,
                 association: made,
             };
         }
         NewOut {
             answer: NewAnswer::Made,
+            dropped: none,
             association: made,
         }
     }
@@ -321,8 +329,9 @@ impl NewAnswer {
     }
 }
 
-// What `new` gives: its answer, and the association, blank where it was refused.
+// What `new` gives: its answer, what fell out while the first list was stored, and the association, blank where it was refused.
 pub struct NewOut {
     pub answer: NewAnswer,
+    pub dropped: Dropped,
     pub association: Association,
 }

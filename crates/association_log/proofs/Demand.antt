@@ -13,7 +13,7 @@ use Rattle.association.specs.declared.NewOut.{NewOut}
 use Rattle.association.specs.declared.NewAnswer.the-variants.{Made, BadSettings, BrokenList}
 use Rattle.association.specs.Settings.{settingsValid}
 use Rattle.association.specs.Record.{noPending, blankOf, freshOf, withStash}
-use Rattle.association.specs.New.{madeOf, newOf}
+use Rattle.association.specs.New.{out, madeOf, firstDropped, newOf}
 use Rattle.log.specs.Log.{Accepted}
 use Rattle.log.specs.Machine.{Call, logOf}
 use Rattle.log.specs.Demand.{Demand3}
@@ -35,9 +35,9 @@ new-request s list = by (settingsValid s) (listBroken (s .nts) list) (s .nts)
     by : (h b n : Bool) →
         cond {A = NewOut} h
         (cond b
-        (record { answer = BrokenList; association = blankOf })
-        (record { answer = Made; association = cond n (withStash (freshOf s) (storeListOf 8 (freshOf s .stash) list)) (freshOf s) }))
-        (record { answer = BadSettings; association = blankOf }) .association .state .request ≡ noPending false
+        (out BrokenList blankOf)
+        (record { answer = Made; dropped = firstDropped s list; association = cond n (withStash (freshOf s) (storeListOf 8 (freshOf s .stash) list)) (freshOf s) }))
+        (out BadSettings blankOf) .association .state .request ≡ noPending false
     by true true n = refl
     by true false n = kept n
     by false b n = refl

@@ -94,7 +94,7 @@ pending-next a (M.timer t) =
     ∙ pending-asked (eqb (timer.numberOf (timed a t .0 .0)) 20) (a .state .request) _ (pending-present (a .settings .nts) (a .settings .window) (t .poll))
 pending-next a (M.reply r) =
     ap pendingIn (heard a (read-by a r) (arrivalOf r) (given a (read-by a r) (arrivalOf r)) .request)
-    ∙ pending-cond (eqb (reply.numberOf (replied a r .0)) 0) (a .state .request)
+    ∙ pending-cond (eqb (reply.numberOf (replied a r .0 .answer)) 0) (a .state .request)
 
 -- whether a reply has been measured after a choice of requests
 answered-cond : (b : Bool) (q : Pending) → cond b (noPending true) q .answered ≡ cond b true (q .answered)
@@ -113,7 +113,7 @@ answered-next a (M.timer t) =
     ∙ answered-asked (eqb (timer.numberOf (timed a t .0 .0)) 20) (a .settings .nts) (a .settings .window) (t .poll) (a .state .request)
 answered-next a (M.reply r) =
     ap (λ (q : Pending). q .answered) (heard a (read-by a r) (arrivalOf r) (given a (read-by a r) (arrivalOf r)) .request)
-    ∙ answered-cond (eqb (reply.numberOf (replied a r .0)) 0) (a .state .request)
+    ∙ answered-cond (eqb (reply.numberOf (replied a r .0 .answer)) 0) (a .state .request)
 
 -- ---- why no request was live
 

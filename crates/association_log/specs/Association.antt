@@ -18,7 +18,7 @@ use Rattle.timer_rules.specs.Answer as timer
 use Rattle.timer_rules.specs.declared.TimerInput.{TimerInput}
 use Rattle.timer_rules.specs.Poll.{pendingOf}
 use Rattle.timer.specs.Timer.{timerOf, bufferOf}
-use Rattle.reply_rules.specs.declared.ReplyAnswer.{ReplyAnswer}
+use Rattle.reply.specs.declared.Replied.{Replied}
 use Rattle.reply_rules.specs.Answer as reply
 use Rattle.reply_clauses.specs.After.{Arrival, unexpired, answers}
 use Rattle.reply.specs.Reply.{repliedOf}
@@ -69,19 +69,19 @@ pendingIn q = cond (q .present) (some q) none
 abbrev pub timed : Association → TimerIn → (TimerAnswer × List ℕ) × Association
 timed a t = let o = timerOf a (t .poll) (length (t .buffer)) in ((o .answer, bufferOf a (t .poll) (t .buffer)), o .association)
 
--- both forms are what is given of what was read
-abbrev pub replied : Association → ReplyIn → ReplyAnswer × Association
-replied a r = let o = repliedOf a (readAs (a .settings) (a .state .request) r) (arrivalOf r) in (o .answer, o .association)
+-- both forms are what is given of what was read: the answer, what fell out of the stash, and the record
+abbrev pub replied : Association → ReplyIn → Replied × Association
+replied a r = let o = repliedOf a (readAs (a .settings) (a .state .request) r) (arrivalOf r) in (o .replied, o .association)
 
 -- no action follows from the number of a quiet answer
 abbrev pub machine : Machine rule
 machine = record {
   Record = Association;
   TimerAnswer = TimerAnswer × List ℕ;
-  ReplyAnswer = ReplyAnswer;
+  ReplyAnswer = Replied;
   timerNumber = λ x. timer.numberOf (x .0);
-  replyNumber = reply.numberOf;
-  Quiet = λ x. reply.actionsOf (reply.numberOf x) ≡ [];
+  replyNumber = λ x. reply.numberOf (x .answer);
+  Quiet = λ x. reply.actionsOf (reply.numberOf (x .answer)) ≡ [];
   settings = λ a. a .settings;
   pending = λ a. pendingIn (a .state .request);
   answered = λ a. a .state .request .answered;

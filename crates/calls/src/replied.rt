@@ -2,6 +2,8 @@
 use crate::Kind;
 use crate::inputs;
 use association::Association;
+use cookiestash::Dropped;
+use reply::Replied;
 use reply_rules::ReplyAnswer;
 use time_types::NtpTimestamp;
 
@@ -17,11 +19,15 @@ fn number(
 ) -> u8 {
     let nts = kind.nts;
     let held: usize = if nts { 8 } else { 0 };
+    let before = Replied {
+        answer: ReplyAnswer::NotWhole,
+        dropped: Dropped::none(),
+    };
     let out = crate::replies_owned(
         a,
         calls,
         calling,
-        ReplyAnswer::NotWhole,
+        before,
         kind,
         held,
         false,
@@ -33,7 +39,8 @@ fn number(
         NtpTimestamp(0x400000000),
         2000,
     );
-    let answer = out.answer;
+    let last = out.answer;
+    let answer = last.answer;
     answer.number()
 }
 

@@ -51,7 +51,7 @@ module _ (cap : ℕ) (s : CookieStash) (w : Whole cap s) where
 
 module _ (cap : ℕ) (s t : CookieStash) (v : Whole cap s) (w : Whole cap t) (n : length (s .slots) ≡ length (t .slots)) (r : s .read ≡ t .read) (c : cookies cap s ≡ cookies cap t) where
   held-same : s .held ≡ t .held
-  held-same = sym (length-cookies cap s v) ∙ ap length c ∙ length-cookies cap t w
+  held-same = sym (length-cookies cap s) ∙ ap length c ∙ length-cookies cap t
 
   round-same : (j : ℕ) → j < cap → slotAt (s .slots) (wrap cap (s .read + j)) ≡ slotAt (t .slots) (wrap cap (t .read + j))
   round-same j h =

@@ -1,15 +1,15 @@
 // The cookies that a client holds, given out oldest first.
 // Promises: the stash is a queue of at most as many cookies as its capacity; what is given out is no longer held, and a whole stash stays whole.
-// Rule: RULES, part 3; definitions in specs/Stash.antt, as a queue in specs/Queue.antt, when it is whole in specs/Whole.antt.
+// Rule: RULES, part 3 and No. 5; definitions in specs/Stash.antt, as a queue in specs/Queue.antt, when it is whole in specs/Whole.antt, what falls out in specs/Falling.antt.
 use cookielist::Entry;
 ghost use mathlib.Core.Path.{_≡_};
 ghost use mathlib.Core.Bool.{_&&_};
 ghost use Prim.Native.Nat.{_+_, _-_, _≤_, _<_};
 ghost use lib.ListN.{length, drop};
 ghost use Rattle.words.specs.Bytes.{zeros};
-ghost use Rattle.cookiestash.specs.Stash.{stored, slotOf, emptySlot, newOf, wrap, gapOf, rangeOf, putOf, storeOf, getOf};
+ghost use Rattle.cookiestash.specs.Stash.{stored, slotOf, emptySlot, newOf, wrap, gapOf, rangeOf, putOf, getOf};
 ghost use Rattle.cookiestash.specs.Whole.{padded, allPadded, lensOf, roundFree, seenOf, seenFrom};
-ghost use Rattle.cookiestash.specs.StoreList.{storeListOf};
+ghost use Rattle.cookiestash.specs.Falling.{oldestOf, storedOf, noneDropped, plusOf, Fit, storedListOf};
 
 // How many bytes a slot has: those of the longest cookie that is kept.
 pub const SLOT_BYTES: usize = cookielist::MAX_COOKIE;
@@ -43,6 +43,31 @@ pub struct Taken {
     pub found: bool,
     pub slot: Slot,
     pub stash: CookieStash,
+}
+
+// What falls out where one cookie is stored: whether an older one does, and how long it is.
+pub struct Fallen {
+    pub fell: bool,
+    pub len: u16,
+}
+
+// What falls out where cookies are stored: how many, and their lengths summed.
+#[repr(C)]
+pub struct Dropped {
+    pub count: u64,
+    pub bytes: u64,
+}
+
+// What `store` gives: the stash with the cookie, and what fell out of it.
+pub struct StoreOut {
+    pub stash: CookieStash,
+    pub fallen: Fallen,
+}
+
+// What `store_list` gives: the stash with the cookies, and what fell out of it.
+pub struct StoreListOut {
+    pub stash: CookieStash,
+    pub dropped: Dropped,
 }
 
 // What the rules read of a stash: whether it is whole; whether it has a cookie, how long the oldest is, and how many more there is room for once that is taken; its place and count.
@@ -218,6 +243,29 @@ impl Slot {
     }
 }
 
+impl Dropped {
+    // Nothing fell out.
+    pub fn none() -> Dropped
+        ensures { λ r. ⌜ r ≡ noneDropped ⌝ }
+    {
+        Dropped { count: 0, bytes: 0 }
+    }
+
+    // One more that fell out, or none.
+    fn plus(self, fallen: Fallen) -> Dropped
+        requires { ⌜ Fit (plusOf self fallen) ⌝ }
+        ensures { λ r. ⌜ r ≡ plusOf self fallen ⌝ }
+    {
+        if fallen.fell {
+            return Dropped {
+                count: self.count + 1,
+                bytes: self.bytes + fallen.len as u64,
+            };
+        }
+        self
+    }
+}
+
 impl CookieStash {
     pub fn new() -> CookieStash
         ensures { λ r. ⌜ r ≡ newOf ⌝ }
@@ -247,16 +295,42 @@ impl CookieStash {
         self
     }
 
+    // What falls out where one more is put: the oldest, when all are held.
+    fn falls(self, cap: usize) -> Fallen
+        requires { ⌜ (cap ≤ 8) × (self .read < cap) ⌝ }
+        ensures { λ r. ⌜ r ≡ oldestOf cap self ⌝ }
+    {
+        if self.held < cap {
+            return Fallen {
+                fell: false,
+                len: 0,
+            };
+        }
+        let oldest = self.slots[self.read];
+        Fallen {
+            fell: true,
+            len: oldest.len,
+        }
+    }
+
     // A stash that is out of range, or a cookie whose length no slot can name, changes nothing.
-    pub fn store(self, capacity: u8, cookie: &[u8]) -> CookieStash
-        ensures { λ r. ⌜ r ≡ storeOf capacity self (now (cookie .entry)) ⌝ }
+    pub fn store(self, capacity: u8, cookie: &[u8]) -> StoreOut
+        ensures { λ r. ⌜ r ≡ storedOf capacity self (now (cookie .entry)) ⌝ }
     {
         let cap = capacity as usize;
         if !in_range(cap, self.read, self.held) || MAX_LENGTH < cookie.len() {
-            return self;
+            return StoreOut {
+                stash: self,
+                fallen: Fallen {
+                    fell: false,
+                    len: 0,
+                },
+            };
         }
+        let fallen = self.falls(cap);
         let slot = Slot::filled(cookie);
-        self.put(cap, slot)
+        let stash = self.put(cap, slot);
+        StoreOut { stash, fallen }
     }
 
     // The oldest cookie, whose slot is cleared: a cookie that is used twice would tell who watches that both requests are the same client's.
@@ -332,19 +406,29 @@ impl CookieStash {
 }
 
 impl CookieStash {
-    // Stores the cookies of a list in order; of a broken list it stores nothing.
-    pub fn store_list(mut self, capacity: u8, list: &[u8]) -> CookieStash
-        ensures { λ r. ⌜ r ≡ storeListOf capacity self (now (list .entry)) ⌝ }
+    // Stores the cookies of a list in order; of a broken list it stores nothing. No list is so long that the sums overflow: what falls out was held or is in the list, where each cookie has four bytes before it.
+    pub fn store_list(mut self, capacity: u8, list: &[u8]) -> StoreListOut
+        ensures { λ r. ⌜ r ≡ storedListOf capacity self (now (list .entry)) ⌝ }
     {
+        let mut dropped = Dropped::none();
         if !cookielist::list_whole(list) {
-            return self;
+            return StoreListOut {
+                stash: self,
+                dropped,
+            };
         }
         let mut at: usize = 0;
         loop {
             let Entry::Cookie { start, end } = cookielist::entry_at(list, at) else {
-                return self;
+                return StoreListOut {
+                    stash: self,
+                    dropped,
+                };
             };
-            self = self.store(capacity, &list[start..end]);
+            let stored = self.store(capacity, &list[start..end]);
+            self = stored.stash;
+            let fallen = stored.fallen;
+            dropped = dropped.plus(fallen);
             at = end;
         }
     }

@@ -1,9 +1,11 @@
 // The calls new, accept and collect.
 use crate::Ran;
+use crate::replies;
 use accept::Bloom;
 use association::Association;
 use association::Settings;
 use collector::Collected;
+use cookiestash::Dropped;
 use drill_text::keys;
 use drill_text::keys::Values;
 use drill_text::names;
@@ -96,6 +98,24 @@ pub fn new_values(line: &[u8], number: u64, out: &mut [u8]) -> Values {
     )
 }
 
+// The number of new or metered, whose word is given; with 0, what fell out of the first list.
+pub fn put_made(out: &mut [u8], word: &[u8], number: u8, dropped: Dropped) -> usize {
+    let at = print::number(out, 0, word, number as u64);
+    if number != 0 {
+        return at;
+    }
+    replies::put_dropped(out, at, dropped)
+}
+
+fn made(settings: Settings, list: &[u8], out: &mut [u8]) -> Ran {
+    let new = Association::new(settings, list);
+    let answer = new.answer;
+    let dropped = new.dropped;
+    let end = put_made(out, b"new ", answer.number(), dropped);
+    let association = new.association;
+    Ran { association, end }
+}
+
 pub fn new(a: Association, line: &[u8], number: u64, out: &mut [u8]) -> Ran {
     let v = new_values(line, number, out);
     if v.refused {
@@ -106,11 +126,7 @@ pub fn new(a: Association, line: &[u8], number: u64, out: &mut [u8]) -> Ran {
     }
     let mut list = [0u8; MAX_BYTES];
     let len = v.bytes(new_key::LIST, line, &mut list);
-    let made = Association::new(settings_of(v), text::part(&list, 0, len));
-    let answer = made.answer;
-    let end = print::number(out, 0, b"new ", answer.number() as u64);
-    let association = made.association;
-    Ran { association, end }
+    made(settings_of(v), text::part(&list, 0, len), out)
 }
 
 fn bloom_of(n: u64) -> Bloom {

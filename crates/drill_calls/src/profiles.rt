@@ -2,9 +2,19 @@
 use crate::Ran;
 use crate::calls;
 use association::Association;
+use association::Settings;
 use drill_text::print;
 use drill_text::text;
 use drill_text::value::MAX_BYTES;
+
+fn made(settings: Settings, list: &[u8], out: &mut [u8]) -> Ran {
+    let metered = metered::metered(settings, list);
+    let answer = metered.answer;
+    let dropped = metered.dropped;
+    let end = calls::put_made(out, b"metered ", answer.number(), dropped);
+    let association = metered.association;
+    Ran { association, end }
+}
 
 pub fn metered(a: Association, line: &[u8], number: u64, out: &mut [u8]) -> Ran {
     let v = calls::new_values(line, number, out);
@@ -16,11 +26,7 @@ pub fn metered(a: Association, line: &[u8], number: u64, out: &mut [u8]) -> Ran 
     }
     let mut list = [0u8; MAX_BYTES];
     let len = v.bytes(calls::new_key::LIST, line, &mut list);
-    let made = metered::metered(calls::settings_of(v), text::part(&list, 0, len));
-    let answer = made.answer;
-    let end = print::number(out, 0, b"metered ", answer.number() as u64);
-    let association = made.association;
-    Ran { association, end }
+    made(calls::settings_of(v), text::part(&list, 0, len), out)
 }
 
 pub fn profile(a: Association, line: &[u8], number: u64, out: &mut [u8]) -> Ran {

@@ -2,6 +2,7 @@
 use crate::Ran;
 use association::Association;
 use collector::Collected;
+use cookiestash::Dropped;
 use drill_text::keys;
 use drill_text::keys::Values;
 use drill_text::names::kiss;
@@ -16,6 +17,7 @@ use header::Kisses;
 use incoming::DecodedMode;
 use incoming::DecodedReply;
 use incoming::NtpLeapIndicator;
+use reply::Replied;
 use reply::ReplyOut;
 use reply_clauses::Measurement;
 use reply_rules::ReplyAnswer;
@@ -99,20 +101,29 @@ fn put_quality(out: &mut [u8], at: usize, m: Measurement) -> usize {
     print::small(out, at, b" precision=", m.precision)
 }
 
+// What fell out of the stash while a list was stored.
+pub fn put_dropped(out: &mut [u8], at: usize, dropped: Dropped) -> usize {
+    let at = print::number(out, at, b" dropped=", dropped.count);
+    print::number(out, at, b" lost=", dropped.bytes)
+}
+
 // The answer to either form, whose word is given.
-fn put_reply(out: &mut [u8], word: &[u8], answer: ReplyAnswer) -> usize {
+fn put_reply(out: &mut [u8], word: &[u8], replied: Replied) -> usize {
+    let answer = replied.answer;
     let at = print::number(out, 0, word, answer.number() as u64);
     let ReplyAnswer::Measured(m) = answer else {
         return at;
     };
     let at = put_clocks(out, at, m);
     let at = put_root(out, at, m);
-    put_quality(out, at, m)
+    let at = put_quality(out, at, m);
+    let dropped = replied.dropped;
+    put_dropped(out, at, dropped)
 }
 
 fn answered(done: ReplyOut, word: &[u8], out: &mut [u8]) -> Ran {
-    let answer = done.answer;
-    let end = put_reply(out, word, answer);
+    let replied = done.replied;
+    let end = put_reply(out, word, replied);
     let association = done.association;
     Ran { association, end }
 }

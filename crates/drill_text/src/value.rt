@@ -1,7 +1,7 @@
 // Values: what a kind of value takes, as a number.
 //
 // A kind is a letter:
-//   n u64, u u8, b i8, s i64     a decimal number; a signed one may begin with '-' and is given as its 64 bits
+//   n u64, u u8, a 0 or 1, b i8, s i64     a decimal number; a signed one may begin with '-' and is given as its 64 bits
 //   l a leap indicator, o a mode, r w q R the room of a timer, a collector, a request writer, a writer of hand-over files     a decimal number
 //   x 16 hexadecimal digits, f 8
 //   i 64 hexadecimal digits, or '-'

@@ -38,11 +38,11 @@ use Rattle.embed_record.specs.declared.CAssociation.{CAssociation}
 use Rattle.embed_record.specs.Packed.{settingsOk, settingsIn, ok, unpack, pack}
 use Rattle.embed_record.proofs.Laws.{cassociation-back}
 use Rattle.embed_rules.specs.declared.CInput.{CInput}
-use Rattle.embed_rules.specs.declared.CMade.{CMade}
+use Rattle.embed_rules.specs.declared.CNew.{CNew}
 use Rattle.embed_rules.specs.Answers.{timerAnswer, replyAnswer}
 use Rattle.embed_rules.specs.Rules.{inputIn, madeOut, makeOf, meteredOut, makeMeteredOf}
 use Rattle.embed_rules.proofs.Laws.{timer-number, reply-number}
-use Rattle.embed.specs.Calls.{TimerCall, timerGave, timerPacked, timerCall, ReplyCall, replyGave, replyPacked, repliedCall}
+use Rattle.embed.specs.Calls.{TimerCall, timerGave, timerPacked, timerCall, ReplyCall, replyGave, withDropped, replyPacked, repliedCall}
 use Rattle.embed.specs.Written.{collectedAs, requestedAs}
 use Rattle.embed.proofs.Thin.{calls, refused, answers, rejected}
 
@@ -73,23 +73,23 @@ module _ (a : CAssociation) (read : ReplyRead) (t : Arrival) where
   abbrev reply : ReplyCall
   reply = repliedCall a read t
 
-  pub reply-refused : T (turnsAway (reply .answer .number)) → reply ≡ replyGave (reply .answer) a
+  pub reply-refused : T (turnsAway (reply .replied .answer .number)) → reply ≡ replyGave (reply .replied) a
   reply-refused z = by (ok a) refl
     where
-      by : (b : Bool) → ok a ≡ b → reply ≡ replyGave (reply .answer) a
+      by : (b : Bool) → ok a ≡ b → reply ≡ replyGave (reply .replied) a
       by true e =
           let q = answers a read t e in
           let r = repliedOf (unpack a) read t in
-          let n : T (turnsAway (reply-answer.numberOf (r .answer))) = subst (λ (k : ℕ). T (turnsAway k)) (ap (λ (c : ReplyCall). c .answer .number) q ∙ reply-number (r .answer)) z in
+          let n : T (turnsAway (reply-answer.numberOf (r .replied .answer))) = subst (λ (k : ℕ). T (turnsAway k)) (ap (λ (c : ReplyCall). c .replied .answer .number) q ∙ reply-number (r .replied .answer)) z in
           let same = ap pack (heard (unpack a) read t (given (unpack a) read t) .same n) ∙ cassociation-back a e in
-          q ∙ ((λ j. replyGave (replyAnswer (r .answer)) (same j)) ∙ sym (ap (λ (c : ReplyCall). replyGave (c .answer) a) q))
-      by false e = let q = rejected a read t e in q ∙ sym (ap (λ (c : ReplyCall). replyGave (c .answer) a) q)
+          q ∙ ((λ j. replyGave (withDropped (replyAnswer (r .replied .answer)) (r .replied .dropped)) (same j)) ∙ sym (ap (λ (c : ReplyCall). replyGave (c .replied) a) q))
+      by false e = let q = rejected a read t e in q ∙ sym (ap (λ (c : ReplyCall). replyGave (c .replied) a) q)
 
 -- ---- new: 30 and 33
 
 module _ (g : CSettings) (list : List ℕ) where
-  abbrev Blank : CMade → Type 0
-  Blank m = (m .number ≡ 0 → ⊥) → m .association ≡ pack blankOf
+  abbrev Blank : CNew → Type 0
+  Blank m = (m .answer .number ≡ 0 → ⊥) → m .association ≡ pack blankOf
 
   made-or-blank : (s : Settings) → Blank (madeOut (new.newOf s list))
   unfolding new.newOf

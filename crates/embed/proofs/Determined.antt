@@ -88,7 +88,7 @@ abbrev pub reply-post : (κs : Lfts 4) → ArgsD reply.signature κs → ResD re
 reply-post = PostOf reply.ended (λ w. reply.clauses (w .𝓤) (w .H) (w .𝓖 .A) (w .𝓜 .mem) (w .𝓡 .run)) (λ w κs a. tt) (λ κs a y e. all-models _ (λ w. r-last _) (λ w. refl) (λ w. refl) (λ w. refl))
 
 pub reply-determined : DeterminedLent {S = CAssociation} reply-post (λ κs e. now (e .0))
-reply-determined κs a y z e f p q = let e = p ∙ sym q in (ap (λ (t : ReplyCall). t .answer) e, ap (λ (t : ReplyCall). t .association) e)
+reply-determined κs a y z e f p q = let e = p ∙ sym q in (ap (λ (t : ReplyCall). t .replied) e, ap (λ (t : ReplyCall). t .association) e)
 
 abbrev pub reply-decoded-post : (κs : Lfts 2) → ArgsD reply-decoded.signature κs → ResD reply-decoded.signature κs → AtExit reply-decoded.ended κs → Type 0
 reply-decoded-post =
@@ -96,7 +96,7 @@ reply-decoded-post =
     (λ κs a y e. all-models _ (λ w. r-last _) (λ w. refl) (λ w. refl) (λ w. refl))
 
 pub reply-decoded-determined : DeterminedLent {S = CAssociation} reply-decoded-post (λ κs e. now (e .0))
-reply-decoded-determined κs a y z e f p q = let e = p ∙ sym q in (ap (λ (t : ReplyCall). t .answer) e, ap (λ (t : ReplyCall). t .association) e)
+reply-decoded-determined κs a y z e f p q = let e = p ∙ sym q in (ap (λ (t : ReplyCall). t .replied) e, ap (λ (t : ReplyCall). t .association) e)
 
 abbrev pub accept-post : (κs : Lfts 2) → ArgsD accept.signature κs → ResD accept.signature κs → AtExit accept.ended κs → Type 0
 accept-post = PostOf accept.ended (λ w. accept.clauses (w .𝓤) (w .H) (w .𝓖 .A) (w .𝓜 .mem) (w .𝓡 .run)) (λ w κs a. tt) (λ κs a y e. all-models _ (λ w. r-last _) (λ w. refl) (λ w. refl) (λ w. refl))

@@ -9,7 +9,9 @@ use Rattle.words.proofs.Tests.{either}
 use Rattle.cookiestash.specs.declared.CookieStash.{CookieStash}
 use Rattle.cookiestash.specs.declared.Seen.{Seen}
 use Rattle.cookiestash.specs.Stash.{getOf}
+use Rattle.cookiestash.specs.declared.Dropped.{Dropped}
 use Rattle.cookiestash.specs.StoreList.{storeListOf}
+use Rattle.cookiestash.specs.Falling.{noneDropped, droppedOf}
 use Rattle.cookiestash.specs.Whole.{seenOf}
 use Rattle.lent_stash.specs.Lent.{handedOf}
 use Rattle.timer_rules.specs.Decide as rules
@@ -31,7 +33,7 @@ use Rattle.embed_rules.specs.declared.CVerdict.{CVerdict}
 use Rattle.embed_rules.specs.Answers.{unsent, unmeasured, bloomIn}
 use Rattle.embed_rules.specs.Rules.{inputIn, decisionOut, decideOf, verdictOut, judgeOf, acceptedOf}
 use Rattle.embed_rules.proofs.Laws.{decides, judges}
-use Rattle.embed.specs.Calls.{TimerCall, timerGave, timerPacked, timerCall, ReplyCall, replyGave, replyPacked, repliedCall, acceptCall}
+use Rattle.embed.specs.Calls.{TimerCall, timerGave, timerPacked, timerCall, ReplyCall, replyGave, withDropped, replyPacked, repliedCall, acceptCall}
 
 module _ (a : CAssociation) where
   -- the settings, which no call changes, are what they unpack to
@@ -78,8 +80,8 @@ module _ (a : CAssociation) where
 
   -- ---- the reply
   module _ (read : ReplyRead) (t : Arrival) where
-    abbrev Replies : CVerdict → CookieStash → Type 0
-    Replies v w = replyGave (v .answer) (made (a .settings) w (v .state)) ≡ repliedCall a read t
+    abbrev Replies : CVerdict → CookieStash → Dropped → Type 0
+    Replies v w d = replyGave (withDropped (v .answer) d) (made (a .settings) w (v .state)) ≡ repliedCall a read t
 
     rejects : ok a ≡ false → (rs : Seen) → judgeOf (a .settings) (a .state) rs read t ≡ record { answer = unmeasured 32; state = a .state; stores = false }
     unfolding judgeOf
@@ -89,28 +91,30 @@ module _ (a : CAssociation) where
     unfolding repliedCall
     answers e = rw e
 
-    pub rejected : ok a ≡ false → repliedCall a read t ≡ replyGave (unmeasured 32) a
+    pub rejected : ok a ≡ false → repliedCall a read t ≡ replyGave (withDropped (unmeasured 32) noneDropped) a
     unfolding repliedCall
     rejected e = rw e
 
-    -- what was seen, judged and left
-    pub reply-told : (rs : Seen) (v : CVerdict) (w : CookieStash) → rs ≡ seenOf 8 (a .stash) → v ≡ judgeOf (a .settings) (a .state) rs read t
-        → w ≡ cond (v .stores) (storeListOf 8 (a .stash) (t .list)) (a .stash) → Replies v w
-    reply-told rs v w es ev ew = by (ok a) refl
+    -- what was seen, judged, left and fell out
+    pub reply-told : (rs : Seen) (v : CVerdict) (w : CookieStash) (d : Dropped) → rs ≡ seenOf 8 (a .stash) → v ≡ judgeOf (a .settings) (a .state) rs read t
+        → w ≡ cond (v .stores) (storeListOf 8 (a .stash) (t .list)) (a .stash) → d ≡ cond (v .stores) (droppedOf 8 (a .stash) (t .list)) noneDropped → Replies v w d
+    reply-told rs v w d es ev ew ed = by (ok a) refl
       where
-        by : (b : Bool) → ok a ≡ b → Replies v w
+        by : (b : Bool) → ok a ≡ b → Replies v w d
         by true e =
             let r = verdictOf (settingsIn (a .settings)) (stateIn (a .state)) rs read t in
             let k : v ≡ verdictOut r = ev ∙ judges (a .settings) (a .state) rs e read t in
-            (λ j. replyGave (k j .answer) (kept e w (k j .state) j))
+            (λ j. replyGave (withDropped (k j .answer) d) (kept e w (k j .state) j))
             ∙ (ap replyPacked
-            (reply.told (unpack a) read t rs r w es refl
-            (ew ∙ ap (λ (c : CVerdict). cond (c .stores) (storeListOf 8 (a .stash) (t .list)) (a .stash)) k))
+            (reply.told (unpack a) read t rs r w d es refl
+            (ew ∙ ap (λ (c : CVerdict). cond (c .stores) (storeListOf 8 (a .stash) (t .list)) (a .stash)) k)
+            (ed ∙ ap (λ (c : CVerdict). cond (c .stores) (droppedOf 8 (a .stash) (t .list)) noneDropped) k))
             ∙ sym (answers e))
         by false e =
             let k = ev ∙ rejects e rs in
             let l : w ≡ a .stash = ew ∙ ap (λ (c : CVerdict). cond (c .stores) (storeListOf 8 (a .stash) (t .list)) (a .stash)) k in
-            (λ j. replyGave (k j .answer) (made (a .settings) (l j) (k j .state))) ∙ sym (rejected e)
+            let m : d ≡ noneDropped = ed ∙ ap (λ (c : CVerdict). cond (c .stores) (droppedOf 8 (a .stash) (t .list)) noneDropped) k in
+            (λ j. replyGave (withDropped (k j .answer) (m j)) (made (a .settings) (l j) (k j .state))) ∙ sym (rejected e)
 
   -- ---- accept
   pub accept-told : (rs : Seen) (stratum : ℕ) (local : List ℕ) (bloom : ℕ) → rs ≡ seenOf 8 (a .stash) → acceptedOf (a .settings) (a .state) rs stratum local bloom ≡ acceptCall a stratum local bloom

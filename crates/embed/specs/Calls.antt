@@ -3,6 +3,8 @@
 use mathlib.Core.Bool.{_&&_, cond}
 use mathlib.Core.List.{List}
 use Prim.Native.Nat.{ℕ}
+use Rattle.cookiestash.specs.declared.Dropped.{Dropped}
+use Rattle.cookiestash.specs.Falling.{noneDropped}
 use Rattle.timer.specs.Timer.{Timed, timedOf}
 use Rattle.incoming.specs.declared.ReplyRead.{ReplyRead}
 use Rattle.reply_clauses.specs.After.{Arrival}
@@ -15,6 +17,7 @@ use Rattle.embed_rules.specs.declared.CInput.{CInput}
 use Rattle.embed_rules.specs.declared.CTimerAnswer.{CTimerAnswer}
 use Rattle.embed_rules.specs.declared.CReplyAnswer.{CReplyAnswer}
 use Rattle.embed_rules.specs.declared.CDecoded.{CDecoded}
+use Rattle.embed.specs.declared.CReplied.{CReplied}
 use Rattle.embed_rules.specs.Answers.{unsent, timerAnswer, unmeasured, replyAnswer, bloomIn}
 use Rattle.embed_rules.specs.Decoded.{decodedRead}
 use Rattle.embed_rules.specs.Rules.{inputIn, packetRead}
@@ -39,18 +42,22 @@ timerCall a i buffer = cond (ok a) (timerPacked (timedOf (unpack a) (inputIn i) 
 -- ---- the reply
 
 pub record ReplyCall : Type 0 where
-  pub answer : CReplyAnswer
+  pub replied : CReplied
   pub association : CAssociation
 
-abbrev pub replyGave : CReplyAnswer → CAssociation → ReplyCall
-replyGave r a = record { answer = r; association = a }
+abbrev pub replyGave : CReplied → CAssociation → ReplyCall
+replyGave r a = record { replied = r; association = a }
+
+-- an answer, with what fell out of the stash (RULES, No. 5)
+abbrev pub withDropped : CReplyAnswer → Dropped → CReplied
+withDropped r d = record { answer = r; dropped = d }
 
 abbrev pub replyPacked : ReplyOut → ReplyCall
-replyPacked o = replyGave (replyAnswer (o .answer)) (pack (o .association))
+replyPacked o = replyGave (withDropped (replyAnswer (o .replied .answer)) (o .replied .dropped)) (pack (o .association))
 
 -- of what was read, by either form
 unfoldable pub repliedCall : CAssociation → ReplyRead → Arrival → ReplyCall
-repliedCall a read t = cond (ok a) (replyPacked (repliedOf (unpack a) read t)) (replyGave (unmeasured 32) a)
+repliedCall a read t = cond (ok a) (replyPacked (repliedOf (unpack a) read t)) (replyGave (withDropped (unmeasured 32) noneDropped) a)
 
 -- the byte form
 abbrev pub replyCall : CAssociation → List ℕ → ℕ → List ℕ → Arrival → ReplyCall

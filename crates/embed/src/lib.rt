@@ -1,13 +1,15 @@
 // What a caller from C or Rust links: the calls of the association, over a record that the caller lends, and the tools beside it.
 // Promises: each is the call behind it on the unpacked record, packed again, and has a defined answer on any bytes whatever.
-// Rule: RULES, parts 7 and 10 to 12, and No. 1, No. 6, No. 9 and No. 13; definitions in specs/Calls.antt and specs/Written.antt, of the tools in embed_tools, of the
-// hand-over file in embed_handover.
+// Rule: RULES, parts 7 and 10 to 12, and No. 1, No. 5, No. 6, No. 9, No. 11 and No. 13; definitions in specs/Calls.antt and specs/Written.antt, of the
+// tools in embed_tools, of the hand-over file in embed_handover.
 use collector::Collected;
 use cookiestash::CAPACITY;
+use cookiestash::Dropped;
 use embed_record::CAssociation;
 use embed_record::CSettings;
 use embed_rules::CDecoded;
 use embed_rules::CInput;
+use embed_rules::CNewAnswer;
 use embed_rules::CReplyAnswer;
 use embed_rules::CTimerAnswer;
 use embed_rules::CUid;
@@ -59,22 +61,30 @@ pub extern "C" fn reckonstile_blank(a: &mut CAssociation) -> u32
 
 // The record becomes a new association: 0. Blank where it is refused: 30, 33.
 #[no_mangle]
-pub extern "C" fn reckonstile_new(a: &mut CAssociation, settings: CSettings, list: &[u8]) -> u32
-    ensures { λ r. ⌜ (r ≡ makeOf settings (now (list .entry)) .number) × (now (a .exit) ≡ makeOf settings (now (list .entry)) .association) ⌝ }
+pub extern "C" fn reckonstile_new(
+    a: &mut CAssociation,
+    settings: CSettings,
+    list: &[u8],
+) -> CNewAnswer
+    ensures { λ r. ⌜ (r ≡ makeOf settings (now (list .entry)) .answer) × (now (a .exit) ≡ makeOf settings (now (list .entry)) .association) ⌝ }
 {
     let out = embed_rules::make(settings, list);
     *a = out.association;
-    out.number
+    out.answer
 }
 
 // The record becomes a metered association: 0. Blank where it is refused: 30, 33 to 37.
 #[no_mangle]
-pub extern "C" fn reckonstile_metered(a: &mut CAssociation, settings: CSettings, list: &[u8]) -> u32
-    ensures { λ r. ⌜ (r ≡ makeMeteredOf settings (now (list .entry)) .number) × (now (a .exit) ≡ makeMeteredOf settings (now (list .entry)) .association) ⌝ }
+pub extern "C" fn reckonstile_metered(
+    a: &mut CAssociation,
+    settings: CSettings,
+    list: &[u8],
+) -> CNewAnswer
+    ensures { λ r. ⌜ (r ≡ makeMeteredOf settings (now (list .entry)) .answer) × (now (a .exit) ≡ makeMeteredOf settings (now (list .entry)) .association) ⌝ }
 {
     let out = embed_rules::make_metered(settings, list);
     *a = out.association;
-    out.number
+    out.answer
 }
 
 // The number that `reckonstile_metered` gives; there is no record.
@@ -112,6 +122,13 @@ pub extern "C" fn reckonstile_timer(
     decision.answer
 }
 
+// What a reply answers, with what fell out of the stash while its cookies were stored.
+#[repr(C)]
+pub struct CReplied {
+    pub answer: CReplyAnswer,
+    pub dropped: Dropped,
+}
+
 // A reply of V3 or V4, as bytes: 0 to 11, 32, 33.
 #[no_mangle]
 pub extern "C" fn reckonstile_reply(
@@ -123,7 +140,7 @@ pub extern "C" fn reckonstile_reply(
     t1: NtpTimestamp,
     t4: NtpTimestamp,
     time: u64,
-) -> CReplyAnswer
+) -> CReplied
     ensures { λ r. ⌜ replyGave r (now (a .exit)) ≡ replyCall (now (a .entry)) (now (packet .entry)) end (now (decrypted .entry)) (arrival (now (list .entry)) t1 t4 time) ⌝ }
 {
     let seen = lent_stash::see(&a.stash, CAPACITY);
@@ -142,8 +159,11 @@ pub extern "C" fn reckonstile_reply(
         time,
     );
     a.state = verdict.state;
-    lent_stash::refill(&mut a.stash, CAPACITY, verdict.stores, list);
-    verdict.answer
+    let dropped = lent_stash::refill(&mut a.stash, CAPACITY, verdict.stores, list);
+    CReplied {
+        answer: verdict.answer,
+        dropped,
+    }
 }
 
 // A reply of V5, decoded by the caller: the same numbers.
@@ -155,7 +175,7 @@ pub extern "C" fn reckonstile_reply_decoded(
     t1: NtpTimestamp,
     t4: NtpTimestamp,
     time: u64,
-) -> CReplyAnswer
+) -> CReplied
     ensures { λ r. ⌜ replyGave r (now (a .exit)) ≡ decodedCall (now (a .entry)) d (arrival (now (list .entry)) t1 t4 time) ⌝ }
 {
     let seen = lent_stash::see(&a.stash, CAPACITY);
@@ -163,8 +183,11 @@ pub extern "C" fn reckonstile_reply_decoded(
     let state = a.state;
     let verdict = embed_rules::judge_decoded(settings, state, seen, d, list, t1, t4, time);
     a.state = verdict.state;
-    lent_stash::refill(&mut a.stash, CAPACITY, verdict.stores, list);
-    verdict.answer
+    let dropped = lent_stash::refill(&mut a.stash, CAPACITY, verdict.stores, list);
+    CReplied {
+        answer: verdict.answer,
+        dropped,
+    }
 }
 
 // Whether the source may be used: 0, 40, 41, 42, 32. The record is only read.

@@ -28,9 +28,10 @@ use Rattle.embed_record.specs.Packed.{settingsOk, settingsIn, unpackSettings, s
 use Rattle.embed_record.proofs.Laws.{right-true, cstate-back}
 use Rattle.embed_rules.specs.declared.CInput.{CInput}
 use Rattle.embed_rules.specs.declared.CDecoded.{CDecoded}
-use Rattle.embed_rules.specs.Answers.{timerAnswer, unmeasured, replyAnswer, bloomIn}
+use Rattle.embed_rules.specs.Answers.{timerAnswer, unmeasured, replyAnswer, bloomIn, newAnswer}
+use Rattle.cookiestash.specs.Falling.{noneDropped}
 use Rattle.embed_rules.specs.Decoded.{decodedOk, decodedIn, decodedRead}
-use Rattle.embed_rules.specs.Rules.{inputIn, decisionOut, decideOf, verdictOut, judgeOf, madeOut, makeOf, profiledOf, meteredOut, makeMeteredOf, acceptedOf}
+use Rattle.embed_rules.specs.Rules.{inputIn, decisionOut, decideOf, verdictOut, judgeOf, madeOut, madeNone, makeOf, profiledOf, meteredOut, makeMeteredOf, acceptedOf}
 
 -- ---- the numbers
 
@@ -107,7 +108,7 @@ module _ (g : CSettings) (list : List ℕ) where
   unfolding makeOf
   makes e = rw e
 
-  pub makes-none : settingsOk g ≡ false → makeOf g list ≡ record { number = 30; association = pack blankOf }
+  pub makes-none : settingsOk g ≡ false → makeOf g list ≡ madeNone
   unfolding makeOf
   makes-none e = rw e
 
@@ -123,17 +124,17 @@ module _ (g : CSettings) (list : List ℕ) where
   unfolding makeMeteredOf
   makes-metered e = rw e
 
-  pub makes-no-metered : settingsOk g ≡ false → makeMeteredOf g list ≡ record { number = 30; association = pack blankOf }
+  pub makes-no-metered : settingsOk g ≡ false → makeMeteredOf g list ≡ madeNone
   unfolding makeMeteredOf
   makes-no-metered e = rw e
 
   -- the call gives the check's number
-  pub metered-number : makeMeteredOf g list .number ≡ profiledOf g list
+  pub metered-number : makeMeteredOf g list .answer .number ≡ profiledOf g list
   unfolding makeMeteredOf profiledOf metered.meteredOf
   metered-number = by (settingsOk g)
     where
       by : (b : Bool) →
-          cond b (meteredOut (metered.meteredOf (settingsIn g) list)) (record { number = 30; association = pack blankOf }) .number
+          cond b (meteredOut (metered.meteredOf (settingsIn g) list)) madeNone .answer .number
           ≡ cond b (metered.numberOf (metered.profileOf (settingsIn g) list)) 30
       by true = refl
       by false = refl

@@ -4,6 +4,7 @@ use Prim.Native.Nat.{ℕ}
 use mathlib.Core.Bool.{cond}
 use lib.Dec.{eqb}
 use lib.IntN.{pos}
+use Rattle.cookiestash.specs.declared.Dropped.{Dropped}
 use Rattle.version.specs.declared.SendKind.{SendKind}
 use Rattle.version.specs.declared.SendKind.the-variants as S
 use Rattle.time_types.specs.Poll.{interval}
@@ -18,6 +19,7 @@ use Rattle.accept.specs.declared.Bloom.{Bloom}
 use Rattle.accept.specs.declared.Bloom.the-variants as B
 use Rattle.embed_rules.specs.declared.CTimerAnswer.{CTimerAnswer}
 use Rattle.embed_rules.specs.declared.CReplyAnswer.{CReplyAnswer}
+use Rattle.embed_rules.specs.declared.CNewAnswer.{CNewAnswer}
 
 -- ---- the timer
 
@@ -93,6 +95,12 @@ replyAnswer R.BadStratum = unmeasured 10
 replyAnswer R.NotServer = unmeasured 11
 replyAnswer R.NotWhole = unmeasured 32
 replyAnswer R.BrokenList = unmeasured 33
+
+-- ---- new
+
+-- 0: the association is made; with what fell out of its first list (RULES, No. 5)
+abbrev pub newAnswer : ℕ → Dropped → CNewAnswer
+newAnswer number dropped = record { number = number; made = cond (eqb number 0) 1 0; dropped = dropped }
 
 -- ---- accept
 

@@ -4,6 +4,7 @@ use mathlib.Core.Bool.{false, _&&_, cond}
 use mathlib.Core.List.{List}
 use Prim.Native.Nat.{ℕ}
 use Rattle.cookiestash.specs.declared.Seen.{Seen}
+use Rattle.cookiestash.specs.Falling.{noneDropped}
 use Rattle.time_types.specs.declared.PollInterval.{PollInterval}
 use Rattle.association.specs.declared.NewOut.{NewOut}
 use Rattle.association.specs.New as new
@@ -28,7 +29,8 @@ use Rattle.embed_rules.specs.declared.CDecision.{CDecision}
 use Rattle.embed_rules.specs.declared.CVerdict.{CVerdict}
 use Rattle.embed_rules.specs.declared.CDecoded.{CDecoded}
 use Rattle.embed_rules.specs.declared.CMade.{CMade}
-use Rattle.embed_rules.specs.Answers.{unsent, timerAnswer, unmeasured, replyAnswer, bloomIn}
+use Rattle.embed_rules.specs.declared.CNew.{CNew}
+use Rattle.embed_rules.specs.Answers.{unsent, timerAnswer, unmeasured, replyAnswer, newAnswer, bloomIn}
 
 -- ---- the timer
 
@@ -67,12 +69,15 @@ packetRead g s packet end decrypted = readWith (settingsIn g) (stateIn s) packet
 abbrev pub blankMade : CMade
 blankMade = record { number = 0; association = pack blankOf }
 
-abbrev pub madeOut : NewOut → CMade
-madeOut o = record { number = new.numberOf (o .answer); association = pack (o .association) }
+abbrev pub madeOut : NewOut → CNew
+madeOut o = record { answer = newAnswer (new.numberOf (o .answer)) (o .dropped); association = pack (o .association) }
 
 -- where a code of the settings is of no kind: 30, and blank
-unfoldable pub makeOf : CSettings → List ℕ → CMade
-makeOf g list = cond (settingsOk g) (madeOut (new.newOf (settingsIn g) list)) (record { number = 30; association = pack blankOf })
+abbrev pub madeNone : CNew
+madeNone = record { answer = newAnswer 30 noneDropped; association = pack blankOf }
+
+unfoldable pub makeOf : CSettings → List ℕ → CNew
+makeOf g list = cond (settingsOk g) (madeOut (new.newOf (settingsIn g) list)) madeNone
 
 -- ---- the metered profile
 
@@ -80,11 +85,11 @@ makeOf g list = cond (settingsOk g) (madeOut (new.newOf (settingsIn g) list)) (r
 unfoldable pub profiledOf : CSettings → List ℕ → ℕ
 profiledOf g list = cond (settingsOk g) (metered.numberOf (metered.profileOf (settingsIn g) list)) 30
 
-abbrev pub meteredOut : MeteredOut → CMade
-meteredOut o = record { number = metered.numberOf (o .answer); association = pack (o .association) }
+abbrev pub meteredOut : MeteredOut → CNew
+meteredOut o = record { answer = newAnswer (metered.numberOf (o .answer)) (o .dropped); association = pack (o .association) }
 
-unfoldable pub makeMeteredOf : CSettings → List ℕ → CMade
-makeMeteredOf g list = cond (settingsOk g) (meteredOut (metered.meteredOf (settingsIn g) list)) (record { number = 30; association = pack blankOf })
+unfoldable pub makeMeteredOf : CSettings → List ℕ → CNew
+makeMeteredOf g list = cond (settingsOk g) (meteredOut (metered.meteredOf (settingsIn g) list)) madeNone
 
 -- ---- accept
 

@@ -1,8 +1,9 @@
 // The calls that are exported, by value: each unpacks what it is given, follows the rule of the call behind it, and packs what that leaves.
 // Promises: the rule on what is unpacked, packed again; 32 and the state as it was where a code of the record is of no kind.
-// Rule: RULES, parts 10 to 12; definitions in specs/Rules.antt, codes and answers in specs/Decoded.antt and specs/Answers.antt.
+// Rule: RULES, parts 10 to 12 and No. 5; definitions in specs/Rules.antt, codes and answers in specs/Decoded.antt and specs/Answers.antt.
 use accept::Bloom;
 use association::Association;
+use cookiestash::Dropped;
 use cookiestash::Seen;
 use embed_record::CAssociation;
 use embed_record::CSettings;
@@ -25,7 +26,7 @@ ghost use mathlib.Core.Path.{_≡_};
 ghost use mathlib.Core.Bool.{cond};
 ghost use lib.Dec.{leb, eqb};
 ghost use Rattle.reply_clauses.specs.After.{arrival};
-ghost use Rattle.embed_rules.specs.Answers.{sendCode, unsent, timerAnswer, unmeasured, measuredAs, replyAnswer, bloomIn};
+ghost use Rattle.embed_rules.specs.Answers.{sendCode, unsent, timerAnswer, unmeasured, measuredAs, replyAnswer, newAnswer, bloomIn};
 ghost use Rattle.embed_rules.specs.Decoded.{leapIn, modeIn, uidIn, bitsOk, kissesIn, uidsOk, decodedOk, decodedIn, decodedRead};
 ghost use Rattle.embed_rules.specs.Rules.{decideOf, verdictOut, judgeOf, packetRead, blankMade, makeOf, profiledOf, makeMeteredOf, acceptedOf};
 
@@ -507,6 +508,37 @@ pub struct CMade {
     pub association: CAssociation,
 }
 
+// What `new` and `metered` answer: the number, and what fell out of the first list.
+#[repr(C)]
+pub struct CNewAnswer {
+    pub number: u32,
+    // 1 where the association is made.
+    pub made: u32,
+    pub dropped: Dropped,
+}
+
+pub struct CNew {
+    pub answer: CNewAnswer,
+    pub association: CAssociation,
+}
+
+fn new_answer(number: u8, dropped: Dropped) -> CNewAnswer
+    ensures { λ r. ⌜ r ≡ newAnswer number dropped ⌝ }
+{
+    if number == 0 {
+        return CNewAnswer {
+            number: 0,
+            made: 1,
+            dropped,
+        };
+    }
+    CNewAnswer {
+        number: number as u32,
+        made: 0,
+        dropped,
+    }
+}
+
 pub fn blank() -> CMade
     ensures { λ r. ⌜ r ≡ blankMade ⌝ }
 {
@@ -519,26 +551,28 @@ pub fn blank() -> CMade
 }
 
 // A new association; where a code of the settings is of no kind: 30, and blank, as where a setting is outside its range.
-pub fn make(settings: CSettings, list: &[u8]) -> CMade
+pub fn make(settings: CSettings, list: &[u8]) -> CNew
     ensures { λ r. ⌜ r ≡ makeOf settings (now (list .entry)) ⌝ }
 {
     let g = embed_record::unpack_settings(settings);
     if !g.ok {
         let fresh = Association::blank();
         let association = embed_record::pack(fresh);
-        return CMade {
-            number: 30,
+        let answer = new_answer(30, Dropped::none());
+        return CNew {
+            answer,
             association,
         };
     }
     let inner = g.settings;
     let made = Association::new(inner, list);
     let told = made.answer;
+    let dropped = made.dropped;
     let fresh = made.association;
-    let number = told.number();
+    let answer = new_answer(told.number(), dropped);
     let association = embed_record::pack(fresh);
-    CMade {
-        number: number as u32,
+    CNew {
+        answer,
         association,
     }
 }
@@ -560,26 +594,28 @@ pub fn profile(settings: CSettings, list: &[u8]) -> u32
 }
 
 // A metered association; where a code of the settings is of no kind: 30, and blank, as `make` has it.
-pub fn make_metered(settings: CSettings, list: &[u8]) -> CMade
+pub fn make_metered(settings: CSettings, list: &[u8]) -> CNew
     ensures { λ r. ⌜ r ≡ makeMeteredOf settings (now (list .entry)) ⌝ }
 {
     let g = embed_record::unpack_settings(settings);
     if !g.ok {
         let fresh = Association::blank();
         let association = embed_record::pack(fresh);
-        return CMade {
-            number: 30,
+        let answer = new_answer(30, Dropped::none());
+        return CNew {
+            answer,
             association,
         };
     }
     let inner = g.settings;
     let made = metered::metered(inner, list);
     let told = made.answer;
+    let dropped = made.dropped;
     let fresh = made.association;
-    let number = told.number();
+    let answer = new_answer(told.number(), dropped);
     let association = embed_record::pack(fresh);
-    CMade {
-        number: number as u32,
+    CNew {
+        answer,
         association,
     }
 }

@@ -220,7 +220,7 @@ module _ (r : ℕ) (h : r < 8) (cs : List Cookie) (k : AllKeep cs) (few : length
 
 module _ (s : CookieStash) (w : Whole 8 s) (n : length (s .slots) ≡ 8) where
   few : length (cookies 8 s) ≤ 8
-  few = omega (arith, length-cookies 8 s w, w .counts)
+  few = omega (arith, length-cookies 8 s, w .counts)
 
   made-same : laidIn (emptyAt (s .read)) (cookies 8 s) ≡ s
   made-same =
@@ -253,7 +253,7 @@ module _ (s : CookieStash) (w : Whole 8 s) (n : length (s .slots) ≡ 8) where
   unfolding stashKnown
   stash-known =
       passes _ (lt-ltb (getD (stashBytes s) 0 0) 8 (omega (arith, reads-body, w .reads)))
-      ∙ le-leb (length (heldIn (stashBytes s))) 8 (omega (arith, ap length held-body, length-cookies 8 s w, w .counts))
+      ∙ le-leb (length (heldIn (stashBytes s))) 8 (omega (arith, ap length held-body, length-cookies 8 s, w .counts))
 
   some : stashFits (stashBytes s) ≡ isRun (runOf (drop 1 (stashBytes s)))
   unfolding stashFits stashBytes
@@ -265,7 +265,7 @@ module _ (s : CookieStash) (w : Whole 8 s) (n : length (s .slots) ≡ 8) where
   -- the reading place, and for each of at most eight cookies its length and at most 724 bytes
   pub stash-long : length (stashBytes s) ≤ 5809
   unfolding stashBytes
-  stash-long = omega (arith, bytes-bounds (cookies 8 s) (cookies-keep 8 s w), length-cookies 8 s w, w .counts)
+  stash-long = omega (arith, bytes-bounds (cookies 8 s) (cookies-keep 8 s w), length-cookies 8 s, w .counts)
 
 -- ---- the longest
 
@@ -283,7 +283,7 @@ bytes-filled (c ∷ cs) k f =
 
 pub stash-longest : (s : CookieStash) → Whole 8 s → s .held ≡ 8 → AllFill (cookies 8 s) → length (stashBytes s) ≡ 5809
 unfolding stashBytes
-stash-longest s w h f = omega (arith, bytes-filled (cookies 8 s) (cookies-keep 8 s w) f, length-cookies 8 s w)
+stash-longest s w h f = omega (arith, bytes-filled (cookies 8 s) (cookies-keep 8 s w) f, length-cookies 8 s)
 
 clash : {A : Type 0} → _≡_ {A = Bool} false true → A
 clash e = let z : _≡_ {A = ℕ} 0 1 = ap (λ (t : Bool). cond t 1 0) e in absurd (omega arith)

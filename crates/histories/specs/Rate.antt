@@ -8,7 +8,7 @@ use lib.IntN.{ℤ}
 use Rattle.time_types.specs.declared.PollInterval.{PollInterval}
 use Rattle.time_types.specs.Poll.{interval, crateRate}
 use Rattle.association.specs.declared.Association.{Association}
-use Rattle.reply_rules.specs.declared.ReplyAnswer.{ReplyAnswer}
+use Rattle.reply.specs.declared.Replied.{Replied}
 use Rattle.reply_rules.specs.Answer.{numberOf}
 use Rattle.log.specs.Machine.{Machine, Call, after, logOf}
 use Rattle.association_log.specs.Association.{ReplyIn, rule, replied, machine}
@@ -38,8 +38,8 @@ abbrev pub crateRemote : Association → PollInterval
 crateRemote a = interval (crateRate (a .state .polls .remote .0) (a .settings .max .0) (a .state .polls .last .0))
 
 -- a reply by the crate's rule: where it is a RATE kiss (5), the remote minimum is the crate's, and all else is ours
-abbrev pub crateReplied : Association → ReplyIn → ReplyAnswer × Association
-crateReplied a r = let o = replied a r in (o .0, cond (eqb (numberOf (o .0)) 5) (withRemote (o .1) (crateRemote a)) (o .1))
+abbrev pub crateReplied : Association → ReplyIn → Replied × Association
+crateReplied a r = let o = replied a r in (o .0, cond (eqb (numberOf (o .0 .answer)) 5) (withRemote (o .1) (crateRemote a)) (o .1))
 
 abbrev pub crateMachine : Machine rule
 crateMachine = withReply machine crateReplied

@@ -36,4 +36,4 @@ pub take-determined : DeterminedLent {S = CookieStash × List ℕ} take-post (λ
 take-determined κs a y z e f p q = (refl, λ i. ((p .0 ∙ sym (q .0)) i, (p .1 ∙ sym (q .1)) i))
 
 pub refill-determined : DeterminedLent refill-post (λ κs e. now (e .0))
-refill-determined κs a y z e f p q = (refl, p ∙ sym q)
+refill-determined κs a y z e f p q = (p .1 ∙ sym (q .1), p .0 ∙ sym (q .0))

@@ -1,9 +1,10 @@
 -- The cookies of a list are stored one by one: what a step stores, and what all steps come to.
 -- Assumes nothing.
 use Prim.Native.Nat.{ℕ, _+_, _-_, _<_, _≤_}
-use mathlib.Core.Path.{_≡_, refl, sym, _∙_, subst}
+use mathlib.Core.Path.{_≡_, refl, sym, _∙_, ap, subst}
 use mathlib.Core.Bool.{Bool, true, false, _&&_, cond}
 use mathlib.Core.List.{List, [], _∷_}
+use mathlib.Core.Logic.{inl}
 use native.Mathlib.Omega.{arith}
 use borrow.Author.Tests.{lt-ltb, le-leb, leb-false}
 use lib.Dec.{leb}
@@ -14,15 +15,24 @@ use Rattle.cookielist.specs.declared.Entry.{Entry}
 use Rattle.cookielist.specs.declared.Entry.the-variants.{Cookie, End, Broken}
 use Rattle.cookielist.specs.List.{entryAt, lengthAt, Listed, whole, broken, isWhole, cookiesFrom, cookiesIn}
 use Rattle.cookielist.proofs.Reader.{placed, ended, read-end, whole-cookie, whole-broken}
+use Rattle.cookielist.proofs.RoundTrip.{short-again}
 use Rattle.cookiestash.specs.declared.CookieStash.{CookieStash}
 use Rattle.cookiestash.specs.declared.Slot.{Slot}
-use Rattle.cookiestash.specs.Stash.{wrap, full, rangeOf, inRange, putOf, slotOf, storeOf}
+use Rattle.cookiestash.specs.declared.Fallen.{Fallen}
+use Rattle.cookiestash.specs.declared.Dropped.{Dropped}
+use Rattle.cookiestash.specs.Stash.{slotAt, wrap, full, rangeOf, inRange, putOf, slotOf, storeOf}
+use Rattle.cookiestash.specs.Queue as Q
 use Rattle.cookiestash.specs.Queue.{storeAll}
 use Rattle.cookiestash.specs.StoreList.{storeListed, storeListOf}
+use Rattle.cookiestash.specs.Whole.{Typed}
+use Rattle.cookiestash.specs.Falling.{oldestOf, fallenListed, tallyOf, noneDropped, droppedOf, plusOf, Fit}
 use Rattle.cookiestash.proofs.Places.{wrap-lt}
-use Rattle.cookiestash.proofs.Range.{within}
+use Rattle.cookiestash.proofs.Range.{within, InRange, store-range}
 use Rattle.cookiestash.proofs.StoreList.{listed-broken, listed-cookie}
-use Rattle.lent_stash.specs.Lent.{Stored, Stores, startOf}
+use Rattle.cookiestash.proofs.Falling.{added, from-none, less-fits, falls-broken, falls-stop, pushes, falls-cookie, fits}
+use Rattle.lent_stash.specs.declared.Change.{Change}
+use Rattle.lent_stash.specs.declared.Progress.{Progress}
+use Rattle.lent_stash.specs.Lent.{changed, Stores, startOf, Small, pushedOut, Advanced}
 
 -- ---- a step
 
@@ -69,25 +79,6 @@ module _ (cap read held : ℕ) (range : rangeOf cap read held ≡ true) (l : Lis
 
 -- ---- all steps
 
-pick-range : (cap : ℕ) (b : Bool) (held read : ℕ) → leb cap held ≡ b → (cap ≤ 8) × (read < cap) × (held ≤ cap) → rangeOf cap (cond b (wrap cap (read + 1)) read) (cond b held (held + 1)) ≡ true
-pick-range cap true held read e w = simp (le-leb cap 8 (w .0), lt-ltb (wrap cap (read + 1)) cap (wrap-lt cap (read + 1) (omega arith)), le-leb held cap (w .2))
-pick-range cap false held read e w = let n : held + 1 ≤ cap = omega (arith, leb-false cap held e) in simp (le-leb cap 8 (w .0), lt-ltb read cap (w .1), le-leb (held + 1) cap n)
-
-abbrev InRange : ℕ → CookieStash → Type 0
-InRange cap s = rangeOf cap (s .read) (s .held) ≡ true
-
-put-range : (cap : ℕ) (h : CookieStash) (x : Slot) → InRange cap h → InRange cap (putOf cap h x)
-unfolding putOf full
-put-range cap h x i = pick-range cap (leb cap (h .held)) (h .held) (h .read) refl (within cap (h .read) (h .held) i)
-
-store-by : (cap : ℕ) (h : CookieStash) (x : Slot) (b : Bool) → InRange cap h → InRange cap (cond b (putOf cap h x) h)
-store-by cap h x true i = put-range cap h x i
-store-by cap h x false i = i
-
-store-range : (cap : ℕ) (h : CookieStash) (c : List ℕ) → InRange cap h → InRange cap (storeOf cap h c)
-unfolding storeOf
-store-range cap h c i = store-by cap h (slotOf c) (inRange cap h && leb (length c) 65535) i
-
 -- a stash that is out of range stays as it is
 module _ (cap : ℕ) (h : CookieStash) (out : rangeOf cap (h .read) (h .held) ≡ false) where
   out-one : (c : List ℕ) → storeOf cap h c ≡ h
@@ -102,61 +93,126 @@ module _ (cap : ℕ) (h : CookieStash) (out : rangeOf cap (h .read) (h .held) �
   out-listed (whole cs) = out-all cs
   out-listed broken = refl
 
--- the loop's invariant, at an offset of the list and with the stash as it is there: what is left of the list, stored, makes of it what it is to become
-module _ (cap : ℕ) (target : CookieStash) where
-  record Going (w : CookieStash) (l : List ℕ) (at : ℕ) : Type 0 where
-    range : InRange cap w
-    sound : isWhole (cookiesFrom l at) ≡ true
-    rest : storeListed cap w (cookiesFrom l at) ≡ target
+-- what `advanced` adds is the oldest, where all slots are held
+pushed : (cap : ℕ) (h : CookieStash) (old : ℕ) → old ≡ slotAt (h .slots) (h .read) .len → oldestOf cap h ≡ pushedOut cap (h .held) old
+unfolding oldestOf full
+pushed cap h old e = rw e
 
-  pub record Along (w : CookieStash) (l : List ℕ) (at : ℕ) : Type 0 where
-    pub inside : at ≤ length l
-    going : at < length l → Going w l at
-    pub over : at ≡ length l → w ≡ target
+pub fit-pushed : (cap : ℕ) (h : CookieStash) (d : Dropped) (old : ℕ) → old ≡ slotAt (h .slots) (h .read) .len → Fit (plusOf d (oldestOf cap h)) → Fit (plusOf d (pushedOut cap (h .held) old))
+fit-pushed cap h d old e f = subst (λ (x : Fallen). Fit (plusOf d x)) (pushed cap h old e) f
+
+-- what is stored and what is added, together
+pub advances : (cap : ℕ) (h : CookieStash) (l : List ℕ) (p : Progress) (c : Change) (w : CookieStash) (old : ℕ) (r : Progress) → Stores cap l (p .at) (h .read) (h .held) c → w ≡ changed h c
+    → old ≡ slotAt (h .slots) (h .read) .len → r ≡ record { at = c .end; dropped = plusOf (p .dropped) (pushedOut cap (h .held) old) } → Advanced cap h l p r w
+advances cap h l p c w old r s e f g start end q =
+    let t = s .1 h refl refl start end q in
+    (g ∙ (λ i. record { at = t .0 i; dropped = plusOf (p .dropped) (sym (pushed cap h old f) i) }), e ∙ t .1)
+
+-- the loop's invariant, how far the list is read and with the stash as it is there: what is left of the list, stored, makes of the stash what it is to become, and what falls out then is the rest of what is to fall out
+module _ (cap : ℕ) (target : CookieStash) (total : Dropped) where
+  record Going (w : CookieStash) (l : List ℕ) (p : Progress) : Type 0 where
+    range : InRange cap w
+    sound : isWhole (cookiesFrom l (p .at)) ≡ true
+    rest : storeListed cap w (cookiesFrom l (p .at)) ≡ target
+    fell : added (p .dropped) (fallenListed cap w (cookiesFrom l (p .at))) ≡ total
+    fit : Fit total
+    bytes : Small l
+
+  pub record Along (w : CookieStash) (l : List ℕ) (p : Progress) : Type 0 where
+    pub inside : p .at ≤ length l
+    going : p .at < length l → Going w l p
+    pub over : p .at ≡ length l → (w ≡ target) × (p .dropped ≡ total)
 
   -- a whole list is read to its end
-  at-end : (w : CookieStash) (l : List ℕ) (at : ℕ) (e : Entry) → entryAt l at ≡ e → at ≡ length l → isWhole (cookiesFrom l at) ≡ true → storeListed cap w (cookiesFrom l at) ≡ w
-  at-end w l at (Cookie start end) p q k = let z = placed l at start end p in absurd (omega (arith, z))
-  at-end w l at End p q k = rw (read-end l at p)
-  at-end w l at Broken p q k = let z : false ≡ true = sym (whole-broken l at p) ∙ k in let y : _≡_ {A = ℕ} 0 1 = cc in absurd (omega arith)
+  at-end : (w : CookieStash) (l : List ℕ) (at : ℕ) (d : Dropped) (e : Entry) → entryAt l at ≡ e → at ≡ length l → isWhole (cookiesFrom l at) ≡ true
+      → (storeListed cap w (cookiesFrom l at) ≡ w) × (added d (fallenListed cap w (cookiesFrom l at)) ≡ d)
+  at-end w l at d (Cookie start end) p q k = let z = placed l at start end p in absurd (omega (arith, z))
+  at-end w l at d End p q k = (rw (read-end l at p), falls-stop cap w l at End d p (inl refl))
+  at-end w l at d Broken p q k = let z : false ≡ true = sym (whole-broken l at p) ∙ k in let y : _≡_ {A = ℕ} 0 1 = cc in absurd (omega arith)
 
-  made : (w : CookieStash) (l : List ℕ) (at : ℕ) → at ≤ length l → Going w l at → Along w l at
-  made w l at n g = record { inside = n; going = λ _. g; over = λ e. sym (at-end w l at (entryAt l at) refl e (g .sound)) ∙ g .rest }
+  made : (w : CookieStash) (l : List ℕ) (p : Progress) → p .at ≤ length l → Going w l p → Along w l p
+  made w l p n g =
+      record {
+        inside = n;
+        going = λ _. g;
+        over = λ e. let z = at-end w l (p .at) (p .dropped) (entryAt l (p .at)) refl e (g .sound) in (sym (z .0) ∙ g .rest, sym (z .1) ∙ g .fell);
+      }
 
-  next-by : (w : CookieStash) (l : List ℕ) (at r : ℕ) (w′ : CookieStash) → at < length l → Going w l at → Stored cap w l at r w′ → (e : Entry) → entryAt l at ≡ e → Along w′ l r × (length l - r < length l - at)
-  next-by w l at r w′ n g s (Cookie start end) p =
-      let z = placed l at start end p in
-      let q = s start end p in
-      let k = sym (whole-cookie l at start end p) ∙ g .sound in
+  module _ (w : CookieStash) (l : List ℕ) (p : Progress) (eight : length (w .slots) ≡ 8) (g : Going w l p) (start end : ℕ) (e : entryAt l (p .at) ≡ Cookie start end) where
+    abbrev next-cookie : List ℕ
+    next-cookie = part l start (end - start)
+
+    rest-whole : isWhole (cookiesFrom l end) ≡ true
+    rest-whole = sym (whole-cookie l (p .at) start end e) ∙ g .sound
+
+    short : length next-cookie ≤ 65535
+    short = short-again l (g .bytes) (p .at) start end (placed l (p .at) start end e)
+
+    -- what fell out by the cookie, beside what falls out behind it
+    abbrev later : List Q.Cookie
+    later = fallenListed cap (storeOf cap w next-cookie) (cookiesFrom l end)
+
+    fell-more : added (plusOf (p .dropped) (oldestOf cap w)) later ≡ total
+    fell-more =
+        ap (λ (x : Fallen). added (plusOf (p .dropped) x) later) (sym (pushes cap w eight (p .dropped) next-cookie short (g .range)))
+        ∙ (sym (falls-cookie cap w eight (p .dropped) l (g .bytes) (p .at) start end e rest-whole) ∙ g .fell)
+
+  next-by : (w : CookieStash) (l : List ℕ) (p r : Progress) (w′ : CookieStash) → length (w .slots) ≡ 8 → p .at < length l → Going w l p → Advanced cap w l p r w′ → (e : Entry) → entryAt l (p .at) ≡ e
+      → Along w′ l r × (length l - r .at < length l - p .at)
+  next-by w l p r w′ n less g s (Cookie start end) q =
+      let z = placed l (p .at) start end q in
+      let t = s start end q in
       let c = part l start (end - start) in
-      let u = made (storeOf cap w c) l end (z .within) (record { range = store-range cap w c (g .range); sound = k; rest = sym (listed-cookie cap w l at start end p k) ∙ g .rest }) in
-      (subst (λ (j : ℕ). Along w′ l j) (sym (q .0)) (subst (λ (v : CookieStash). Along v l end) (sym (q .1)) u), omega (arith, z, q .0))
-  next-by w l at r w′ n g s End p = let z = ended l at (omega arith) p in absurd (omega arith)
-  next-by w l at r w′ n g s Broken p = let z : false ≡ true = sym (whole-broken l at p) ∙ g .sound in let y : _≡_ {A = ℕ} 0 1 = cc in absurd (omega arith)
+      let k = rest-whole w l p n g start end q in
+      let j : Progress = record { at = end; dropped = plusOf (p .dropped) (oldestOf cap w) } in
+      let u = made (storeOf cap w c) l j (z .within)
+      (record { range = store-range cap w c (g .range); sound = k; rest = sym (listed-cookie cap w l (p .at) start end q k) ∙ g .rest; fell = fell-more w l p n g start end q; fit = g .fit; bytes = g .bytes }) in
+      (subst (λ (i : Progress). Along w′ l i) (sym (t .0)) (subst (λ (v : CookieStash). Along v l j) (sym (t .1)) u), omega (arith, z, ap (λ (i : Progress). i .at) (t .0)))
+  next-by w l p r w′ n less g s End q = let z = ended l (p .at) (omega arith) q in absurd (omega arith)
+  next-by w l p r w′ n less g s Broken q = let z : false ≡ true = sym (whole-broken l (p .at) q) ∙ g .sound in let y : _≡_ {A = ℕ} 0 1 = cc in absurd (omega arith)
 
   -- a turn of the loop
-  pub next : (w : CookieStash) (l : List ℕ) (at r : ℕ) (w′ : CookieStash) → at < length l → Along w l at → Stored cap w l at r w′ → Along w′ l r × (length l - r < length l - at)
-  next w l at r w′ n a s = next-by w l at r w′ n (a .going n) s (entryAt l at) refl
+  pub next : (w : CookieStash) (l : List ℕ) (p r : Progress) (w′ : CookieStash) → length (w .slots) ≡ 8 → p .at < length l → Along w l p → Advanced cap w l p r w′ → Along w′ l r × (length l - r .at < length l - p .at)
+  next w l p r w′ n less a s = next-by w l p r w′ n less (a .going less) s (entryAt l (p .at)) refl
 
-  pub range-at : (w : CookieStash) (l : List ℕ) (at : ℕ) → Along w l at → at < length l → InRange cap w
-  range-at w l at a n = a .going n .range
+  ready-by : (w : CookieStash) (l : List ℕ) (p : Progress) → length (w .slots) ≡ 8 → p .at < length l → Going w l p → (e : Entry) → entryAt l (p .at) ≡ e → InRange cap w × Fit (plusOf (p .dropped) (oldestOf cap w))
+  ready-by w l p n less g (Cookie start end) q = (g .range, less-fits (plusOf (p .dropped) (oldestOf cap w)) total (later w l p n g start end q) (fell-more w l p n g start end q) (g .fit))
+  ready-by w l p n less g End q = let z = ended l (p .at) (omega arith) q in absurd (omega arith)
+  ready-by w l p n less g Broken q = let z : false ≡ true = sym (whole-broken l (p .at) q) ∙ g .sound in let y : _≡_ {A = ℕ} 0 1 = cc in absurd (omega arith)
+
+  -- what a turn asks for
+  pub ready : (w : CookieStash) (l : List ℕ) (p : Progress) → length (w .slots) ≡ 8 → Along w l p → p .at < length l → InRange cap w × Fit (plusOf (p .dropped) (oldestOf cap w))
+  ready w l p n a less = ready-by w l p n less (a .going less) (entryAt l (p .at)) refl
 
   -- where nothing is stored the list's end is the start
-  at-once : (h : CookieStash) (l : List ℕ) → h ≡ target → Along h l (length l)
-  at-once h l e = record { inside = omega arith; going = λ n. absurd (omega arith); over = λ _. e }
+  at-once : (h : CookieStash) (l : List ℕ) → h ≡ target → noneDropped ≡ total → Along h l (record { at = length l; dropped = noneDropped })
+  at-once h l e d = record { inside = omega arith; going = λ n. absurd (omega arith); over = λ _. (e, d) }
 
 -- ---- the start
 
 abbrev pub target : ℕ → CookieStash → Bool → List ℕ → CookieStash
 target cap h t l = cond t (storeListOf cap h l) h
 
-starts-by : (cap : ℕ) (h : CookieStash) (l : List ℕ) (g k : Bool) → rangeOf cap (h .read) (h .held) ≡ g → isWhole (cookiesIn l) ≡ k → Along cap (storeListOf cap h l) h l (cond (g && k) 0 (length l))
-unfolding storeListOf cookiesIn
-starts-by cap h l true true e f = made cap (storeListOf cap h l) h l 0 (omega arith) (record { range = e; sound = f; rest = refl })
-starts-by cap h l true false e f = at-once cap (storeListOf cap h l) h l (sym (listed-broken cap h (cookiesIn l) f))
-starts-by cap h l false k e f = at-once cap (storeListOf cap h l) h l (sym (out-listed cap h e (cookiesIn l)))
+abbrev pub total : ℕ → CookieStash → Bool → List ℕ → Dropped
+total cap h t l = cond t (droppedOf cap h l) noneDropped
 
-pub starts : (cap : ℕ) (h : CookieStash) (t : Bool) (l : List ℕ) → Along cap (target cap h t l) h l (startOf cap t l (h .read) (h .held))
-unfolding startOf
-starts cap h true l = starts-by cap h l (rangeOf cap (h .read) (h .held)) (isWhole (cookiesIn l)) refl refl
-starts cap h false l = at-once cap h h l refl
+module _ (cap : ℕ) (h : CookieStash) (l : List ℕ) (typed : Typed h) (bytes : Small l) (n : length l < 18446744073709551616) where
+  none-at-all : (r : Listed) → fallenListed cap h r ≡ [] → noneDropped ≡ tallyOf (fallenListed cap h r)
+  none-at-all r e = rw e
+
+  out-falls : (r : Listed) → inRange cap h ≡ false → fallenListed cap h r ≡ []
+  out-falls (whole cs) e = rw e
+  out-falls broken e = refl
+
+  starts-by : (g k : Bool) → inRange cap h ≡ g → isWhole (cookiesIn l) ≡ k → Along cap (storeListOf cap h l) (droppedOf cap h l) h l (record { at = cond (g && k) 0 (length l); dropped = noneDropped })
+  unfolding storeListOf droppedOf cookiesIn inRange
+  starts-by true true e f =
+      made cap (storeListOf cap h l) (droppedOf cap h l) h l (record { at = 0; dropped = noneDropped }) (omega arith)
+      (record { range = e; sound = f; rest = refl; fell = from-none (fallenListed cap h (cookiesFrom l 0)); fit = fits cap h typed l bytes n; bytes = bytes })
+  starts-by true false e f = at-once cap (storeListOf cap h l) (droppedOf cap h l) h l (sym (listed-broken cap h (cookiesIn l) f)) (none-at-all (cookiesIn l) (falls-broken cap h (cookiesIn l) f))
+  starts-by false k e f = at-once cap (storeListOf cap h l) (droppedOf cap h l) h l (sym (out-listed cap h e (cookiesIn l))) (none-at-all (cookiesIn l) (out-falls (cookiesIn l) e))
+
+  pub starts : (t : Bool) → Along cap (target cap h t l) (total cap h t l) h l (record { at = startOf cap t l (h .read) (h .held); dropped = noneDropped })
+  unfolding startOf inRange
+  starts true = starts-by (inRange cap h) (isWhole (cookiesIn l)) refl refl
+  starts false = at-once cap h noneDropped h l refl refl

@@ -2,9 +2,10 @@
 -- Assumes nothing.
 use Prim.Native.Nat.{ℕ, _+_, _-_, _<_, min}
 use mathlib.Core.Path.{_≡_}
-use mathlib.Core.Bool.{Bool, _&&_, cond}
+use mathlib.Core.Bool.{Bool, true, _&&_, cond}
 use mathlib.Core.List.{List, [], _∷_, _++_}
-use lib.ListN.{length, take, drop, set}
+use lib.Dec.{leb}
+use lib.ListN.{length, getD, take, drop, set}
 use Rattle.words.specs.Bytes.{part}
 use Rattle.cookielist.specs.declared.Entry.the-variants.{Cookie}
 use Rattle.cookielist.specs.List.{entryAt, isWhole, cookiesIn}
@@ -13,7 +14,10 @@ use Rattle.cookiestash.specs.declared.CookieStash.{CookieStash}
 use Rattle.cookiestash.specs.declared.Seen.{Seen}
 use Rattle.cookiestash.specs.Stash.{stored, emptySlot, wrap, rangeOf, storeOf}
 use Rattle.cookiestash.specs.Whole.{padded, seenFrom}
+use Rattle.cookiestash.specs.declared.Fallen.{Fallen}
+use Rattle.cookiestash.specs.Falling.{noneFallen, oldestOf, plusOf}
 use Rattle.lent_stash.specs.declared.SlotSeen.{SlotSeen}
+use Rattle.lent_stash.specs.declared.Progress.{Progress}
 use Rattle.lent_stash.specs.declared.Change.{Change}
 
 -- what is read of a slot
@@ -50,6 +54,18 @@ Stored cap s l at next t = (start end : ℕ) → entryAt l at ≡ Cookie start e
 -- a change that stores it, in a stash of this place and count
 abbrev pub Stores : ℕ → List ℕ → ℕ → ℕ → ℕ → Change → Type 0
 Stores cap l at read held c = (c .place < 8) × ((s : CookieStash) → s .read ≡ read → s .held ≡ held → Stored cap s l at (c .end) (changed s c))
+
+-- what falls out where a cookie is stored in a stash of this count, with an oldest cookie of this length
+abbrev pub pushedOut : ℕ → ℕ → ℕ → Fallen
+pushedOut cap held old = cond (leb cap held) (record { fell = true; len = old }) noneFallen
+
+-- the cookie at the offset that a list is read to, stored: how far the list is read then, and the stash with the cookie
+abbrev pub Advanced : ℕ → CookieStash → List ℕ → Progress → Progress → CookieStash → Type 0
+Advanced cap s l p r t = (start end : ℕ) → entryAt l (p .at) ≡ Cookie start end → (r ≡ record { at = end; dropped = plusOf (p .dropped) (oldestOf cap s) }) × (t ≡ storeOf cap s (part l start (end - start)))
+
+-- a list of bytes
+abbrev pub Small : List ℕ → Type 0
+Small l = (i : ℕ) → getD l i 0 < 256
 
 -- where a list is read from: a list that is not to be stored, or is broken, is not read, and none is stored in a stash out of range
 unfoldable pub startOf : ℕ → Bool → List ℕ → ℕ → ℕ → ℕ

@@ -1,8 +1,9 @@
 // A stash that is lent: it is looked at, a cookie is taken, and a list is stored, where it lies.
 // Promises: what `cookiestash` promises of a stash by value; proved by hand (tools/walk). Of its bytes only those are copied that are handed out or change.
-// Rule: RULES, part 3; definitions in specs/Lent.antt.
+// Rule: RULES, part 3 and No. 5; definitions in specs/Lent.antt.
 use cookielist::Entry;
 use cookiestash::CookieStash;
+use cookiestash::Dropped;
 use cookiestash::Seen;
 use cookiestash::Slot;
 ghost use mathlib.Core.Path.{_≡_};
@@ -13,7 +14,8 @@ ghost use Rattle.words.specs.Bytes.{zeros};
 ghost use Rattle.cookiestash.specs.Stash.{stored, slotAt, rangeOf, getOf};
 ghost use Rattle.cookiestash.specs.Whole.{hasOf, seenOf};
 ghost use Rattle.cookiestash.specs.StoreList.{storeListOf};
-ghost use Rattle.lent_stash.specs.Lent.{slotSeen, weighedOf, wrote, handedOf, changed, clearedOf, Stored, Stores, startOf};
+ghost use Rattle.cookiestash.specs.Falling.{oldestOf, noneDropped, droppedOf, plusOf, Fit};
+ghost use Rattle.lent_stash.specs.Lent.{slotSeen, weighedOf, wrote, handedOf, changed, clearedOf, Stores, startOf, Small, pushedOut, Advanced};
 
 // What is read of a slot: whether the bytes past the stored ones are zero, and its length.
 struct SlotSeen {
@@ -28,6 +30,12 @@ struct Change {
     read: usize,
     held: usize,
     end: usize,
+}
+
+// How far a list is stored: the offset of the next entry, and what fell out so far.
+struct Progress {
+    at: usize,
+    dropped: Dropped,
 }
 
 // Whether the bytes past the stored ones are all zero. An empty slot is tested whole, with bounds that the compiler knows.
@@ -50,6 +58,15 @@ fn slot_at(s: &CookieStash, i: usize) -> SlotSeen
     let len = slot.len;
     let padded = padded_past(&slot.bytes, len);
     SlotSeen { padded, len }
+}
+
+// How long the cookie of a slot of a lent stash is.
+fn length_at(s: &CookieStash, i: usize) -> u16
+    requires { ⌜ i < 8 ⌝ }
+    ensures { λ r. ⌜ r ≡ slotAt (now (s .entry) .slots) i .len ⌝ }
+{
+    let slot = &s.slots[i];
+    slot.len
 }
 
 // Whether none of four slots has bytes past its stored ones.
@@ -258,40 +275,63 @@ fn nothing(end: usize) -> Change
     }
 }
 
-// Where a list is read from: its start, or, where nothing is to be stored, its end.
-fn start(capacity: u8, stores: bool, list: &[u8], read: usize, held: usize) -> usize
-    ensures { λ r. ⌜ r ≡ startOf capacity stores (now (list .entry)) read held ⌝ }
+// Where a list is read from: its start, or, where nothing is to be stored, its end. Nothing fell out yet.
+fn start(capacity: u8, stores: bool, list: &[u8], read: usize, held: usize) -> Progress
+    ensures { λ r. ⌜ (r ≡ record { at = startOf capacity stores (now (list .entry)) read held; dropped = noneDropped }) × Small (now (list .entry)) ⌝ }
 {
+    let dropped = Dropped::none();
     if stores {
         if cookiestash::in_range(capacity as usize, read, held) {
             if cookielist::list_whole(list) {
-                return 0;
+                return Progress { at: 0, dropped };
             }
         }
     }
-    list.len()
-}
-
-// The cookie at an offset of a list is stored where it is to lie, and the next one's offset returned.
-fn store_next(s: &mut CookieStash, capacity: u8, list: &[u8], at: usize) -> usize
-    requires { ⌜ rangeOf capacity (now s .read) (now s .held) ≡ true ⌝ }
-    ensures { λ r. ⌜ Stored capacity (now (s .entry)) (now (list .entry)) at r (now (s .exit)) ⌝ }
-{
-    let read = s.read;
-    let held = s.held;
-    let c = step(list, at, capacity, read, held);
-    apply(s, c);
-    c.end
-}
-
-// The cookies of a list are stored in a lent stash, or nothing is.
-pub fn refill(s: &mut CookieStash, capacity: u8, stores: bool, list: &[u8])
-    ensures { λ _. ⌜ now (s .exit) ≡ cond stores (storeListOf capacity (now (s .entry)) (now (list .entry))) (now (s .entry)) ⌝ }
-{
-    let read = s.read;
-    let held = s.held;
-    let mut at = start(capacity, stores, list, read, held);
-    while at < list.len() {
-        at = store_next(s, capacity, list, at);
+    Progress {
+        at: list.len(),
+        dropped,
     }
+}
+
+// A list is read on behind a cookie, which pushed the oldest out where all slots were held.
+fn advanced(capacity: u8, held: usize, old: u16, dropped: Dropped, end: usize) -> Progress
+    requires { ⌜ Fit (plusOf dropped (pushedOut capacity held old)) ⌝ }
+    ensures { λ r. ⌜ r ≡ record { at = end; dropped = plusOf dropped (pushedOut capacity held old) } ⌝ }
+{
+    if held < capacity as usize {
+        return Progress { at: end, dropped };
+    }
+    Progress {
+        at: end,
+        dropped: Dropped {
+            count: dropped.count + 1,
+            bytes: dropped.bytes + old as u64,
+        },
+    }
+}
+
+// The cookie at an offset of a list is stored where it is to lie; the next one's offset comes back, and what fell out.
+fn store_next(s: &mut CookieStash, capacity: u8, list: &[u8], p: Progress) -> Progress
+    requires { ⌜ (rangeOf capacity (now s .read) (now s .held) ≡ true) × Fit (plusOf (p .dropped) (oldestOf capacity (now s))) ⌝ }
+    ensures { λ r. ⌜ Advanced capacity (now (s .entry)) (now (list .entry)) p r (now (s .exit)) ⌝ }
+{
+    let read = s.read;
+    let held = s.held;
+    let old = length_at(s, read);
+    let c = step(list, p.at, capacity, read, held);
+    apply(s, c);
+    advanced(capacity, held, old, p.dropped, c.end)
+}
+
+// The cookies of a list are stored in a lent stash, or nothing is; what fell out comes back.
+pub fn refill(s: &mut CookieStash, capacity: u8, stores: bool, list: &[u8]) -> Dropped
+    ensures { λ r. ⌜ (now (s .exit) ≡ cond stores (storeListOf capacity (now (s .entry)) (now (list .entry))) (now (s .entry))) × (r ≡ cond stores (droppedOf capacity (now (s .entry)) (now (list .entry))) noneDropped) ⌝ }
+{
+    let read = s.read;
+    let held = s.held;
+    let mut p = start(capacity, stores, list, read, held);
+    while p.at < list.len() {
+        p = store_next(s, capacity, list, p);
+    }
+    p.dropped
 }

@@ -39,6 +39,11 @@ module _ (s : Settings) (list : List ℕ) where
   unfolding meteredOf
   same-record e = when _ _ (eq-eqb _ _ e)
 
+  -- with what the plain call says fell out of the list
+  pub same-dropped : numberOf (profileOf s list) ≡ 0 → meteredOf s list .dropped ≡ new.newOf s list .dropped
+  unfolding meteredOf
+  same-dropped e = when _ _ (eq-eqb _ _ e)
+
   -- on any other number it is the blank one
   pub refused-blank : (numberOf (profileOf s list) ≡ 0 → ⊥) → meteredOf s list .association ≡ blankOf
   unfolding meteredOf

@@ -8,6 +8,7 @@ use lib.IntN.{pos}
 use lib.ListN.{length}
 use lib.Signed.{ltZ}
 use Rattle.cookielist.specs.List.{Listed, whole, broken, cookiesIn, listBroken}
+use Rattle.cookiestash.specs.Falling.{noneDropped}
 use Rattle.version.specs.declared.ProtocolVersion.{ProtocolVersion}
 use Rattle.version.specs.declared.ProtocolVersion.the-variants.{V4, Upgrading, Upgraded, V5}
 use Rattle.association.specs.declared.Settings.{Settings}
@@ -68,7 +69,11 @@ profileOf s list =
     (firstBroken (lowPollMin s) (highStartup s) (isUpgrading (s .start .kind)) (longCookie (s .nts) list)))
     BadSettings
 
--- the call: the check's answer; on 0 the record is the one that `new` makes, on any other number it is the blank one
+-- the call: the check's answer; on 0 the record is the one that `new` makes, with what it says fell out (RULES, No. 5); on any other number it is the blank one
 unfoldable pub meteredOf : Settings → List ℕ → MeteredOut
 meteredOf s list =
-    record { answer = profileOf s list; association = cond (eqb (numberOf (profileOf s list)) 0) (newOf s list .association) blankOf }
+    record {
+      answer = profileOf s list;
+      dropped = cond (eqb (numberOf (profileOf s list)) 0) (newOf s list .dropped) noneDropped;
+      association = cond (eqb (numberOf (profileOf s list)) 0) (newOf s list .association) blankOf;
+    }

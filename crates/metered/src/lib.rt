@@ -1,9 +1,10 @@
 // A profile for metered links, where every packet is paid for: the check that names the first rule broken, and the call that makes such an association.
 // Promises: each number exactly under its rule, in its order; on 0 the record that `Association::new` makes, and the blank one on any other number.
-// Rule: RULES, No. 11; definitions in specs/Profile.antt, number by number in specs/Numbers.antt.
+// Rule: RULES, No. 11, and No. 5 for what fell out; definitions in specs/Profile.antt, number by number in specs/Numbers.antt.
 use association::Association;
 use association::Settings;
 use cookielist::Entry;
+use cookiestash::Dropped;
 use version::ProtocolVersion;
 use version::Version;
 ghost use mathlib.Core.Path.{_≡_};
@@ -132,28 +133,33 @@ pub fn profile(settings: Settings, list: &[u8]) -> ProfileAnswer
     ProfileAnswer::Met
 }
 
-// What `metered` gives: the profile's answer, and the association, blank where it was refused.
+// What `metered` gives: the profile's answer, what fell out while the first list was stored, and the association, blank where it was refused.
 pub struct MeteredOut {
     pub answer: ProfileAnswer,
+    pub dropped: Dropped,
     pub association: Association,
 }
 
-// Makes an association that meets the profile: the one that `Association::new` makes.
+// Makes an association that meets the profile: the one that `Association::new` makes, which tells what of the list fell out.
 pub fn metered(settings: Settings, list: &[u8]) -> MeteredOut
     ensures { λ r. ⌜ r ≡ meteredOf settings (now (list .entry)) ⌝ }
 {
     let answer = profile(settings, list);
     if answer.number() != 0 {
         let blank = Association::blank();
+        let none = Dropped::none();
         return MeteredOut {
             answer,
+            dropped: none,
             association: blank,
         };
     }
     let made = Association::new(settings, list);
+    let dropped = made.dropped;
     let association = made.association;
     MeteredOut {
         answer,
+        dropped,
         association,
     }
 }

@@ -115,7 +115,7 @@ module _ (a : Association) (read : ReplyRead) (t : Arrival) where
       to-matched (u .matching) ∙ unless _ _ (u .rate) ∙ unless _ _ (v .denial) ∙ unless _ _ (w .ntsn) ∙ unless _ _ (k .kiss) ∙ unless _ _ (s .stratum)
 
   -- where a number's rule holds, its verdict is given, and no other
-  ruled : {n : ℕ} {o : ReplyOut} → Given n o → (numberOf (o .answer) ≡ n) × (judged a (t .list) verdict ≡ o)
+  ruled : {n : ℕ} {o : ReplyOut} → Given n o → (numberOf (o .replied .answer) ≡ n) × (judged a (t .list) verdict ≡ o)
   unfolding verdictOf wholeOf judgeOf matchedOf
   ruled (not-whole e) = (refl, ap (judged a (t .list)) (unless _ _ e))
   ruled (undecodable w e) = (refl, ap (judged a (t .list)) (when _ _ w ∙ ap (onRead (a .settings) (a .state) t) e))
@@ -149,7 +149,7 @@ module _ (a : Association) (read : ReplyRead) (t : Arrival) where
 
   -- ---- what is given, it is given under the rule of its number
 
-  pub given : Given (numberOf (repliedOf a read t .answer)) (repliedOf a read t)
+  pub given : Given (numberOf (repliedOf a read t .replied .answer)) (repliedOf a read t)
   unfolding repliedOf
   given = told
 
@@ -159,8 +159,8 @@ module _ (a : Association) (read : ReplyRead) (t : Arrival) where
   only g = ruled g .1
 
   -- so a number is given if and only if its rule holds
-  pub number : (n : ℕ) → (numberOf (repliedOf a read t .answer) ≡ n) ↔ ((o : ReplyOut) × Given n o)
+  pub number : (n : ℕ) → (numberOf (repliedOf a read t .replied .answer) ≡ n) ↔ ((o : ReplyOut) × Given n o)
   number n = (
     λ e. (repliedOf a read t, subst (λ (k : ℕ). Given k (repliedOf a read t)) e given),
-    λ g. ap (λ (o : ReplyOut). numberOf (o .answer)) (only (g .1)) ∙ ruled (g .1) .0,
+    λ g. ap (λ (o : ReplyOut). numberOf (o .replied .answer)) (only (g .1)) ∙ ruled (g .1) .0,
   )

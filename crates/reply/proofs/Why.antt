@@ -38,17 +38,17 @@ module _ (a : Association) (read : ReplyRead) (t : Arrival) where
   was-three (measured s e) w = absurd w
 
   -- each old 3 is one of the new
-  gives : {n : ℕ} {o : ReplyOut} → T (forThree (numberOf (o .answer))) → Given a read t n o → T (forThree (numberOf (repliedOf a read t .answer)))
-  gives w g = subst (λ (o : ReplyOut). T (forThree (numberOf (o .answer)))) (sym (only a read t g)) w
+  gives : {n : ℕ} {o : ReplyOut} → T (forThree (numberOf (o .replied .answer))) → Given a read t n o → T (forThree (numberOf (repliedOf a read t .replied .answer)))
+  gives w g = subst (λ (o : ReplyOut). T (forThree (numberOf (o .replied .answer)))) (sym (only a read t g)) w
 
-  now-one : {r : Reply} → WasThree a read t r → T (forThree (numberOf (repliedOf a read t .answer)))
+  now-one : {r : Reply} → WasThree a read t r → T (forThree (numberOf (repliedOf a read t .replied .answer)))
   now-one w = by (told-apart (a .state .request) (t .time) .exactly-one (w .no-live)) refl refl refl
     where
       by : {n m l : Bool} → OnlyOne n m l → neverSent (a .state .request) ≡ n → alreadyMeasured (a .state .request) ≡ m → expired (a .state .request) (t .time) ≡ l →
-          T (forThree (numberOf (repliedOf a read t .answer)))
+          T (forThree (numberOf (repliedOf a read t .replied .answer)))
       by first e f g = gives tt (never-sent (w .expected) e)
       by second e f g = gives tt (already-measured (w .expected) f)
       by third e f g = gives tt (late (w .expected) g)
 
-  pub for-three : T (forThree (numberOf (repliedOf a read t .answer))) ↔ ((r : Reply) × WasThree a read t r)
+  pub for-three : T (forThree (numberOf (repliedOf a read t .replied .answer))) ↔ ((r : Reply) × WasThree a read t r)
   for-three = (was-three (given a read t), λ (r, w). now-one w)

@@ -6,6 +6,7 @@ use mathlib.Core.Bool.{Bool, true, false, _||_, cond}
 use Prim.Native.Nat.{ℕ}
 use lib.Dec.{ltb, eqb}
 use Rattle.cookiestash.specs.StoreList.{storeListOf}
+use Rattle.cookiestash.specs.Falling.{noneDropped, droppedOf}
 use Rattle.version.specs.Upgrade.{expectsOf}
 use Rattle.association.specs.declared.Association.{Association}
 use Rattle.association.specs.Record.{wholeOf, withState, withStash}
@@ -16,7 +17,7 @@ use Rattle.reply_rules.specs.declared.ReplyAnswer.the-variants.{Measured, Undec
 use Rattle.reply.specs.declared.ReplyOut.{ReplyOut}
 use Rattle.reply_clauses.specs.After.{Arrival, live, noLive, neverSent, alreadyMeasured, expired, answers, denies, stepped, afterRateKiss, afterDenial, afterMeasured, measurementOf}
 use Rattle.cookielist.specs.List.{listBroken}
-use Rattle.reply.specs.Reply.{out}
+use Rattle.reply.specs.Reply.{told, out}
 
 -- the three numbers in 3's place (RULES, No. 3)
 abbrev pub forThree : ℕ → Bool
@@ -99,6 +100,6 @@ module _ (a : Association) (read : ReplyRead) (t : Arrival) where
     other-kiss : {r : Reply} → Acknowledged r → r .kisses .any ≡ true → Given 9 (out OtherKiss (withState a (stepped (a .state) (r .upgrade))))
     bad-stratum : {r : Reply} → Unkissed r → ltb 16 (r .stratum) ≡ true → Given 10 (out BadStratum (withState a (stepped (a .state) (r .upgrade))))
     not-server : {r : Reply} → Ranked r → r .server ≡ false → Given 11 (out NotServer (withState a (stepped (a .state) (r .upgrade))))
-    -- with NTS the cookies are stored in order
+    -- with NTS the cookies are stored in order, and what fell out is told
     measured : {r : Reply} → Ranked r → r .server ≡ true →
-        Given 0 (out (Measured (measurementOf r (t .t1) (t .t4) (t .time))) (withStash (withState a (afterMeasured (stepped (a .state) (r .upgrade)) r)) (cond (a .settings .nts) (storeListOf 8 (a .stash) (t .list)) (a .stash))))
+        Given 0 (told (Measured (measurementOf r (t .t1) (t .t4) (t .time))) (cond (a .settings .nts) (droppedOf 8 (a .stash) (t .list)) noneDropped) (withStash (withState a (afterMeasured (stepped (a .state) (r .upgrade)) r)) (cond (a .settings .nts) (storeListOf 8 (a .stash) (t .list)) (a .stash))))

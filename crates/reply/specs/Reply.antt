@@ -3,7 +3,9 @@
 use mathlib.Core.Bool.{cond}
 use mathlib.Core.List.{List}
 use Prim.Native.Nat.{ℕ}
+use Rattle.cookiestash.specs.declared.Dropped.{Dropped}
 use Rattle.cookiestash.specs.StoreList.{storeListOf}
+use Rattle.cookiestash.specs.Falling.{noneDropped, droppedOf}
 use Rattle.cookiestash.specs.Whole.{seenOf}
 use Rattle.association.specs.declared.Association.{Association}
 use Rattle.incoming.specs.declared.ReplyRead.{ReplyRead}
@@ -16,12 +18,19 @@ use Rattle.reply_clauses.specs.After.{Arrival}
 use Rattle.reply_rules.specs.Judge.{verdictOf, readWith}
 use Rattle.reply.specs.declared.ReplyOut.{ReplyOut}
 
+-- with what fell out of the stash (RULES, No. 5)
+abbrev pub told : ReplyAnswer → Dropped → Association → ReplyOut
+told r d a = record { replied = record { answer = r; dropped = d }; association = a }
+
+-- an answer with which nothing is stored
 abbrev pub out : ReplyAnswer → Association → ReplyOut
-out r a = record { answer = r; association = a }
+out r a = told r noneDropped a
 
 -- the record after a verdict: the settings, the stash, with the list's cookies stored in order where they are, and the next state
 abbrev pub judged : Association → List ℕ → Verdict → ReplyOut
-judged a list v = out (v .answer) (record { settings = a .settings; stash = cond (v .stores) (storeListOf 8 (a .stash) list) (a .stash); state = v .state })
+judged a list v =
+    told (v .answer) (cond (v .stores) (droppedOf 8 (a .stash) list) noneDropped)
+    (record { settings = a .settings; stash = cond (v .stores) (storeListOf 8 (a .stash) list) (a .stash); state = v .state })
 
 -- what either form gives, of what was read
 unfoldable pub repliedOf : Association → ReplyRead → Arrival → ReplyOut

@@ -1,8 +1,9 @@
 // The reply: both forms of the call, on a record that the caller lends and on one of its own.
 // Promises: each number exactly under its rule, and the next record; a whole record stays whole, and a refusal leaves it as it was.
-// Rule: RULES, part 11; definitions in specs/Reply.antt, number by number in specs/Numbers.antt.
+// Rule: RULES, part 11 and No. 5; definitions in specs/Reply.antt, number by number in specs/Numbers.antt.
 use association::Association;
 use cookiestash::CAPACITY;
+use cookiestash::Dropped;
 use incoming::DecodedReply;
 use reply_rules::ReplyAnswer;
 use time_types::NtpTimestamp;
@@ -10,9 +11,15 @@ ghost use mathlib.Core.Path.{_≡_};
 ghost use Rattle.reply_clauses.specs.After.{arrival};
 ghost use Rattle.reply.specs.Reply.{replyOf, replyDecodedOf};
 
-// What the reply gives: its answer, and the next record.
-pub struct ReplyOut {
+// What a caller is told of a reply: its answer, and what fell out of the stash while the reply's cookies were stored.
+pub struct Replied {
     pub answer: ReplyAnswer,
+    pub dropped: Dropped,
+}
+
+// What the reply gives: what is told of it, and the next record.
+pub struct ReplyOut {
+    pub replied: Replied,
     pub association: Association,
 }
 
@@ -26,8 +33,8 @@ pub fn reply(
     t1: NtpTimestamp,
     t4: NtpTimestamp,
     time: u64,
-) -> ReplyAnswer
-    ensures { λ r. ⌜ (r ≡ replyOf (now (a .entry)) (now (packet .entry)) end (now (decrypted .entry)) (arrival (now (list .entry)) t1 t4 time) .answer) × (now (a .exit) ≡ replyOf (now (a .entry)) (now (packet .entry)) end (now (decrypted .entry)) (arrival (now (list .entry)) t1 t4 time) .association) ⌝ }
+) -> Replied
+    ensures { λ r. ⌜ (r ≡ replyOf (now (a .entry)) (now (packet .entry)) end (now (decrypted .entry)) (arrival (now (list .entry)) t1 t4 time) .replied) × (now (a .exit) ≡ replyOf (now (a .entry)) (now (packet .entry)) end (now (decrypted .entry)) (arrival (now (list .entry)) t1 t4 time) .association) ⌝ }
 {
     let seen = lent_stash::see(&a.stash, CAPACITY);
     let settings = a.settings;
@@ -45,8 +52,11 @@ pub fn reply(
         time,
     );
     a.state = verdict.state;
-    lent_stash::refill(&mut a.stash, CAPACITY, verdict.stores, list);
-    verdict.answer
+    let dropped = lent_stash::refill(&mut a.stash, CAPACITY, verdict.stores, list);
+    Replied {
+        answer: verdict.answer,
+        dropped,
+    }
 }
 
 // The decoded form (V5 only) on a record that the caller lends.
@@ -57,16 +67,19 @@ pub fn reply_decoded(
     t1: NtpTimestamp,
     t4: NtpTimestamp,
     time: u64,
-) -> ReplyAnswer
-    ensures { λ r. ⌜ (r ≡ replyDecodedOf (now (a .entry)) d (arrival (now (list .entry)) t1 t4 time) .answer) × (now (a .exit) ≡ replyDecodedOf (now (a .entry)) d (arrival (now (list .entry)) t1 t4 time) .association) ⌝ }
+) -> Replied
+    ensures { λ r. ⌜ (r ≡ replyDecodedOf (now (a .entry)) d (arrival (now (list .entry)) t1 t4 time) .replied) × (now (a .exit) ≡ replyDecodedOf (now (a .entry)) d (arrival (now (list .entry)) t1 t4 time) .association) ⌝ }
 {
     let seen = lent_stash::see(&a.stash, CAPACITY);
     let settings = a.settings;
     let state = a.state;
     let verdict = reply_rules::judge_decoded(settings, state, seen, d, list, t1, t4, time);
     a.state = verdict.state;
-    lent_stash::refill(&mut a.stash, CAPACITY, verdict.stores, list);
-    verdict.answer
+    let dropped = lent_stash::refill(&mut a.stash, CAPACITY, verdict.stores, list);
+    Replied {
+        answer: verdict.answer,
+        dropped,
+    }
 }
 
 // The same call on a record of one's own.
@@ -83,9 +96,9 @@ pub fn reply_owned(
     ensures { λ r. ⌜ r ≡ replyOf a (now (packet .entry)) end (now (decrypted .entry)) (arrival (now (list .entry)) t1 t4 time) ⌝ }
 {
     let mut u = a;
-    let answer = reply(&mut u, packet, end, decrypted, list, t1, t4, time);
+    let replied = reply(&mut u, packet, end, decrypted, list, t1, t4, time);
     ReplyOut {
-        answer,
+        replied,
         association: u,
     }
 }
@@ -102,9 +115,9 @@ pub fn reply_decoded_owned(
     ensures { λ r. ⌜ r ≡ replyDecodedOf a d (arrival (now (list .entry)) t1 t4 time) ⌝ }
 {
     let mut u = a;
-    let answer = reply_decoded(&mut u, d, list, t1, t4, time);
+    let replied = reply_decoded(&mut u, d, list, t1, t4, time);
     ReplyOut {
-        answer,
+        replied,
         association: u,
     }
 }

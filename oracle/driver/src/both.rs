@@ -47,7 +47,7 @@ impl Both {
         let rules = self.rules.as_mut().unwrap();
         let mut left_out = false;
         let answer = match op {
-            Op::New { .. } => Answer::default(),
+            Op::New { .. } => Answer { dropped: Some(rules.first), ..Answer::default() },
             Op::Timer { now, desired, id, uid, .. } => rules.timer(*now, *desired, *id, uid),
             Op::Reply { now, t1, t4, packet, .. } => {
                 let d = drawn.as_ref().unwrap();
@@ -215,6 +215,19 @@ mod tests {
             for (answer, state) in [&step.of_crate, &step.of_rules] {
                 assert_eq!((answer.number, state.answered), (number, answered));
             }
+        }
+    }
+
+    /// The crate says nothing of cookies that do not fit; its stash before and after tells how many they are, and how long.
+    #[test]
+    fn what_falls_out_of_the_crates_stash_is_counted() {
+        for (nts, given, dropped) in [(true, 8, (0, 0)), (true, 9, (1, 1)), (true, 11, (3, 6)), (false, 9, (0, 0))] {
+            let cookies = (1..=given).map(|n| vec![0; n]).collect();
+            let source = address(SOURCE);
+            let new = Op::New { nts, min: 4, max: 10, startup: 3, window: 5000, start: Version::V4, source, cookies };
+            let step = Both::new().step(&new);
+            assert!(!step.failed);
+            assert_eq!((step.of_crate.0.dropped, step.of_rules.0.dropped), (Some(dropped), Some(dropped)));
         }
     }
 

@@ -117,6 +117,9 @@ fn answer(word: &str, a: &Answer) -> String {
         )
         .unwrap();
     }
+    if let Some((count, sum)) = a.dropped {
+        write!(s, " dropped={count} lost={sum}").unwrap();
+    }
     s
 }
 

@@ -100,6 +100,14 @@ fn actions(from: NtpSourceActionIterator<()>) -> Vec<Action> {
     .collect()
 }
 
+/// How many cookies fell out of the crate's stash, and their lengths summed. The crate says neither; but what it held and was given,
+/// without what it holds, is what fell out.
+fn fallen(before: &[Vec<u8>], given: &[Vec<u8>], after: &[Vec<u8>]) -> (u64, u64) {
+    let lengths = |cookies: &[Vec<u8>]| cookies.iter().map(Vec::len).sum::<usize>();
+    let count = before.len() + given.len() - after.len();
+    (count as u64, (lengths(before) + lengths(given) - lengths(after)) as u64)
+}
+
 pub struct Exec {
     source: Option<NtpSource<Controller>>,
     pub nts: bool,
@@ -122,6 +130,11 @@ impl Exec {
 
     fn source(&mut self) -> &mut NtpSource<Controller> {
         self.source.as_mut().unwrap()
+    }
+
+    /// The cookies in the crate's stash.
+    fn held(&mut self) -> Vec<Vec<u8>> {
+        self.source().record().stash.map_or(vec![], |(_, cookies)| cookies)
     }
 
     pub fn state(&mut self) -> State {
@@ -168,14 +181,20 @@ impl Exec {
                 );
                 self.source = Some(made);
                 assert!(actions(acts) == [Action::Timer { zero: true }]);
-                (Answer::default(), None)
+                let given = if *nts { cookies.as_slice() } else { &[] };
+                (Answer { dropped: Some(fallen(&[], given, &self.held())), ..Answer::default() }, None)
             }
             Op::Timer { now, desired, id, uid, .. } => (self.timer(*now, *desired, *id, uid), None),
             Op::Reply { now, t1, t4, packet, fail } => {
                 set_now(*now);
                 FakeCipher::force_fail(*fail);
                 let drawn = catch_unwind(AssertUnwindSafe(|| self.draw(packet))).unwrap_or_default();
-                let answer = self.reply(*now, *t1, *t4, packet);
+                let before = self.held();
+                let mut answer = self.reply(*now, *t1, *t4, packet);
+                if answer.number == 0 {
+                    let given = if self.nts { drawn.cookies.as_slice() } else { &[] };
+                    answer.dropped = Some(fallen(&before, given, &self.held()));
+                }
                 FakeCipher::force_fail(false);
                 (answer, Some(drawn))
             }
@@ -251,7 +270,7 @@ impl Exec {
                 assert_eq!(rand::oracle::left(), (0, 0));
                 let poll = source.record().last_poll;
                 self.answered = false;
-                Answer { number: 20, sent: Some(sent(p, poll, id, nts.then_some(uid), oldest)), measured: None }
+                Answer { number: 20, sent: Some(sent(p, poll, id, nts.then_some(uid), oldest)), ..Answer::default() }
             }
             _ => panic!("actions that RULES does not name"),
         }
@@ -306,7 +325,7 @@ impl Exec {
         };
         assert_eq!(measured.is_some(), number == 0);
         self.answered |= number == 0;
-        Answer { number, sent: None, measured }
+        Answer { number, measured, ..Answer::default() }
     }
 
     /// What the crate draws from a packet; where it refuses a V4 one, what the caller hands over is that of part 7's walk, since

@@ -21,7 +21,9 @@ fn packet(first: u8, mark: u64, more: &[u8]) -> String {
     p.extend(more);
     hex(&p)
 }
-const MEASURED: &str = "0 delay=0 offset=0 local=0 mono=2000 stratum=2 rootdelay=0 rootdisp=0 leap=0 precision=0";
+const MEASURED: &str =
+    "0 delay=0 offset=0 local=0 mono=2000 stratum=2 rootdelay=0 rootdisp=0 leap=0 precision=0 dropped=0 lost=0";
+const NEW_0: &str = "new 0 dropped=0 lost=0";
 
 fn reply(packet: &str, more: &str) -> String {
     format!("reply now=2000 t1=0 t4=0 packet={packet}{more}")
@@ -51,12 +53,12 @@ fn settings(log: &mut Log) {
         (4, 10, 3, 60_000_000_001, false),
         (4, 10, 3, u64::MAX, false),
     ] {
-        log.own(PLAIN, "new 0");
+        log.own(PLAIN, NEW_0);
         let new = format!(
             "new min={min} max={max} startup={startup} window={window} mark=0000000000000000 start=v5 nts=no source=00000000"
         );
         if holds {
-            log.own(&new, "new 0");
+            log.own(&new, NEW_0);
             log.own(TIMER, &format!("timer 20 send=v5 poll={} cookie=- asked=0", min.max(6)));
         } else {
             log.own(&new, "new 30");
@@ -69,13 +71,13 @@ fn settings(log: &mut Log) {
         log.own(&format!("{NTS} list={list}"), "new 33");
         log.own("show", BLANK);
         refused_32(log);
-        log.own(&format!("{PLAIN} list={list}"), "new 0");
+        log.own(&format!("{PLAIN} list={list}"), NEW_0);
         log.own("show", NEW);
     }
     log.own(&format!("{} list={BROKEN_LIST}", NTS.replace("startup=3", "startup=0")), "new 30");
-    log.own(&format!("{NTS} list=c00e0000c00e000101"), "new 0");
+    log.own(&format!("{NTS} list=c00e0000c00e000101"), NEW_0);
     log.own("cookies", "cookies 2 -,01");
-    log.own(NTS, "new 0");
+    log.own(NTS, NEW_0);
     log.own("cookies", "cookies 0");
 }
 
@@ -104,14 +106,14 @@ fn wholeness(log: &mut Log) {
         ("read", "1", "0"),
         ("held", "1", "0"),
     ] {
-        log.own(PLAIN, "new 0");
+        log.own(PLAIN, NEW_0);
         log.own(&format!("poke key={key} value={bad}"), "poke");
         refused_32(log);
         log.own(&format!("poke key={key} value={good}"), "poke");
         log.own(TIMER, SENT);
     }
     log.comment("a reply measured since the last sent poll, beside a request that is pending: not whole");
-    log.own(PLAIN, "new 0");
+    log.own(PLAIN, NEW_0);
     log.own(TIMER, SENT);
     log.own("poke key=answered value=1", "poke");
     refused_32(log);
@@ -126,14 +128,14 @@ fn wholeness(log: &mut Log) {
     for (key, bad, good) in
         [("read", "8", "0"), ("read", "18446744073709551615", "0"), ("held", "9", "2"), ("held", "1", "2"), ("read", "1", "0")]
     {
-        log.own(&two, "new 0");
+        log.own(&two, NEW_0);
         log.own(&format!("poke key={key} value={bad}"), "poke");
         refused_32(log);
         log.own(&format!("poke key={key} value={good}"), "poke");
         log.own(TIMER, &sent("01", 7));
     }
     log.comment("an empty slot that is held is a cookie of no bytes, and an empty stash may be read anywhere");
-    log.own(NTS, "new 0");
+    log.own(NTS, NEW_0);
     log.own("poke key=held value=1", "poke");
     log.own("cookies", "cookies 1 -");
     log.own(TIMER, &sent("-", 8));
@@ -146,7 +148,7 @@ fn wholeness(log: &mut Log) {
 
 fn rooms(log: &mut Log) {
     log.comment("a cookie buffer under 724 bytes is refused with NTS, before the rest");
-    log.own(&format!("{NTS} list=c00e000101"), "new 0");
+    log.own(&format!("{NTS} list=c00e000101"), NEW_0);
     for room in [0, 1, 723] {
         log.own(&format!("{TIMER} room={room}"), "timer 31");
     }
@@ -157,7 +159,7 @@ fn rooms(log: &mut Log) {
     log.own("poke key=tries value=3", "poke");
     log.own(&format!("{TIMER} room=723"), "timer 31");
     log.own(&format!("{TIMER} room=724"), "timer 21");
-    log.own(PLAIN, "new 0");
+    log.own(PLAIN, NEW_0);
     log.own(&format!("{TIMER} room=0"), SENT);
     log.comment("the collector: broken fields before the buffer, nothing but cookies in the list");
     let two = "0204000801020304020400080506070802040004";
@@ -203,14 +205,14 @@ fn callers_part(log: &mut Log) {
         (117, false),
         (u64::MAX, false),
     ] {
-        log.own(PLAIN, "new 0");
+        log.own(PLAIN, NEW_0);
         log.own(TIMER, SENT);
         let answer = if good { format!("reply {MEASURED}") } else { "reply 1".into() };
         log.own(&reply(&p, &format!(" auth={auth}")), &answer);
     }
     log.comment("version 3 has only tail");
     for (auth, good) in [(48, true), (64, false), (116, false)] {
-        log.own(PLAIN, "new 0");
+        log.own(PLAIN, NEW_0);
         log.own(TIMER, SENT);
         let answer = if good { format!("reply {MEASURED}") } else { "reply 1".into() };
         log.own(&reply(&packet(0x1c, 0, &more), &format!(" auth={auth}")), &answer);
@@ -226,22 +228,22 @@ fn callers_part(log: &mut Log) {
         (false, true, "reply 33".into(), format!("reply {MEASURED}")),
     ] {
         let more = format!(" plain={plain}{} list={}", if broken { "00" } else { "" }, if list { BROKEN_LIST } else { "-" });
-        log.own(&format!("{NTS} list=c00e000101"), "new 0");
+        log.own(&format!("{NTS} list=c00e000101"), NEW_0);
         log.own(&format!("{TIMER} uid={uid}"), "timer 20 send=nts-v4 poll=6 cookie=01 asked=8");
         log.own(&reply(&v5, &more), "reply 1");
         log.own(&reply(&v4, &more), &of_nts);
-        log.own(PLAIN, "new 0");
+        log.own(PLAIN, NEW_0);
         log.own(TIMER, SENT);
         log.own(&reply(&v5, &more), "reply 1");
         log.own(&reply(&v4, &more), &of_plain);
     }
-    log.own(&format!("{} list=c00e000101", NTS.replace("start=v4", "start=v5")), "new 0");
+    log.own(&format!("{} list=c00e000101", NTS.replace("start=v4", "start=v5")), NEW_0);
     log.own(&reply(&v4, &format!(" list={BROKEN_LIST}")), "reply 33");
     log.own(&reply(&v4, ""), "reply 2");
     log.own(&format!("{REPLY5} list={BROKEN_LIST}"), "reply5 33");
     log.own(REPLY5, "reply5 12");
     log.comment("version 3 with NTS: the decrypted bytes are read too");
-    log.own(&format!("{NTS} list=c00e000101"), "new 0");
+    log.own(&format!("{NTS} list=c00e000101"), NEW_0);
     log.own(&format!("{TIMER} uid={uid}"), "timer 20 send=nts-v4 poll=6 cookie=01 asked=8");
     log.own(
         &reply(&packet(0x1c, 0, &[]), &format!(" plain={plain}0204000802030405 list=collect")),
@@ -249,7 +251,7 @@ fn callers_part(log: &mut Log) {
     );
     log.own("cookies", "cookies 1 02030405");
     log.comment("another upgrade mark");
-    log.own(&PLAIN.replace("4e54503544524654", "0000000000000001").replace("start=v4", "start=upgrading:2"), "new 0");
+    log.own(&PLAIN.replace("4e54503544524654", "0000000000000001").replace("start=v4", "start=upgrading:2"), NEW_0);
     log.own(TIMER, "timer 20 send=v4-upgrade poll=6 cookie=- asked=0");
     log.own(&reply(&packet(0x24, 1, &[]), ""), &format!("reply {MEASURED}"));
     log.own(TIMER, "timer 20 send=v5 poll=6 cookie=- asked=0");
@@ -274,15 +276,15 @@ fn decoded_form(log: &mut Log) {
         ("-", 0, 3, 11, 11),
     ] {
         let reply5 = REPLY5.replace("stratum=2", &format!("stratum={stratum}")).replace("mode=4", &format!("mode={mode}"));
-        log.own(&new(PLAIN), "new 0");
+        log.own(&new(PLAIN), NEW_0);
         log.own(TIMER, "timer 20 send=v5 poll=6 cookie=- asked=0");
         log.own(&format!("{reply5} kiss={kiss}"), &format!("reply5 {plain}"));
-        log.own(&format!("{} list=c00e000101", new(NTS)), "new 0");
+        log.own(&format!("{} list=c00e000101", new(NTS)), NEW_0);
         log.own(TIMER, "timer 20 send=nts-v5 poll=6 cookie=01 asked=8");
         log.own(&format!("{reply5} kiss={kiss} auth=agree"), &format!("reply5 {nts}"));
     }
     log.comment("stratum 0 without a kiss is measured");
-    log.own(&new(PLAIN), "new 0");
+    log.own(&new(PLAIN), NEW_0);
     log.own(TIMER, "timer 20 send=v5 poll=6 cookie=- asked=0");
     log.own(&REPLY5.replace("stratum=2", "stratum=0"), &format!("reply5 {}", MEASURED.replace("stratum=2", "stratum=0")));
     log.comment("the uid groups with NTS: none of those that count disagrees and one agrees");
@@ -298,7 +300,7 @@ fn decoded_form(log: &mut Log) {
             } else {
                 8
             };
-            log.own(&format!("{} list=c00e000101", new(NTS)), "new 0");
+            log.own(&format!("{} list=c00e000101", new(NTS)), NEW_0);
             log.own(TIMER, "timer 20 send=nts-v5 poll=6 cookie=01 asked=8");
             let groups = format!("auth={auth} enc={enc} untrusted={untrusted}");
             log.own(&format!("{REPLY5} kiss={kiss} {groups}"), &format!("reply5 {number}"));

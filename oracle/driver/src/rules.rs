@@ -8,6 +8,8 @@ pub struct Rules {
     pub window: u64,
     pub nts: bool,
     pub source: u32,
+    /// What fell out of the first list.
+    pub first: (u64, u64),
     pub state: State,
 }
 
@@ -67,23 +69,26 @@ impl Rules {
             read: 0,
             cookies: vec![],
         };
-        let mut r = Rules { max, startup, window, nts, source, state };
+        let mut r = Rules { max, startup, window, nts, source, first: (0, 0), state };
         if nts {
-            r.store(list);
+            r.first = r.store(list);
         }
         r
     }
 
-    /// RULES, part 3.
-    fn store(&mut self, list: &[Vec<u8>]) {
+    /// RULES, part 3, and No. 5 for what it gives: how many cookies fell out, and their lengths summed.
+    fn store(&mut self, list: &[Vec<u8>]) -> (u64, u64) {
         let s = &mut self.state;
+        let mut fallen = (0, 0);
         for c in list {
             if s.cookies.len() == 8 {
-                s.cookies.remove(0);
+                let oldest = s.cookies.remove(0);
                 s.read = (s.read + 1) % 8;
+                fallen = (fallen.0 + 1, fallen.1 + oldest.0 as u64);
             }
             s.cookies.push(stored(c));
         }
+        fallen
     }
 
     /// RULES, part 10.
@@ -124,7 +129,7 @@ impl Rules {
         s.pending = Some((id, if self.nts { *uid } else { [0; 32] }, now.saturating_add(self.window)));
         s.answered = false;
         s.last = desired.max(s.remote);
-        Answer { number: 20, sent: Some(Sent { kind, poll: s.last, cookie, asked }), measured: None }
+        Answer { number: 20, sent: Some(Sent { kind, poll: s.last, cookie, asked }), ..Answer::default() }
     }
 
     /// RULES, part 11, byte form.
@@ -257,9 +262,7 @@ impl Rules {
         if v == 5 {
             s.remote = s.remote.max(d.poll);
         }
-        if self.nts {
-            self.store(list);
-        }
+        let dropped = if self.nts { self.store(list) } else { (0, 0) };
         let diff = |x: u64, y: u64| x.wrapping_sub(y) as i64;
         let (t2, t3) = (d.receive, d.transmit);
         let measured = Measured {
@@ -273,7 +276,7 @@ impl Rules {
             leap: d.leap,
             precision: d.precision,
         };
-        Answer { number: 0, sent: None, measured: Some(measured) }
+        Answer { number: 0, sent: None, measured: Some(measured), dropped: Some(dropped) }
     }
 
     /// RULES, part 12, with No. 2: the reported identifier is compared too, from stratum 2 up.

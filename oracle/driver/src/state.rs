@@ -54,6 +54,8 @@ pub struct Answer {
     pub number: u8,
     pub sent: Option<Sent>,
     pub measured: Option<Measured>,
+    /// Of `new` and of a measured reply: how many cookies fell out of the stash, and their lengths summed (RULES, No. 5).
+    pub dropped: Option<(u64, u64)>,
 }
 
 #[derive(Debug, Clone, PartialEq, Eq)]

@@ -28,8 +28,8 @@ use denote.RattleType.{RattleType, owns}
 use denote.Laws.{Is, Tells, Makes, shows}
 use denote.Lend.{lends-ref, ref-back}
 use denote.Memory.{mem, cellAt, partAt}
-use denote.Plain.{uint-vals, uint-tells, uint-lawful, uint-makes, bool-vals, bool-tells, bool-makes, nothing-lawful}
-use denote.Builtin.{u8, usize, bool, unit}
+use denote.Plain.{uint-vals, uint-tells, uint-lawful, uint-makes, bool-vals, bool-tells, bool-makes}
+use denote.Builtin.{u8, usize, bool}
 use denote.Ref.{RefT, MutRef, ptr-vals, mut-tells}
 use denote.Slice.{sliceTy, sliceVal, ShrSlice, slice-vals, shr-slice-tells, shr-slice-lawful, shr-slice-copy}
 use denote.Signature.{plain, shrSliceOf}
@@ -46,6 +46,7 @@ use denote.Triple.Walked.{Stays, stay-ref, stay-dropped, walkOf, AllGo, goes-ref
 use denote.Exit.{yes}
 use Rattle.calls.proofs.Lent.{silent}
 use Rattle.cookiestash.specs.StoreList.{storeListOf}
+use Rattle.cookiestash.specs.Falling.{noneDropped, droppedOf}
 use Rattle.lent_stash.proofs.Lends.{lies-in, lies-told, field-out, FieldBack, field-back}
 use Rattle.association.specs.declared.Association.{Association}
 use Rattle.association.proofs.Association as Rec
@@ -59,6 +60,9 @@ use Rattle.association.proofs.State.Laws as Sm′
 use Rattle.cookiestash.specs.declared.CookieStash.{CookieStash}
 use Rattle.cookiestash.proofs.CookieStash as Sta
 use Rattle.cookiestash.proofs.CookieStash.Laws as Sta′
+use Rattle.cookiestash.specs.declared.Dropped.{Dropped}
+use Rattle.cookiestash.proofs.Dropped as Drop
+use Rattle.cookiestash.proofs.Dropped.Laws as Drop′
 use Rattle.calls.specs.declared.Kind.{Kind}
 use Rattle.calls.proofs.Kind as What
 use Rattle.calls.proofs.Kind.Laws as What′
@@ -83,13 +87,13 @@ abbrev slice-val : RefT (List ℕ) → Val
 slice-val x = sliceVal (x .ptr) (length (x .now))
 
 -- the function, over any types of the record's groups (τ-to and τ-sto are the names of the record and of the stash, behind a reference) and of the kind of call
-abbrev shape : Sym → (τ-to τ-sto τ-set τ-sta τ-sm τ-kind : Ty) → Fn
-shape ν τ-to τ-sto τ-set τ-sta τ-sm τ-kind =
+abbrev shape : Sym → (τ-to τ-sto τ-set τ-sta τ-sm τ-kind τ-drop : Ty) → Fn
+shape ν τ-to τ-sto τ-set τ-sta τ-sm τ-kind τ-drop =
     record {
       lifetimes = 2;
       outlives = [];
       params = 5;
-      locals = local tyUnit valueLocal ∷ local (tyRef (named 0) mut τ-to) valueLocal ∷ local τ-kind valueLocal ∷ local (tyInt w64) valueLocal ∷ local tyBool valueLocal ∷ local (sliceTy (tyRef (named 1) imm (tyInt w8))) valueLocal ∷ local τ-sm valueLocal ∷ local τ-sm valueLocal ∷ local τ-sta valueLocal ∷ local τ-sta valueLocal ∷ local tyUnit valueLocal ∷ local (tyRef erased mut τ-sto) valueLocal ∷ [];
+      locals = local tyUnit valueLocal ∷ local (tyRef (named 0) mut τ-to) valueLocal ∷ local τ-kind valueLocal ∷ local (tyInt w64) valueLocal ∷ local tyBool valueLocal ∷ local (sliceTy (tyRef (named 1) imm (tyInt w8))) valueLocal ∷ local τ-sm valueLocal ∷ local τ-sm valueLocal ∷ local τ-sta valueLocal ∷ local τ-sta valueLocal ∷ local τ-drop valueLocal ∷ local (tyRef erased mut τ-sto) valueLocal ∷ [];
       body =
           seq (assign (place 6 []) (rvOpd (copy (place 1 (deref (tyStruct ν (tcons τ-set (tcons τ-sta (tcons τ-sm tnil)))) ∷ field 2 ∷ [])))))
           (seq (call #calls·put-back (copy (place 6 []) ∷ copy (place 2 []) ∷ []) (place 7 []))
@@ -104,12 +108,13 @@ shape ν τ-to τ-sto τ-set τ-sta τ-sm τ-kind =
     }
 
 -- The walk, over any rows of the groups and any machine values: it asks only that these are of their types.
-module _ (Rec Set Sta Sm : RattleType) (set : Set .Denot → Val) (sta : Sta .Denot → Val) (sm : Sm .Denot → Val)
+module _ (Rec Set Sta Sm Drop : RattleType) (set : Set .Denot → Val) (sta : Sta .Denot → Val) (sm : Sm .Denot → Val)
     (settings : Rec .Denot → Set .Denot) (stash : Rec .Denot → Sta .Denot) (state : Rec .Denot → Sm .Denot) (with : Rec .Denot → Sta .Denot → Sm .Denot → Rec .Denot)
-    (ν : Sym) (τ-to τ-sto τ-set τ-sta τ-sm τ-kind : Ty) (rec-mir : Rec .mir ≡ tyStruct ν (tcons τ-set (tcons τ-sta (tcons τ-sm tnil))) ∷ []) (sta-mir : Sta .mir ≡ τ-sta ∷ [])
+    (ν : Sym) (τ-to τ-sto τ-set τ-sta τ-sm τ-kind τ-drop : Ty) (rec-mir : Rec .mir ≡ tyStruct ν (tcons τ-set (tcons τ-sta (tcons τ-sm tnil))) ∷ []) (sta-mir : Sta .mir ≡ τ-sta ∷ [])
     (rec-tells : Tells Rec (Is Rec) (λ y. vstruct (ofList (set (settings y) ∷ sta (stash y) ∷ sm (state y) ∷ [])) ∷ [])) (sta-tells : Tells Sta (Is Sta) (λ y. sta y ∷ [])) (sm-tells : Tells Sm (Is Sm) (λ y. sm y ∷ []))
     (sm-typed : (y : Sm .Denot) (v : Val) → Is Sm y (v ∷ []) → T (hasTy τ-sm v) × WT v)
     (sta-typed : (y : Sta .Denot) (v : Val) → Is Sta y (v ∷ []) → T (hasTy τ-sta v) × WT v)
+    (drop-typed : (y : Drop .Denot) (v : Val) → Is Drop y (v ∷ []) → T (hasTy τ-drop v) × WT v)
     (sta-is : (y : Rec .Denot) (vs : List Val) → Is Rec y vs → Is Sta (stash y) (sta (stash y) ∷ []))
     (sm-is : (y : Rec .Denot) (vs : List Val) → Is Rec y vs → Is Sm (state y) (sm (state y) ∷ []))
     (with-is : (y : Rec .Denot) (w : Sta .Denot) (s : Sm .Denot) (vs : List Val) → Is Rec y vs → Is Sta w (sta w ∷ []) → Is Sm s (sm s ∷ []) → Is Rec (with y w s) (vstruct (ofList (set (settings y) ∷ sta w ∷ sm s ∷ [])) ∷ []))
@@ -132,22 +137,22 @@ module _ (Rec Set Sta Sm : RattleType) (set : Set .Denot → Val) (sta : Sta .De
 
   -- what is known of the calls, and how it ends
   module _ (PreR : SProp 𝓤) (BackR : Val → SProp 𝓤) (EnsuredR : Sm .Denot → SProp 𝓤) (PreH : SProp 𝓤) (BackH : Val → SProp 𝓤) (EnsuredH : Sta .Denot → SProp 𝓤)
-      (PreA : ℕ → GName → Sta .Denot → SProp 𝓤) (BackA : ℕ → GName → Sta .Denot → Val → SProp 𝓤) (EnsuredA : ℕ → GName → Sta .Denot → Unit {0} → SProp 𝓤) (Post : Val → SProp 𝓤)
+      (PreA : ℕ → GName → Sta .Denot → SProp 𝓤) (BackA : ℕ → GName → Sta .Denot → Val → SProp 𝓤) (EnsuredA : ℕ → GName → Sta .Denot → Drop .Denot → SProp 𝓤) (Post : Val → SProp 𝓤)
       (goes-rule : Is Sm (state h) (sm (state h) ∷ []) → ent 𝓤 (⋆ 𝓤 H A (‵ ftrue ∷ [])) PreR)
       (comes-rule : (v : Val) → ent 𝓤 (BackR v) (mean 𝓤 H A (later (some (λ (r : Sm .Denot). (‵ ftrue ⊛ ‵ (Sm .own r (v ∷ []))) ⊛ raw (EnsuredR r))))))
       (goes-room : Is Sta (stash h) (sta (stash h) ∷ []) → ent 𝓤 (⋆ 𝓤 H A (‵ ftrue ∷ [])) PreH)
       (comes-room : (v : Val) → ent 𝓤 (BackH v) (mean 𝓤 H A (later (some (λ (r : Sta .Denot). (‵ ftrue ⊛ ‵ (Sta .own r (v ∷ []))) ⊛ raw (EnsuredH r))))))
       (goes-after : (β : ℕ) (δ : GName) (s : Sta .Denot) → ent 𝓤 (⋆ 𝓤 H A ((‵ (flft (β ∷ []) fullShare) ⊛ (‵ (flft κ1 q1) ⊛ ‵ ftrue)) ∷ ‵ (MutRef (named 0) (β ∷ []) Sta .own (lent δ s) (vptr b (o + away) ∷ [])) ∷ ‵ (ShrSlice (named 1) κ1 u8 .own list (slice-val list ∷ [])) ∷ [])) (PreA β δ s))
-      (comes-after : (β : ℕ) (δ : GName) (s : Sta .Denot) (v : Val) → ent 𝓤 (BackA β δ s v) (mean 𝓤 H A (later (some (λ (r : Unit {0}). ((‵ (flft (β ∷ []) fullShare) ⊛ (‵ (flft κ1 q1) ⊛ ‵ ftrue)) ⊛ ‵ (unit .own r (v ∷ []))) ⊛ raw (EnsuredA β δ s r))))))
-      (said-after : (β : ℕ) (δ : GName) (s : Sta .Denot) (r : Unit {0}) → ent 𝓤 (EnsuredA β δ s r) (mean 𝓤 H A (some (λ (w : Sta .Denot). ‵ (fres δ (Sta .coded .code w))))))
+      (comes-after : (β : ℕ) (δ : GName) (s : Sta .Denot) (v : Val) → ent 𝓤 (BackA β δ s v) (mean 𝓤 H A (later (some (λ (r : Drop .Denot). ((‵ (flft (β ∷ []) fullShare) ⊛ (‵ (flft κ1 q1) ⊛ ‵ ftrue)) ⊛ ‵ (Drop .own r (v ∷ []))) ⊛ raw (EnsuredA β δ s r))))))
+      (said-after : (β : ℕ) (δ : GName) (s : Sta .Denot) (r : Drop .Denot) → ent 𝓤 (EnsuredA β δ s r) (mean 𝓤 H A (some (λ (w : Sta .Denot). ‵ (fres δ (Sta .coded .code w))))))
       (exits : (s : Sm .Denot) (w : Sta .Denot) → ent 𝓤 (⋆ 𝓤 H A (‵ (fobs γ (Rec .coded .code (with h w s))) ∷ ‵ (fbor κ (Body (mem Rec) b o γ)) ∷ ‵ (flft κ q) ∷ ‵ (flft κ1 q1) ∷ [])) (Post vunit))
       (C : Calls 𝓤 H) (Λ : Loops 𝓤 H) (fm : FmC 𝓤 H (W .laws) C)
       (known-rule : ent 𝓤 PreR (C #calls·put-back (sm (state h) ∷ kind ∷ []) BackR))
       (known-room : ent 𝓤 PreH (C #calls·with-held (sta (stash h) ∷ vint w64 held ∷ []) BackH))
       (known-after : (β : ℕ) (δ : GName) (s : Sta .Denot) → ent 𝓤 (PreA β δ s) (C #lent-stash·refill (vptr b (o + away) ∷ vint w8 8 ∷ vbool stores ∷ slice-val list ∷ []) (BackA β δ s))) where
-    walk : ent 𝓤 (⋆ 𝓤 H A (‵ (fobs γ (Rec .coded .code h)) ∷ ‵ (fbor κ (Body (mem Rec) b o γ)) ∷ ‵ (flft κ q) ∷ ‵ (flft κ1 q1) ∷ ‵ (ShrSlice (named 1) κ1 u8 .own list (slice-val list ∷ [])) ∷ [])) (WpFn 𝓤 H C Λ (shape ν τ-to τ-sto τ-set τ-sta τ-sm τ-kind) (vptr b o ∷ kind ∷ vint w64 held ∷ vbool stores ∷ slice-val list ∷ []) Post)
+    walk : ent 𝓤 (⋆ 𝓤 H A (‵ (fobs γ (Rec .coded .code h)) ∷ ‵ (fbor κ (Body (mem Rec) b o γ)) ∷ ‵ (flft κ q) ∷ ‵ (flft κ1 q1) ∷ ‵ (ShrSlice (named 1) κ1 u8 .own list (slice-val list ∷ [])) ∷ [])) (WpFn 𝓤 H C Λ (shape ν τ-to τ-sto τ-set τ-sta τ-sm τ-kind τ-drop) (vptr b o ∷ kind ∷ vint w64 held ∷ vbool stores ∷ slice-val list ∷ []) Post)
     walk =
-        qed W (‵ (fobs γ (Rec .coded .code h)) ∷ ‵ (fbor κ (Body (mem Rec) b o γ)) ∷ ‵ (flft κ q) ∷ ‵ (flft κ1 q1) ∷ ‵ (ShrSlice (named 1) κ1 u8 .own list (slice-val list ∷ [])) ∷ []) ∵ enter ! C Λ (shape ν τ-to τ-sto τ-set τ-sta τ-sm τ-kind) (vptr b o ∷ kind ∷ vint w64 held ∷ vbool stores ∷ slice-val list ∷ []) _ $
+        qed W (‵ (fobs γ (Rec .coded .code h)) ∷ ‵ (fbor κ (Body (mem Rec) b o γ)) ∷ ‵ (flft κ q) ∷ ‵ (flft κ1 q1) ∷ ‵ (ShrSlice (named 1) κ1 u8 .own list (slice-val list ∷ [])) ∷ []) ∵ enter ! C Λ (shape ν τ-to τ-sto τ-set τ-sta τ-sm τ-kind τ-drop) (vptr b o ∷ kind ∷ vint w64 held ∷ vbool stores ∷ slice-val list ∷ []) _ $
         alloc1 ! (λ l0. alloc1 ! (λ l1. alloc1 ! (λ l2. alloc1 ! (λ l3. alloc1 ! (λ l4. alloc1 ! (λ l5. alloc1 ! (λ l6. alloc1 ! (λ l7. alloc1 ! (λ l8. alloc1 ! (λ l9. alloc1 ! (λ l10. alloc1 ! (λ l11. alloc0 ! $ params1 ! $
         pass1 ! (init ! 20 refl (tt, tt)) $
         pass1 ! (init ! 18 refl kind-typed) $
@@ -182,10 +187,10 @@ module _ (Rec Set Sta Sm : RattleType) (set : Set .Denot → Val) (sta : Sta .De
         use1 W (later (some (λ (δ : GName). ‵ (MutRef (named 0) (β ∷ []) Sta .own (lent δ rh) (vptr b (o + away) ∷ [])) ⊛ ‵ (flent (β ∷ []) (Body (mem Sta) b (o + away) δ))))) (lends-ref 𝓤 H A W Sta (named 0) (β ∷ []) rh b (o + away)) $ await ! tt $ pick ! (λ δ₂. split ! $
         nothing ! $ move ! (34 ∷ 0 ∷ []) $ join ! $ move ! (3 ∷ 0 ∷ []) $ join ! $ move ! (0 ∷ 1 ∷ 5 ∷ []) $ use3 W (raw (PreA β δ₂ rh)) (goes-after β δ₂ rh) $
         calls-from ! fm (raw (PreA β δ₂ rh)) (vptr b (o + away) ∷ vint w8 8 ∷ vbool stores ∷ slice-val list ∷ []) (BackA β δ₂ rh) (known-after β δ₂ rh) (and-then ! (load ! (from ! (stop !)) (look ! 7 refl)) (and-then ! (lit ! tt) (and-then ! (load ! (from ! (stop !)) (look ! 21 refl)) (and-then ! (load ! (from ! (stop !)) (look ! 19 refl)) (no-more !))))) (λ va.
-        use1 W (later (some (λ (r : Unit {0}). ((‵ (flft (β ∷ []) fullShare) ⊛ (‵ (flft κ1 q1) ⊛ ‵ ftrue)) ⊛ ‵ (unit .own r (va ∷ []))) ⊛ raw (EnsuredA β δ₂ rh r)))) (comes-after β δ₂ rh va) $ await ! tt $ pick ! (λ ra. split ! $ move ! (1 ∷ []) $
+        use1 W (later (some (λ (r : Drop .Denot). ((‵ (flft (β ∷ []) fullShare) ⊛ (‵ (flft κ1 q1) ⊛ ‵ ftrue)) ⊛ ‵ (Drop .own r (va ∷ []))) ⊛ raw (EnsuredA β δ₂ rh r)))) (comes-after β δ₂ rh va) $ await ! tt $ pick ! (λ ra. split ! $ move ! (1 ∷ []) $
         use1 W (some (λ (w : Sta .Denot). ‵ (fres δ₂ (Sta .coded .code w)))) (said-after β δ₂ rh ra) $ pick ! (λ w.
-        move ! (1 ∷ []) $ split ! $ move ! (1 ∷ []) $ peeks ! unit (Is unit) (shows 𝓤 H A unit) ra (va ∷ []) (λ isa. drop ! $ split ! $ move ! (1 ∷ []) $ split ! $ move ! (1 ∷ []) $ drop ! $
-        land ! (from ! (stop !)) (init ! 11 refl (nothing-lawful 𝓤 H A W .typed ra _ isa .0)) $
+        move ! (1 ∷ []) $ split ! $ move ! (1 ∷ []) $ peeks ! Drop (Is Drop) (shows 𝓤 H A Drop) ra (va ∷ []) (λ isa. drop ! $ split ! $ move ! (1 ∷ []) $ split ! $ move ! (1 ∷ []) $ drop ! $
+        land ! (from ! (stop !)) (init ! 11 refl (drop-typed ra va isa)) $
         move ! (1 ∷ []) $ lft-end ! tt $ move ! (0 ∷ 3 ∷ 2 ∷ []) $ use3 W (later (‵ (partAt Sta fullShare w b (o + away)))) (ref-back 𝓤 H A W Sta (β ∷ []) δ₂ w b (o + away)) $ await ! tt $
         use1 W (given (Is Sta w (sta w ∷ [])) (‵ (fat fullShare τ-sta b (o + away) (sta w)))) (lies-told 𝓤 H A W Sta sta τ-sta sta-mir sta-tells sta-makes fullShare w b (o + away)) $ learn ! (λ gw.
         move ! (0 ∷ 2 ∷ []) $ use2 W (‵ (fat fullShare (tyStruct ν (tcons τ-set (tcons τ-sta (tcons τ-sm tnil)))) b o (new w rr))) (field-back 𝓤 H A W fullShare _ _ 1 τ-sta away b o (ofList (set (settings h) ∷ sta rh ∷ sm rr ∷ [])) (sta w)) $
@@ -211,6 +216,9 @@ Sm-val = LL.val Sm.the-type Sm′.the-laws
 
 abbrev Sta-val : CookieStash → Val
 Sta-val = LL.val Sta.the-type Sta′.the-laws
+
+abbrev Drop-val : Dropped → Val
+Drop-val = LL.val Drop.the-type Drop′.the-laws
 
 abbrev What-val : Kind → Val
 What-val = LL.val What.the-type What′.the-laws
@@ -296,12 +304,12 @@ module _ {M : Type 1} (𝓤 : URA M) (H : Heap 𝓤) (A : Atoms 𝓤) (W : Given
   goes-after β δ s c-is s-is =
       qed W ((‵ (flft (β ∷ []) fullShare) ⊛ (‵ (flft κ1 q1) ⊛ ‵ ftrue)) ∷ ‵ (MutRef (named 0) (β ∷ []) Sta.the-row .own (stash-ref δ s) (vptr b (o + dist) ∷ [])) ∷ ‵ (ShrSlice (named 1) κ1 u8 .own list (slice-val list ∷ [])) ∷ []) ∵ nothing ! $ move ! (3 ∷ 0 ∷ []) $ fjoin ! $ owned ! bool (Is bool) (bool-makes 𝓤 H A W) stores _ s-is $ fjoin ! $ owned ! u8 (Is u8) (uint-makes 𝓤 H A W w8) 8 _ c-is $ fjoin ! $ move ! (2 ∷ 0 ∷ []) $ fjoin ! $ move ! (1 ∷ 0 ∷ []) $ join ! $ frame ! $ done !
 
-  abbrev E-after : ℕ → GName → CookieStash → Unit {0} → SProp 𝓤
+  abbrev E-after : ℕ → GName → CookieStash → Dropped → SProp 𝓤
   E-after β δ s r = ensured 𝓤 H A after.ended (after.clauses 𝓤 H A at-mem run) (β ∷ [], (κ1, tt)) (stash-ref δ s, (8, (stores, (list, tt)))) tt r
 
-  said-after : (β : ℕ) (δ : GName) (s : CookieStash) (r : Unit {0}) → ent 𝓤 (E-after β δ s r) (mean 𝓤 H A (some (λ (w : CookieStash). ‵ (fres δ (Sta.the-row .coded .code w)))))
+  said-after : (β : ℕ) (δ : GName) (s : CookieStash) (r : Dropped) → ent 𝓤 (E-after β δ s r) (mean 𝓤 H A (some (λ (w : CookieStash). ‵ (fres δ (Sta.the-row .coded .code w)))))
   said-after β δ s r =
-      qed W (raw (E-after β δ s r) ∷ []) ∵ use1 W (some (λ (ws : CookieStash × (Unit {0} × (Unit {0} × (Unit {0} × Unit {0})))). ‵ (lasts after.ended (β ∷ [], (κ1, tt)) (stash-ref δ s, (8, (stores, (list, tt)))) ws) ⊛ raw (fact 𝓤 (ws .0 ≡ cond stores (storeListOf 8 s (list .now)) s)))) (id⊢ 𝓤 _) $ pick ! (λ ws. split ! $ move ! (1 ∷ []) $ drop ! $ fsplit ! $ move ! (1 ∷ []) $ drop ! $
+      qed W (raw (E-after β δ s r) ∷ []) ∵ use1 W (some (λ (ws : CookieStash × (Unit {0} × (Unit {0} × (Unit {0} × Unit {0})))). ‵ (lasts after.ended (β ∷ [], (κ1, tt)) (stash-ref δ s, (8, (stores, (list, tt)))) ws) ⊛ raw (fact 𝓤 ((ws .0 ≡ cond stores (storeListOf 8 s (list .now)) s) × (r ≡ cond stores (droppedOf 8 s (list .now)) noneDropped))))) (id⊢ 𝓤 _) $ pick ! (λ ws. split ! $ move ! (1 ∷ []) $ drop ! $ fsplit ! $ move ! (1 ∷ []) $ drop ! $
       show ! (λ (w : CookieStash). mean 𝓤 H A (‵ (fres δ (Sta.the-row .coded .code w)))) (ws .0) $ done !)
 
   module _ (C : Calls 𝓤 H) (Λ : Loops 𝓤 H) (fm : FmC 𝓤 H (W .laws) C) (known-rule : Triple 𝓤 (C #calls·put-back) (C-rule 𝓤 H A at-mem run)) (known-room : Triple 𝓤 (C #calls·with-held) (C-room 𝓤 H A at-mem run)) (known-after : Triple 𝓤 (C #lent-stash·refill) (C-after 𝓤 H A at-mem run)) where
@@ -309,9 +317,9 @@ module _ {M : Type 1} (𝓤 : URA M) (H : Heap 𝓤) (A : Atoms 𝓤) (W : Given
     walk-here =
         qed W ((‵ (flft κ q) ⊛ (‵ (flft κ1 q1) ⊛ ‵ ftrue)) ∷ ‵ (owns (MutRef (named 0) κ Rec.the-row ∷ What.the-row ∷ usize ∷ bool ∷ ShrSlice (named 1) κ1 u8 ∷ []) x at) ∷ []) ∵ split ! $ move ! (1 ∷ []) $ split ! $ move ! (1 ∷ []) $ drop ! $ move ! (2 ∷ []) $ fsplit ! $ fsplit3 ! $ drop ! $ move ! (2 ∷ []) $ fsplit ! $ drop ! $ fsplit ! $ drop ! $ fsplit ! $ drop ! $ fsplit ! $ move ! (1 ∷ []) $ drop ! $
         move ! (1 ∷ 2 ∷ 4 ∷ 3 ∷ 0 ∷ []) $ by ! (walk
-        Rec.the-row Set.the-row Sta.the-row Sm.the-row Set-val Sta-val Sm-val (λ y. y .settings) (λ y. y .stash) (λ y. y .state) with
-        (97 ∷ 115 ∷ 115 ∷ 111 ∷ 99 ∷ 105 ∷ 97 ∷ 116 ∷ 105 ∷ 111 ∷ 110 ∷ 58 ∷ 58 ∷ 65 ∷ 115 ∷ 115 ∷ 111 ∷ 99 ∷ 105 ∷ 97 ∷ 116 ∷ 105 ∷ 111 ∷ 110 ∷ []) (tyNamed (97 ∷ 115 ∷ 115 ∷ 111 ∷ 99 ∷ 105 ∷ 97 ∷ 116 ∷ 105 ∷ 111 ∷ 110 ∷ 58 ∷ 58 ∷ 65 ∷ 115 ∷ 115 ∷ 111 ∷ 99 ∷ 105 ∷ 97 ∷ 116 ∷ 105 ∷ 111 ∷ 110 ∷ [], [])) (tyNamed (99 ∷ 111 ∷ 111 ∷ 107 ∷ 105 ∷ 101 ∷ 115 ∷ 116 ∷ 97 ∷ 115 ∷ 104 ∷ 58 ∷ 58 ∷ 67 ∷ 111 ∷ 111 ∷ 107 ∷ 105 ∷ 101 ∷ 83 ∷ 116 ∷ 97 ∷ 115 ∷ 104 ∷ [], [])) Set′.mir Sta′.mir Sm′.mir What′.mir refl refl
-        (LL.tells Rec.the-type Rec′.the-laws) (LL.tells Sta.the-type Sta′.the-laws) (LL.tells Sm.the-type Sm′.the-laws) (λ y v g. (LL.lawful Sm.the-type Sm′.the-laws 𝓤 H A W .typed y _ g .0)) (λ y v g. (LL.lawful Sta.the-type Sta′.the-laws 𝓤 H A W .typed y _ g .0))
+        Rec.the-row Set.the-row Sta.the-row Sm.the-row Drop.the-row Set-val Sta-val Sm-val (λ y. y .settings) (λ y. y .stash) (λ y. y .state) with
+        (97 ∷ 115 ∷ 115 ∷ 111 ∷ 99 ∷ 105 ∷ 97 ∷ 116 ∷ 105 ∷ 111 ∷ 110 ∷ 58 ∷ 58 ∷ 65 ∷ 115 ∷ 115 ∷ 111 ∷ 99 ∷ 105 ∷ 97 ∷ 116 ∷ 105 ∷ 111 ∷ 110 ∷ []) (tyNamed (97 ∷ 115 ∷ 115 ∷ 111 ∷ 99 ∷ 105 ∷ 97 ∷ 116 ∷ 105 ∷ 111 ∷ 110 ∷ 58 ∷ 58 ∷ 65 ∷ 115 ∷ 115 ∷ 111 ∷ 99 ∷ 105 ∷ 97 ∷ 116 ∷ 105 ∷ 111 ∷ 110 ∷ [], [])) (tyNamed (99 ∷ 111 ∷ 111 ∷ 107 ∷ 105 ∷ 101 ∷ 115 ∷ 116 ∷ 97 ∷ 115 ∷ 104 ∷ 58 ∷ 58 ∷ 67 ∷ 111 ∷ 111 ∷ 107 ∷ 105 ∷ 101 ∷ 83 ∷ 116 ∷ 97 ∷ 115 ∷ 104 ∷ [], [])) Set′.mir Sta′.mir Sm′.mir What′.mir Drop′.mir refl refl
+        (LL.tells Rec.the-type Rec′.the-laws) (LL.tells Sta.the-type Sta′.the-laws) (LL.tells Sm.the-type Sm′.the-laws) (λ y v g. (LL.lawful Sm.the-type Sm′.the-laws 𝓤 H A W .typed y _ g .0)) (λ y v g. (LL.lawful Sta.the-type Sta′.the-laws 𝓤 H A W .typed y _ g .0)) (λ y v g. (LL.lawful Drop.the-type Drop′.the-laws 𝓤 H A W .typed y _ g .0))
         sta-is sm-is with-is 𝓤 H A W (LL.makes Rec.the-type Rec′.the-plain 𝓤 H A) (LL.makes Sta.the-type Sta′.the-plain 𝓤 H A)
         κ κ1 q q1 b o γ h (What-val kind) held stores list (LL.lawful What.the-type What′.the-laws 𝓤 H A W .typed kind _ kind-is .0) ((uint-lawful 𝓤 H A W w64 .typed held _ held-is .0) .1) list-is
         (C-rule 𝓤 H A at-mem run .pre to-rule) (C-rule 𝓤 H A at-mem run .post to-rule) E-rule (C-room 𝓤 H A at-mem run .pre to-room) (C-room 𝓤 H A at-mem run .post to-room) E-room (λ β δ s. C-after 𝓤 H A at-mem run .pre (to-after β δ s)) (λ β δ s. C-after 𝓤 H A at-mem run .post (to-after β δ s)) E-after Post

@@ -36,7 +36,6 @@ use denote.Slice.{sliceTy, sliceVal, ShrSlice, slice-vals, shr-slice-tells, shr-
 use denote.Signature.{plain, shrSliceOf}
 use denote.Steps.{only, owned, peeks, nothing}
 use denote.Struct.Laws as LL
-use denote.Enum.Laws as EL
 use denote.Triple.Entry.{onEntry}
 use denote.Triple.Spec.{Meets, tripleOf}
 use denote.Triple.Statement.{Contract, Triple}
@@ -50,9 +49,9 @@ use denote.Lend.{LentAgain, lends-again, comes-back-some}
 use Rattle.association.specs.declared.Association.{Association}
 use Rattle.association.proofs.Association as Rec
 use Rattle.association.proofs.Association.Laws as Rec′
-use Rattle.reply_rules.specs.declared.ReplyAnswer.{ReplyAnswer}
-use Rattle.reply_rules.proofs.ReplyAnswer as Ans
-use Rattle.reply_rules.proofs.ReplyAnswer.Laws as Ans′
+use Rattle.reply.specs.declared.Replied.{Replied}
+use Rattle.reply.proofs.Replied as Ans
+use Rattle.reply.proofs.Replied.Laws as Ans′
 use Rattle.calls.specs.declared.Kind.{Kind}
 use Rattle.calls.proofs.Kind as What
 use Rattle.calls.proofs.Kind.Laws as What′
@@ -350,8 +349,8 @@ stayed = (stay-ref (0 ∷ []) tt (plain (λ _. Rec.the-row)), (stay-dropped (pla
 abbrev Rec-val : Association → Val
 Rec-val = LL.val Rec.the-type Rec′.the-laws
 
-abbrev Ans-val : ReplyAnswer → Val
-Ans-val = EL.val Ans.the-type Ans′.the-laws
+abbrev Ans-val : Replied → Val
+Ans-val = LL.val Ans.the-type Ans′.the-laws
 
 abbrev What-val : Kind → Val
 What-val = LL.val What.the-type What′.the-laws
@@ -365,12 +364,12 @@ C-ready 𝓤 H A at-mem run = tripleOf 𝓤 H A ready.signature (ready.spec 𝓤
 abbrev C-call : {M : Type 1} (𝓤 : URA M) (H : Heap 𝓤) (A : Atoms 𝓤) (at-mem : Memory → SProp 𝓤) (run : Routine → Fun 𝓤) → Contract 𝓤
 C-call 𝓤 H A at-mem run = tripleOf 𝓤 H A call.signature (call.spec 𝓤 H A at-mem run)
 
-module _ {M : Type 1} (𝓤 : URA M) (H : Heap 𝓤) (A : Atoms 𝓤) (W : Given 𝓤 H A) (at-mem : Memory → SProp 𝓤) (run : Routine → Fun 𝓤) (κ κ1 κ2 κ3 : Lft) (q q1 q2 q3 : Share) (b o : ℕ) (γ : GName) (h : Association) (calls : ℕ) (calling : Bool) (before : ReplyAnswer) (kind : Kind) (held : ℕ) (stores : Bool) (packet : RefT (List ℕ)) (end : ℕ) (decrypted : RefT (List ℕ)) (list : RefT (List ℕ)) (t1 : NtpTimestamp) (t4 : NtpTimestamp) (time : ℕ)
+module _ {M : Type 1} (𝓤 : URA M) (H : Heap 𝓤) (A : Atoms 𝓤) (W : Given 𝓤 H A) (at-mem : Memory → SProp 𝓤) (run : Routine → Fun 𝓤) (κ κ1 κ2 κ3 : Lft) (q q1 q2 q3 : Share) (b o : ℕ) (γ : GName) (h : Association) (calls : ℕ) (calling : Bool) (before : Replied) (kind : Kind) (held : ℕ) (stores : Bool) (packet : RefT (List ℕ)) (end : ℕ) (decrypted : RefT (List ℕ)) (list : RefT (List ℕ)) (t1 : NtpTimestamp) (t4 : NtpTimestamp) (time : ℕ)
     (calls-is : Is u64 calls (vint w64 calls ∷ [])) (calling-is : Is bool calling (vbool calling ∷ [])) (before-is : Is Ans.the-row before (Ans-val before ∷ [])) (kind-is : Is What.the-row kind (What-val kind ∷ [])) (held-is : Is usize held (vint w64 held ∷ [])) (stores-is : Is bool stores (vbool stores ∷ [])) (packet-is : Is (ShrSlice (named 1) κ1 u8) packet (slice-val packet ∷ [])) (end-is : Is usize end (vint w64 end ∷ [])) (decrypted-is : Is (ShrSlice (named 2) κ2 u8) decrypted (slice-val decrypted ∷ [])) (list-is : Is (ShrSlice (named 3) κ3 u8) list (slice-val list ∷ [])) (t1-is : Is Time.the-row t1 (Time-val t1 ∷ [])) (t4-is : Is Time.the-row t4 (Time-val t4 ∷ [])) (time-is : Is u64 time (vint w64 time ∷ [])) where
   abbrev ref : GName → Association → RefT Association
   ref δ w = record { ptr = (b, o); name = δ; now = w }
 
-  abbrev x : RefT Association × (ℕ × (Bool × (ReplyAnswer × (Kind × (ℕ × (Bool × (RefT (List ℕ) × (ℕ × (RefT (List ℕ) × (RefT (List ℕ) × (NtpTimestamp × (NtpTimestamp × (ℕ × Unit {0})))))))))))))
+  abbrev x : RefT Association × (ℕ × (Bool × (Replied × (Kind × (ℕ × (Bool × (RefT (List ℕ) × (ℕ × (RefT (List ℕ) × (RefT (List ℕ) × (NtpTimestamp × (NtpTimestamp × (ℕ × Unit {0})))))))))))))
   x = (ref γ h, (calls, (calling, (before, (kind, (held, (stores, (packet, (end, (decrypted, (list, (t1, (t4, (time, tt))))))))))))))
 
   abbrev at : List Val × (List Val × (List Val × (List Val × (List Val × (List Val × (List Val × (List Val × (List Val × (List Val × (List Val × (List Val × (List Val × (List Val × Unit {0})))))))))))))
@@ -380,11 +379,11 @@ module _ {M : Type 1} (𝓤 : URA M) (H : Heap 𝓤) (A : Atoms 𝓤) (W : Given
   Post = walkOf 𝓤 H A self.ended stayed (self.clauses 𝓤 H A at-mem run) .post (((κ, (κ1, (κ2, (κ3, tt)))), (q, (q1, (q2, (q3, tt)))), tt, x, at), tt)
 
   -- how it ends
-  exits : (r : ReplyAnswer) (w : Association) → (Is Ans.the-row r (Ans-val r ∷ [])) → ent 𝓤 (⋆ 𝓤 H A (‵ (fobs γ (Rec.the-row .coded .code w)) ∷ ‵ (fbor κ (Body (mem Rec.the-row) b o γ)) ∷ ‵ (flft κ q) ∷ ‵ (flft κ1 q1) ∷ ‵ (flft κ2 q2) ∷ ‵ (flft κ3 q3) ∷ [])) (Post (Ans-val r))
+  exits : (r : Replied) (w : Association) → (Is Ans.the-row r (Ans-val r ∷ [])) → ent 𝓤 (⋆ 𝓤 H A (‵ (fobs γ (Rec.the-row .coded .code w)) ∷ ‵ (fbor κ (Body (mem Rec.the-row) b o γ)) ∷ ‵ (flft κ q) ∷ ‵ (flft κ1 q1) ∷ ‵ (flft κ2 q2) ∷ ‵ (flft κ3 q3) ∷ [])) (Post (Ans-val r))
   exits r w is =
       qed W (‵ (fobs γ (Rec.the-row .coded .code w)) ∷ ‵ (fbor κ (Body (mem Rec.the-row) b o γ)) ∷ ‵ (flft κ q) ∷ ‵ (flft κ1 q1) ∷ ‵ (flft κ2 q2) ∷ ‵ (flft κ3 q3) ∷ []) ∵
       suffices ! _ (ends-at 𝓤 H A self.ended stayed (self.clauses 𝓤 H A at-mem run) W (((κ, (κ1, (κ2, (κ3, tt)))), (q, (q1, (q2, (q3, tt)))), tt, x, at), tt) (Ans-val r) r (w, (tt, (tt, (tt, (tt, (tt, (tt, (tt, (tt, (tt, (tt, (tt, (tt, (tt, tt)))))))))))))) (tt, (tt, (tt, (tt, (tt, (tt, (tt, (tt, (tt, (tt, (tt, (tt, (tt, (tt, tt))))))))))))))) $ silent ! $
-      nothing ! $ move ! (6 ∷ 0 ∷ []) $ join ! $ move ! (5 ∷ 0 ∷ []) $ join ! $ move ! (4 ∷ 0 ∷ []) $ join ! $ move ! (3 ∷ 0 ∷ []) $ join ! $ frame ! $ nothing ! $ nothing ! $ fjoin ! $ nothing ! $ fjoin ! $ nothing ! $ fjoin ! $ nothing ! $ fjoin ! $ nothing ! $ fjoin ! $ nothing ! $ fjoin ! $ nothing ! $ fjoin ! $ nothing ! $ fjoin ! $ nothing ! $ fjoin ! $ nothing ! $ fjoin ! $ nothing ! $ fjoin ! $ nothing ! $ fjoin ! $ nothing ! $ fjoin ! $ move ! (1 ∷ 2 ∷ []) $ feqI ! (List Val) (vptr b o ∷ []) (vptr b o ∷ []) refl $ fjoin3 ! $ fjoin ! $ owned ! Ans.the-row (Is Ans.the-row) (EL.makes Ans.the-type Ans′.the-plain 𝓤 H A) r _ is $ move ! (1 ∷ 0 ∷ []) $ done !
+      nothing ! $ move ! (6 ∷ 0 ∷ []) $ join ! $ move ! (5 ∷ 0 ∷ []) $ join ! $ move ! (4 ∷ 0 ∷ []) $ join ! $ move ! (3 ∷ 0 ∷ []) $ join ! $ frame ! $ nothing ! $ nothing ! $ fjoin ! $ nothing ! $ fjoin ! $ nothing ! $ fjoin ! $ nothing ! $ fjoin ! $ nothing ! $ fjoin ! $ nothing ! $ fjoin ! $ nothing ! $ fjoin ! $ nothing ! $ fjoin ! $ nothing ! $ fjoin ! $ nothing ! $ fjoin ! $ nothing ! $ fjoin ! $ nothing ! $ fjoin ! $ nothing ! $ fjoin ! $ move ! (1 ∷ 2 ∷ []) $ feqI ! (List Val) (vptr b o ∷ []) (vptr b o ∷ []) refl $ fjoin3 ! $ fjoin ! $ owned ! Ans.the-row (Is Ans.the-row) (LL.makes Ans.the-type Ans′.the-plain 𝓤 H A) r _ is $ move ! (1 ∷ 0 ∷ []) $ done !
 
   -- what `ready` is given, and what it says
   abbrev to-ready : ℕ → GName → Association → C-ready 𝓤 H A at-mem run .Ghost
@@ -405,7 +404,7 @@ module _ {M : Type 1} (𝓤 : URA M) (H : Heap 𝓤) (A : Atoms 𝓤) (W : Given
   goes-call α δ y end-is′ t1-is′ t4-is′ time-is′ =
       qed W ((‵ (flft (α ∷ []) fullShare) ⊛ (‵ (flft κ1 q1) ⊛ (‵ (flft κ2 q2) ⊛ (‵ (flft κ3 q3) ⊛ ‵ ftrue)))) ∷ ‵ (MutRef (named 0) (α ∷ []) Rec.the-row .own (ref δ y) (vptr b o ∷ [])) ∷ ‵ (ShrSlice (named 1) κ1 u8 .own packet (slice-val packet ∷ [])) ∷ ‵ (ShrSlice (named 2) κ2 u8 .own decrypted (slice-val decrypted ∷ [])) ∷ ‵ (ShrSlice (named 3) κ3 u8 .own list (slice-val list ∷ [])) ∷ []) ∵ nothing ! $ owned ! u64 (Is u64) (uint-makes 𝓤 H A W w64) time _ time-is′ $ fjoin ! $ owned ! Time.the-row (Is Time.the-row) (LL.makes Time.the-type Time′.the-plain 𝓤 H A) t4 _ t4-is′ $ fjoin ! $ owned ! Time.the-row (Is Time.the-row) (LL.makes Time.the-type Time′.the-plain 𝓤 H A) t1 _ t1-is′ $ fjoin ! $ move ! (5 ∷ 0 ∷ []) $ fjoin ! $ move ! (4 ∷ 0 ∷ []) $ fjoin ! $ owned ! usize (Is usize) (uint-makes 𝓤 H A W w64) end _ end-is′ $ fjoin ! $ move ! (3 ∷ 0 ∷ []) $ fjoin ! $ move ! (2 ∷ 0 ∷ []) $ fjoin ! $ move ! (1 ∷ 0 ∷ []) $ join ! $ frame ! $ done !
 
-  abbrev E-call : ℕ → GName → Association → ReplyAnswer → SProp 𝓤
+  abbrev E-call : ℕ → GName → Association → Replied → SProp 𝓤
   E-call α δ y r = ensured 𝓤 H A call.ended (call.clauses 𝓤 H A at-mem run) (α ∷ [], (κ1, (κ2, (κ3, tt)))) (ref δ y, (packet, (end, (decrypted, (list, (t1, (t4, (time, tt)))))))) tt r
 
   module _ (𝓣 : Tables 𝓤 H) (known-ready : Triple 𝓤 (𝓣 .C #calls·ready) (C-ready 𝓤 H A at-mem run)) (known-call : Triple 𝓤 (𝓣 .C #reply·reply) (C-call 𝓤 H A at-mem run)) where
@@ -414,7 +413,7 @@ module _ {M : Type 1} (𝓤 : URA M) (H : Heap 𝓤) (A : Atoms 𝓤) (W : Given
         qed W ((‵ (flft κ q) ⊛ (‵ (flft κ1 q1) ⊛ (‵ (flft κ2 q2) ⊛ (‵ (flft κ3 q3) ⊛ ‵ ftrue)))) ∷ ‵ (owns (MutRef (named 0) κ Rec.the-row ∷ u64 ∷ bool ∷ Ans.the-row ∷ What.the-row ∷ usize ∷ bool ∷ ShrSlice (named 1) κ1 u8 ∷ usize ∷ ShrSlice (named 2) κ2 u8 ∷ ShrSlice (named 3) κ3 u8 ∷ Time.the-row ∷ Time.the-row ∷ u64 ∷ []) x at) ∷ []) ∵ split ! $ move ! (1 ∷ []) $ split ! $ move ! (1 ∷ []) $ split ! $ move ! (1 ∷ []) $ split ! $ move ! (1 ∷ []) $ drop ! $ move ! (4 ∷ []) $ fsplit ! $ fsplit3 ! $ drop ! $ move ! (2 ∷ []) $ fsplit ! $ drop ! $ fsplit ! $ drop ! $ fsplit ! $ drop ! $ fsplit ! $ drop ! $ fsplit ! $ drop ! $ fsplit ! $ drop ! $ fsplit ! $ move ! (1 ∷ []) $ fsplit ! $ drop ! $ fsplit ! $ move ! (1 ∷ []) $ fsplit ! $ move ! (1 ∷ []) $ fsplit ! $ drop ! $ fsplit ! $ drop ! $ fsplit ! $ drop ! $ drop ! $
         move ! (3 ∷ 4 ∷ 8 ∷ 7 ∷ 6 ∷ 5 ∷ 2 ∷ 1 ∷ 0 ∷ []) $ by ! (walk
         Rec.the-row Ans.the-row Ans-val (tyNamed (97 ∷ 115 ∷ 115 ∷ 111 ∷ 99 ∷ 105 ∷ 97 ∷ 116 ∷ 105 ∷ 111 ∷ 110 ∷ 58 ∷ 58 ∷ 65 ∷ 115 ∷ 115 ∷ 111 ∷ 99 ∷ 105 ∷ 97 ∷ 116 ∷ 105 ∷ 111 ∷ 110 ∷ [], [])) Rec′.mir Ans′.mir What′.mir (tyInt w64) tyBool (tyInt w64) Time′.mir Time′.mir (tyInt w64)
-        (EL.tells Ans.the-type Ans′.the-laws) (λ y v g. (EL.lawful Ans.the-type Ans′.the-laws 𝓤 H A W tt .typed y _ g .0))
+        (LL.tells Ans.the-type Ans′.the-laws) (λ y v g. (LL.lawful Ans.the-type Ans′.the-laws 𝓤 H A W .typed y _ g .0))
         𝓤 H A W κ κ1 κ2 κ3 q q1 q2 q3 b o γ h calls calling before (What-val kind) (vint w64 held) (vbool stores) packet (vint w64 end) decrypted list (Time-val t1) (Time-val t4) (vint w64 time)
         ((uint-lawful 𝓤 H A W w64 .typed calls _ calls-is .0) .1) before-is (LL.lawful What.the-type What′.the-laws 𝓤 H A W .typed kind _ kind-is .0) (uint-lawful 𝓤 H A W w64 .typed held _ held-is .0) (bool-lawful 𝓤 H A W .typed stores _ stores-is .0) packet-is (uint-lawful 𝓤 H A W w64 .typed end _ end-is .0) decrypted-is list-is (LL.lawful Time.the-type Time′.the-laws 𝓤 H A W .typed t1 _ t1-is .0) (LL.lawful Time.the-type Time′.the-laws 𝓤 H A W .typed t4 _ t4-is .0) (uint-lawful 𝓤 H A W w64 .typed time _ time-is .0)
         (λ α δ y. C-ready 𝓤 H A at-mem run .pre (to-ready α δ y)) (λ α δ y. C-ready 𝓤 H A at-mem run .post (to-ready α δ y)) E-ready
@@ -424,7 +423,7 @@ module _ {M : Type 1} (𝓤 : URA M) (H : Heap 𝓤) (A : Atoms 𝓤) (W : Given
 
 module _ {M : Type 1} (𝓤 : URA M) (H : Heap 𝓤) (A : Atoms 𝓤) (W : Given 𝓤 H A) (at-mem : Memory → SProp 𝓤) (run : Routine → Fun 𝓤) where
   walks : (𝓣 : Tables 𝓤 H) → Triple 𝓤 ((𝓣 .C) #calls·ready) (C-ready 𝓤 H A at-mem run) → Triple 𝓤 ((𝓣 .C) #reply·reply) (C-call 𝓤 H A at-mem run) → Walks 𝓤 H A self.ended stayed (WpFn 𝓤 H (𝓣 .C) (𝓣 .Λ) code.function) (self.clauses 𝓤 H A at-mem run)
-  walks 𝓣 known-ready known-call = walked 𝓤 H A self.ended stayed (self.clauses 𝓤 H A at-mem run) (WpFn 𝓤 H (𝓣 .C) (𝓣 .Λ) code.function) (λ κs. (ptr-vals, (uint-vals w64, (bool-vals, (EL.vals Ans.the-type Ans′.the-laws, (LL.vals What.the-type What′.the-laws, (uint-vals w64, (bool-vals, (slice-vals, (uint-vals w64, (slice-vals, (slice-vals, (LL.vals Time.the-type Time′.the-laws, (LL.vals Time.the-type Time′.the-laws, (uint-vals w64, tt))))))))))))))) (λ κs. (mut-tells (named 0) (κs .0) Rec.the-row, (uint-tells w64, (bool-tells, (EL.tells Ans.the-type Ans′.the-laws, (LL.tells What.the-type What′.the-laws, (uint-tells w64, (bool-tells, (shr-slice-tells (named 1) (κs .1 .0) u8, (uint-tells w64, (shr-slice-tells (named 2) (κs .1 .1 .0) u8, (shr-slice-tells (named 3) (κs .1 .1 .1 .0) u8, (LL.tells Time.the-type Time′.the-laws, (LL.tells Time.the-type Time′.the-laws, (uint-tells w64, tt)))))))))))))))
+  walks 𝓣 known-ready known-call = walked 𝓤 H A self.ended stayed (self.clauses 𝓤 H A at-mem run) (WpFn 𝓤 H (𝓣 .C) (𝓣 .Λ) code.function) (λ κs. (ptr-vals, (uint-vals w64, (bool-vals, (LL.vals Ans.the-type Ans′.the-laws, (LL.vals What.the-type What′.the-laws, (uint-vals w64, (bool-vals, (slice-vals, (uint-vals w64, (slice-vals, (slice-vals, (LL.vals Time.the-type Time′.the-laws, (LL.vals Time.the-type Time′.the-laws, (uint-vals w64, tt))))))))))))))) (λ κs. (mut-tells (named 0) (κs .0) Rec.the-row, (uint-tells w64, (bool-tells, (LL.tells Ans.the-type Ans′.the-laws, (LL.tells What.the-type What′.the-laws, (uint-tells w64, (bool-tells, (shr-slice-tells (named 1) (κs .1 .0) u8, (uint-tells w64, (shr-slice-tells (named 2) (κs .1 .1 .0) u8, (shr-slice-tells (named 3) (κs .1 .1 .1 .0) u8, (LL.tells Time.the-type Time′.the-laws, (LL.tells Time.the-type Time′.the-laws, (uint-tells w64, tt)))))))))))))))
       (λ κs qs bounds a g are. via 𝓤 _ (fst∗ 𝓤 _ (emp 𝓤)) (walk-here 𝓤 H A W at-mem run (κs .0) (κs .1 .0) (κs .1 .1 .0) (κs .1 .1 .1 .0) (qs .0) (qs .1 .0) (qs .1 .1 .0) (qs .1 .1 .1 .0) (a .0 .ptr .0) (a .0 .ptr .1) (a .0 .name) (a .0 .now) (a .1 .0) (a .1 .1 .0) (a .1 .1 .1 .0) (a .1 .1 .1 .1 .0) (a .1 .1 .1 .1 .1 .0) (a .1 .1 .1 .1 .1 .1 .0) (a .1 .1 .1 .1 .1 .1 .1 .0) (a .1 .1 .1 .1 .1 .1 .1 .1 .0) (a .1 .1 .1 .1 .1 .1 .1 .1 .1 .0) (a .1 .1 .1 .1 .1 .1 .1 .1 .1 .1 .0) (a .1 .1 .1 .1 .1 .1 .1 .1 .1 .1 .1 .0) (a .1 .1 .1 .1 .1 .1 .1 .1 .1 .1 .1 .1 .0) (a .1 .1 .1 .1 .1 .1 .1 .1 .1 .1 .1 .1 .1 .0) (are .1 .0) (are .1 .1 .0) (are .1 .1 .1 .0) (are .1 .1 .1 .1 .0) (are .1 .1 .1 .1 .1 .0) (are .1 .1 .1 .1 .1 .1 .0) (are .1 .1 .1 .1 .1 .1 .1 .0) (are .1 .1 .1 .1 .1 .1 .1 .1 .0) (are .1 .1 .1 .1 .1 .1 .1 .1 .1 .0) (are .1 .1 .1 .1 .1 .1 .1 .1 .1 .1 .0) (are .1 .1 .1 .1 .1 .1 .1 .1 .1 .1 .1 .0) (are .1 .1 .1 .1 .1 .1 .1 .1 .1 .1 .1 .1 .0) (are .1 .1 .1 .1 .1 .1 .1 .1 .1 .1 .1 .1 .1 .0) 𝓣 known-ready known-call))
 
   goes : AllGo 𝓤 H A W 4 (self.signature .params) (self.ended .kept) stayed

@@ -6,7 +6,6 @@ use base.Logic.{SProp, ent, emp, guard, via, fst∗, id⊢}
 use contract.Monad.{Fun, fact, factI}
 use contract.Running.{givenOf, tables, tablesOf}
 use denote.Builtin.{u8, u64, usize, bool}
-use denote.Enum.Laws as EL
 use denote.Exit.{yes}
 use denote.Laws.{Is, Tells, Makes, shows}
 use denote.Lend.{lends-ref, ref-back}
@@ -48,15 +47,15 @@ use types.Tokens.{lft-new, lft-end}
 use Rattle.calls.proofs.Lent.{silent}
 use Rattle.association.specs.declared.Association.{Association}
 use Rattle.calls.specs.declared.RepliesOut.{RepliesOut}
-use Rattle.reply_rules.specs.declared.ReplyAnswer.{ReplyAnswer}
+use Rattle.reply.specs.declared.Replied.{Replied}
 use Rattle.calls.specs.declared.Kind.{Kind}
 use Rattle.time_types.specs.declared.NtpTimestamp.{NtpTimestamp}
 use Rattle.association.proofs.Association as Rec
 use Rattle.association.proofs.Association.Laws as Rec′
 use Rattle.calls.proofs.RepliesOut as Out
 use Rattle.calls.proofs.RepliesOut.Laws as Out′
-use Rattle.reply_rules.proofs.ReplyAnswer as Ans
-use Rattle.reply_rules.proofs.ReplyAnswer.Laws as Ans′
+use Rattle.reply.proofs.Replied as Ans
+use Rattle.reply.proofs.Replied.Laws as Ans′
 use Rattle.calls.proofs.Kind as Kind·
 use Rattle.calls.proofs.Kind.Laws as Kind·′
 use Rattle.time_types.proofs.NtpTimestamp as NtpTimestamp·
@@ -168,31 +167,31 @@ stayed = (stay-dropped (plain (λ _. Rec.the-row)) yes, (stay-dropped (plain (λ
 abbrev rec : Association → Val
 rec = LL.val Rec.the-type Rec′.the-laws
 
-abbrev ans : ReplyAnswer → Val
-ans = EL.val Ans.the-type Ans′.the-laws
+abbrev ans : Replied → Val
+ans = LL.val Ans.the-type Ans′.the-laws
 
 abbrev out : RepliesOut → Val
 out = LL.val Out.the-type Out′.the-laws
 
-made : (r : ReplyAnswer) (w : Association) → Is Ans.the-row r (ans r ∷ []) → Is Rec.the-row w (rec w ∷ []) → Is Out.the-row (record { answer = r; association = w }) (out (record { answer = r; association = w }) ∷ [])
+made : (r : Replied) (w : Association) → Is Ans.the-row r (ans r ∷ []) → Is Rec.the-row w (rec w ∷ []) → Is Out.the-row (record { answer = r; association = w }) (out (record { answer = r; association = w }) ∷ [])
 made r w is g = LL.owes Out.the-type Out′.the-laws (record { answer = r; association = w }) (is, (g, tt))
 
 -- the contract that the proof cites
 abbrev Core : {M : Type 1} (𝓤 : URA M) (H : Heap 𝓤) (A : Atoms 𝓤) (at-mem : Memory → SProp 𝓤) (run : Routine → Fun 𝓤) → Contract 𝓤
 Core 𝓤 H A at-mem run = tripleOf 𝓤 H A core.signature (core.spec 𝓤 H A at-mem run)
 
-module _ {M : Type 1} (𝓤 : URA M) (H : Heap 𝓤) (A : Atoms 𝓤) (W : Given 𝓤 H A) (at-mem : Memory → SProp 𝓤) (run : Routine → Fun 𝓤) (κ1 κ2 κ3 : Lft) (q1 q2 q3 : Share) (h : Association) (calls : ℕ) (calling : Bool) (before : ReplyAnswer) (kind : Kind) (held : ℕ) (stores : Bool) (packet : RefT (List ℕ)) (end : ℕ) (decrypted : RefT (List ℕ)) (list : RefT (List ℕ)) (t1 : NtpTimestamp) (t4 : NtpTimestamp) (time : ℕ)
-    (h-is : Is Rec.the-row h (rec h ∷ [])) (calls-is : Is (u64) calls (vint w64 calls ∷ [])) (calling-is : Is (bool) calling (vbool calling ∷ [])) (before-is : Is (Ans.the-row) before (EL.val Ans.the-type Ans′.the-laws before ∷ [])) (kind-is : Is (Kind·.the-row) kind (LL.val Kind·.the-type Kind·′.the-laws kind ∷ [])) (held-is : Is (usize) held (vint w64 held ∷ [])) (stores-is : Is (bool) stores (vbool stores ∷ [])) (packet-is : Is (ShrSlice (named 0) κ1 u8) packet (sliceVal (packet .ptr) (length (packet .now)) ∷ [])) (end-is : Is (usize) end (vint w64 end ∷ [])) (decrypted-is : Is (ShrSlice (named 1) κ2 u8) decrypted (sliceVal (decrypted .ptr) (length (decrypted .now)) ∷ [])) (list-is : Is (ShrSlice (named 2) κ3 u8) list (sliceVal (list .ptr) (length (list .now)) ∷ [])) (t1-is : Is (NtpTimestamp·.the-row) t1 (LL.val NtpTimestamp·.the-type NtpTimestamp·′.the-laws t1 ∷ [])) (t4-is : Is (NtpTimestamp·.the-row) t4 (LL.val NtpTimestamp·.the-type NtpTimestamp·′.the-laws t4 ∷ [])) (time-is : Is (u64) time (vint w64 time ∷ [])) where
-  abbrev z : ℕ × (Bool × (ReplyAnswer × (Kind × (ℕ × (Bool × (RefT (List ℕ) × (ℕ × (RefT (List ℕ) × (RefT (List ℕ) × (NtpTimestamp × (NtpTimestamp × (ℕ × Unit {0}))))))))))))
+module _ {M : Type 1} (𝓤 : URA M) (H : Heap 𝓤) (A : Atoms 𝓤) (W : Given 𝓤 H A) (at-mem : Memory → SProp 𝓤) (run : Routine → Fun 𝓤) (κ1 κ2 κ3 : Lft) (q1 q2 q3 : Share) (h : Association) (calls : ℕ) (calling : Bool) (before : Replied) (kind : Kind) (held : ℕ) (stores : Bool) (packet : RefT (List ℕ)) (end : ℕ) (decrypted : RefT (List ℕ)) (list : RefT (List ℕ)) (t1 : NtpTimestamp) (t4 : NtpTimestamp) (time : ℕ)
+    (h-is : Is Rec.the-row h (rec h ∷ [])) (calls-is : Is (u64) calls (vint w64 calls ∷ [])) (calling-is : Is (bool) calling (vbool calling ∷ [])) (before-is : Is (Ans.the-row) before (LL.val Ans.the-type Ans′.the-laws before ∷ [])) (kind-is : Is (Kind·.the-row) kind (LL.val Kind·.the-type Kind·′.the-laws kind ∷ [])) (held-is : Is (usize) held (vint w64 held ∷ [])) (stores-is : Is (bool) stores (vbool stores ∷ [])) (packet-is : Is (ShrSlice (named 0) κ1 u8) packet (sliceVal (packet .ptr) (length (packet .now)) ∷ [])) (end-is : Is (usize) end (vint w64 end ∷ [])) (decrypted-is : Is (ShrSlice (named 1) κ2 u8) decrypted (sliceVal (decrypted .ptr) (length (decrypted .now)) ∷ [])) (list-is : Is (ShrSlice (named 2) κ3 u8) list (sliceVal (list .ptr) (length (list .now)) ∷ [])) (t1-is : Is (NtpTimestamp·.the-row) t1 (LL.val NtpTimestamp·.the-type NtpTimestamp·′.the-laws t1 ∷ [])) (t4-is : Is (NtpTimestamp·.the-row) t4 (LL.val NtpTimestamp·.the-type NtpTimestamp·′.the-laws t4 ∷ [])) (time-is : Is (u64) time (vint w64 time ∷ [])) where
+  abbrev z : ℕ × (Bool × (Replied × (Kind × (ℕ × (Bool × (RefT (List ℕ) × (ℕ × (RefT (List ℕ) × (RefT (List ℕ) × (NtpTimestamp × (NtpTimestamp × (ℕ × Unit {0}))))))))))))
   z = (calls, (calling, (before, (kind, (held, (stores, (packet, (end, (decrypted, (list, (t1, (t4, (time, tt)))))))))))))
 
   abbrev zv : List Val × (List Val × (List Val × (List Val × (List Val × (List Val × (List Val × (List Val × (List Val × (List Val × (List Val × (List Val × (List Val × Unit {0}))))))))))))
-  zv = (vint w64 calls ∷ [], (vbool calling ∷ [], (EL.val Ans.the-type Ans′.the-laws before ∷ [], (LL.val Kind·.the-type Kind·′.the-laws kind ∷ [], (vint w64 held ∷ [], (vbool stores ∷ [], (sliceVal (packet .ptr) (length (packet .now)) ∷ [], (vint w64 end ∷ [], (sliceVal (decrypted .ptr) (length (decrypted .now)) ∷ [], (sliceVal (list .ptr) (length (list .now)) ∷ [], (LL.val NtpTimestamp·.the-type NtpTimestamp·′.the-laws t1 ∷ [], (LL.val NtpTimestamp·.the-type NtpTimestamp·′.the-laws t4 ∷ [], (vint w64 time ∷ [], tt)))))))))))))
+  zv = (vint w64 calls ∷ [], (vbool calling ∷ [], (LL.val Ans.the-type Ans′.the-laws before ∷ [], (LL.val Kind·.the-type Kind·′.the-laws kind ∷ [], (vint w64 held ∷ [], (vbool stores ∷ [], (sliceVal (packet .ptr) (length (packet .now)) ∷ [], (vint w64 end ∷ [], (sliceVal (decrypted .ptr) (length (decrypted .now)) ∷ [], (sliceVal (list .ptr) (length (list .now)) ∷ [], (LL.val NtpTimestamp·.the-type NtpTimestamp·′.the-laws t1 ∷ [], (LL.val NtpTimestamp·.the-type NtpTimestamp·′.the-laws t4 ∷ [], (vint w64 time ∷ [], tt)))))))))))))
 
   abbrev Post : Val → SProp 𝓤
   Post = walkOf 𝓤 H A self.ended stayed (self.clauses 𝓤 H A at-mem run) .post (((κ1, (κ2, (κ3, tt))), (q1, (q2, (q3, tt))), tt, (h, z), (rec h ∷ [], zv)), tt)
 
-  exits : (r : ReplyAnswer) (w : Association) → Is Ans.the-row r (ans r ∷ []) → Is Rec.the-row w (rec w ∷ []) → Unit {0} → ent 𝓤 (⋆ 𝓤 H A ((‵ (flft κ1 q1) ⊛ ‵ (flft κ2 q2) ⊛ ‵ (flft κ3 q3) ⊛ ‵ ftrue) ∷ [])) (Post (out (record { answer = r; association = w })))
+  exits : (r : Replied) (w : Association) → Is Ans.the-row r (ans r ∷ []) → Is Rec.the-row w (rec w ∷ []) → Unit {0} → ent 𝓤 (⋆ 𝓤 H A ((‵ (flft κ1 q1) ⊛ ‵ (flft κ2 q2) ⊛ ‵ (flft κ3 q3) ⊛ ‵ ftrue) ∷ [])) (Post (out (record { answer = r; association = w })))
   exits r w is g e =
       qed W ((‵ (flft κ1 q1) ⊛ ‵ (flft κ2 q2) ⊛ ‵ (flft κ3 q3) ⊛ ‵ ftrue) ∷ []) ∵ suffices ! _ (ends-at 𝓤 H A self.ended stayed (self.clauses 𝓤 H A at-mem run) W (((κ1, (κ2, (κ3, tt))), (q1, (q2, (q3, tt))), tt, (h, z), (rec h ∷ [], zv)), tt) (out (record { answer = r; association = w })) (record { answer = r; association = w }) (tt, (tt, (tt, (tt, (tt, (tt, (tt, (tt, (tt, (tt, (tt, (tt, (tt, (tt, tt)))))))))))))) (tt, (tt, (tt, (tt, (tt, (tt, (tt, (tt, (tt, (tt, (tt, (tt, (tt, (tt, tt))))))))))))))) $
       silent ! $ frame ! $ nothing ! $ nothing ! $ fjoin ! $ nothing ! $ fjoin ! $ nothing ! $ fjoin ! $ nothing ! $ fjoin ! $ nothing ! $ fjoin ! $ nothing ! $ fjoin ! $ nothing ! $ fjoin ! $ nothing ! $ fjoin ! $ nothing ! $ fjoin ! $ nothing ! $ fjoin ! $ nothing ! $ fjoin ! $ nothing ! $ fjoin ! $ nothing ! $ fjoin ! $ nothing ! $ fjoin ! $
@@ -213,32 +212,32 @@ module _ {M : Type 1} (𝓤 : URA M) (H : Heap 𝓤) (A : Atoms 𝓤) (W : Given
       qed W (‵ (flft (α ∷ []) fullShare) ∷ ‵ (MutRef (named 0) (α ∷ []) Rec.the-row .own (lent l δ) (vptr l 0 ∷ [])) ∷ (‵ (owns (u64 ∷ bool ∷ Ans.the-row ∷ Kind·.the-row ∷ usize ∷ bool ∷ ShrSlice (named 0) κ1 u8 ∷ usize ∷ ShrSlice (named 1) κ2 u8 ∷ ShrSlice (named 2) κ3 u8 ∷ NtpTimestamp·.the-row ∷ NtpTimestamp·.the-row ∷ u64 ∷ []) z zv) ⊛ (‵ (flft κ1 q1) ⊛ ‵ (flft κ2 q2) ⊛ ‵ (flft κ3 q3) ⊛ ‵ ftrue)) ∷ []) ∵
       move ! (2 ∷ []) $ split ! $ move ! (3 ∷ 0 ∷ []) $ fjoin ! $ move ! (2 ∷ 1 ∷ []) $ join ! $ join ! $ frame ! $ done !
 
-  abbrev Ensured : ℕ → ℕ → GName → ReplyAnswer → SProp 𝓤
+  abbrev Ensured : ℕ → ℕ → GName → Replied → SProp 𝓤
   Ensured α l δ r = ensured 𝓤 H A core.ended (core.clauses 𝓤 H A at-mem run) (α ∷ [], (κ1, (κ2, (κ3, tt)))) (lent l δ, z) tt r
 
   comes-back : (α l : ℕ) (δ : GName) (v : Val) → ent 𝓤 (Core 𝓤 H A at-mem run .post (to-core α l δ) v)
-      (mean 𝓤 H A (later (some (λ (r : ReplyAnswer). ((‵ (flft (α ∷ []) fullShare) ⊛ raw (mean 𝓤 H A (‵ (flft κ1 q1) ⊛ ‵ (flft κ2 q2) ⊛ ‵ (flft κ3 q3) ⊛ ‵ ftrue))) ⊛ ‵ (Ans.the-row .own r (v ∷ []))) ⊛ raw (Ensured α l δ r)))))
+      (mean 𝓤 H A (later (some (λ (r : Replied). ((‵ (flft (α ∷ []) fullShare) ⊛ raw (mean 𝓤 H A (‵ (flft κ1 q1) ⊛ ‵ (flft κ2 q2) ⊛ ‵ (flft κ3 q3) ⊛ ‵ ftrue))) ⊛ ‵ (Ans.the-row .own r (v ∷ []))) ⊛ raw (Ensured α l δ r)))))
   comes-back α l δ v = id⊢ 𝓤 _
 
-  said-of : (α l : ℕ) (δ : GName) (r : ReplyAnswer) → ent 𝓤 (Ensured α l δ r) (mean 𝓤 H A (some (λ (w : Association). given (Unit {0}) (‵ (fres δ (Rec.the-row .coded .code w))))))
+  said-of : (α l : ℕ) (δ : GName) (r : Replied) → ent 𝓤 (Ensured α l δ r) (mean 𝓤 H A (some (λ (w : Association). given (Unit {0}) (‵ (fres δ (Rec.the-row .coded .code w))))))
   said-of α l δ r =
       qed W (raw (Ensured α l δ r) ∷ []) ∵ use1 W (some (λ (w : Association × (Unit {0} × (Unit {0} × (Unit {0} × (Unit {0} × (Unit {0} × (Unit {0} × (Unit {0} × (Unit {0} × (Unit {0} × (Unit {0} × (Unit {0} × (Unit {0} × (Unit {0} × Unit {0})))))))))))))). ‵ (lasts core.ended (α ∷ [], (κ1, (κ2, (κ3, tt)))) (lent l δ, z) w) ⊛ raw (emp 𝓤))) (id⊢ 𝓤 _) $ pick ! (λ w. split ! $ move ! (1 ∷ []) $ use1 W (raw (fact 𝓤 (Unit {0}))) (factI 𝓤 (Unit {0}) (emp 𝓤) tt) $ heard ! (Unit {0}) (λ e. fsplit ! $ move ! (1 ∷ []) $ drop ! $
       show ! (λ (w : Association). guard 𝓤 (Unit {0}) (mean 𝓤 H A (‵ (fres δ (Rec.the-row .coded .code w))))) (w .0) $ check ! e $ done !))
 
   module _ (C : Calls 𝓤 H) (Λ : Loops 𝓤 H) (fm : FmC 𝓤 H (W .laws) C) (known : Triple 𝓤 (C #calls·replies) (Core 𝓤 H A at-mem run)) where
-    walk-here : ent 𝓤 (onEntry 𝓤 H A self.signature (κ1, (κ2, (κ3, tt))) (q1, (q2, (q3, tt))) (h, z) (rec h ∷ [], zv)) (WpFn 𝓤 H C Λ code.function (rec h ∷ vint w64 calls ∷ vbool calling ∷ EL.val Ans.the-type Ans′.the-laws before ∷ LL.val Kind·.the-type Kind·′.the-laws kind ∷ vint w64 held ∷ vbool stores ∷ sliceVal (packet .ptr) (length (packet .now)) ∷ vint w64 end ∷ sliceVal (decrypted .ptr) (length (decrypted .now)) ∷ sliceVal (list .ptr) (length (list .now)) ∷ LL.val NtpTimestamp·.the-type NtpTimestamp·′.the-laws t1 ∷ LL.val NtpTimestamp·.the-type NtpTimestamp·′.the-laws t4 ∷ vint w64 time ∷ []) Post)
+    walk-here : ent 𝓤 (onEntry 𝓤 H A self.signature (κ1, (κ2, (κ3, tt))) (q1, (q2, (q3, tt))) (h, z) (rec h ∷ [], zv)) (WpFn 𝓤 H C Λ code.function (rec h ∷ vint w64 calls ∷ vbool calling ∷ LL.val Ans.the-type Ans′.the-laws before ∷ LL.val Kind·.the-type Kind·′.the-laws kind ∷ vint w64 held ∷ vbool stores ∷ sliceVal (packet .ptr) (length (packet .now)) ∷ vint w64 end ∷ sliceVal (decrypted .ptr) (length (decrypted .now)) ∷ sliceVal (list .ptr) (length (list .now)) ∷ LL.val NtpTimestamp·.the-type NtpTimestamp·′.the-laws t1 ∷ LL.val NtpTimestamp·.the-type NtpTimestamp·′.the-laws t4 ∷ vint w64 time ∷ []) Post)
     walk-here =
         qed W ((‵ (flft κ1 q1) ⊛ ‵ (flft κ2 q2) ⊛ ‵ (flft κ3 q3) ⊛ ‵ ftrue) ∷ ‵ (owns (Rec.the-row ∷ u64 ∷ bool ∷ Ans.the-row ∷ Kind·.the-row ∷ usize ∷ bool ∷ ShrSlice (named 0) κ1 u8 ∷ usize ∷ ShrSlice (named 1) κ2 u8 ∷ ShrSlice (named 2) κ3 u8 ∷ NtpTimestamp·.the-row ∷ NtpTimestamp·.the-row ∷ u64 ∷ []) (h, z) (rec h ∷ [], zv)) ∷ []) ∵ move ! (1 ∷ []) $ fsplit ! $ drop ! $ join ! $
         by ! (walk Rec.the-row Ans.the-row rec ans (99 ∷ 97 ∷ 108 ∷ 108 ∷ 115 ∷ 58 ∷ 58 ∷ 82 ∷ 101 ∷ 112 ∷ 108 ∷ 105 ∷ 101 ∷ 115 ∷ 79 ∷ 117 ∷ 116 ∷ []) (tyNamed (97 ∷ 115 ∷ 115 ∷ 111 ∷ 99 ∷ 105 ∷ 97 ∷ 116 ∷ 105 ∷ 111 ∷ 110 ∷ 58 ∷ 58 ∷ 65 ∷ 115 ∷ 115 ∷ 111 ∷ 99 ∷ 105 ∷ 97 ∷ 116 ∷ 105 ∷ 111 ∷ 110 ∷ [], [])) Rec′.mir Ans′.mir (tyInt w64) tyBool Ans′.mir Kind·′.mir (tyInt w64) tyBool (tyStruct (38 ∷ 91 ∷ 93 ∷ []) (tcons (tyRef (named 0) imm (tyInt w8)) (tcons (tyInt w64) tnil))) (tyInt w64) (tyStruct (38 ∷ 91 ∷ 93 ∷ []) (tcons (tyRef (named 1) imm (tyInt w8)) (tcons (tyInt w64) tnil))) (tyStruct (38 ∷ 91 ∷ 93 ∷ []) (tcons (tyRef (named 2) imm (tyInt w8)) (tcons (tyInt w64) tnil))) NtpTimestamp·′.mir NtpTimestamp·′.mir (tyInt w64) refl
-        (LL.tells Rec.the-type Rec′.the-laws) (EL.tells Ans.the-type Ans′.the-laws)
-        (λ y g. LL.lawful Rec.the-type Rec′.the-laws 𝓤 H A W .typed y _ g .0) (λ y v g. EL.lawful Ans.the-type Ans′.the-laws 𝓤 H A W tt .typed y _ g .0) (λ r w is g. LL.lawful Out.the-type Out′.the-laws 𝓤 H A W .typed (record { answer = r; association = w }) _ (made r w is g) .0)
-        𝓤 H A W (LL.makes Rec.the-type Rec′.the-plain 𝓤 H A) h (vint w64 calls) (vbool calling) (EL.val Ans.the-type Ans′.the-laws before) (LL.val Kind·.the-type Kind·′.the-laws kind) (vint w64 held) (vbool stores) (sliceVal (packet .ptr) (length (packet .now))) (vint w64 end) (sliceVal (decrypted .ptr) (length (decrypted .now))) (sliceVal (list .ptr) (length (list .now))) (LL.val NtpTimestamp·.the-type NtpTimestamp·′.the-laws t1) (LL.val NtpTimestamp·.the-type NtpTimestamp·′.the-laws t4) (vint w64 time) h-is
-        (uint-lawful 𝓤 H A W w64 .typed calls _ calls-is .0) (bool-lawful 𝓤 H A W .typed calling _ calling-is .0) (EL.lawful Ans.the-type Ans′.the-laws 𝓤 H A W tt .typed before _ before-is .0) (LL.lawful Kind·.the-type Kind·′.the-laws 𝓤 H A W .typed kind _ kind-is .0) (uint-lawful 𝓤 H A W w64 .typed held _ held-is .0) (bool-lawful 𝓤 H A W .typed stores _ stores-is .0) (shr-slice-lawful 𝓤 H A W (named 0) κ1 u8 .typed packet _ packet-is .0) (uint-lawful 𝓤 H A W w64 .typed end _ end-is .0) (shr-slice-lawful 𝓤 H A W (named 1) κ2 u8 .typed decrypted _ decrypted-is .0) (shr-slice-lawful 𝓤 H A W (named 2) κ3 u8 .typed list _ list-is .0) (LL.lawful NtpTimestamp·.the-type NtpTimestamp·′.the-laws 𝓤 H A W .typed t1 _ t1-is .0) (LL.lawful NtpTimestamp·.the-type NtpTimestamp·′.the-laws 𝓤 H A W .typed t4 _ t4-is .0) (uint-lawful 𝓤 H A W w64 .typed time _ time-is .0)
+        (LL.tells Rec.the-type Rec′.the-laws) (LL.tells Ans.the-type Ans′.the-laws)
+        (λ y g. LL.lawful Rec.the-type Rec′.the-laws 𝓤 H A W .typed y _ g .0) (λ y v g. LL.lawful Ans.the-type Ans′.the-laws 𝓤 H A W .typed y _ g .0) (λ r w is g. LL.lawful Out.the-type Out′.the-laws 𝓤 H A W .typed (record { answer = r; association = w }) _ (made r w is g) .0)
+        𝓤 H A W (LL.makes Rec.the-type Rec′.the-plain 𝓤 H A) h (vint w64 calls) (vbool calling) (LL.val Ans.the-type Ans′.the-laws before) (LL.val Kind·.the-type Kind·′.the-laws kind) (vint w64 held) (vbool stores) (sliceVal (packet .ptr) (length (packet .now))) (vint w64 end) (sliceVal (decrypted .ptr) (length (decrypted .now))) (sliceVal (list .ptr) (length (list .now))) (LL.val NtpTimestamp·.the-type NtpTimestamp·′.the-laws t1) (LL.val NtpTimestamp·.the-type NtpTimestamp·′.the-laws t4) (vint w64 time) h-is
+        (uint-lawful 𝓤 H A W w64 .typed calls _ calls-is .0) (bool-lawful 𝓤 H A W .typed calling _ calling-is .0) (LL.lawful Ans.the-type Ans′.the-laws 𝓤 H A W .typed before _ before-is .0) (LL.lawful Kind·.the-type Kind·′.the-laws 𝓤 H A W .typed kind _ kind-is .0) (uint-lawful 𝓤 H A W w64 .typed held _ held-is .0) (bool-lawful 𝓤 H A W .typed stores _ stores-is .0) (shr-slice-lawful 𝓤 H A W (named 0) κ1 u8 .typed packet _ packet-is .0) (uint-lawful 𝓤 H A W w64 .typed end _ end-is .0) (shr-slice-lawful 𝓤 H A W (named 1) κ2 u8 .typed decrypted _ decrypted-is .0) (shr-slice-lawful 𝓤 H A W (named 2) κ3 u8 .typed list _ list-is .0) (LL.lawful NtpTimestamp·.the-type NtpTimestamp·′.the-laws 𝓤 H A W .typed t1 _ t1-is .0) (LL.lawful NtpTimestamp·.the-type NtpTimestamp·′.the-laws 𝓤 H A W .typed t4 _ t4-is .0) (uint-lawful 𝓤 H A W w64 .typed time _ time-is .0)
         Own (mean 𝓤 H A (‵ (flft κ1 q1) ⊛ ‵ (flft κ2 q2) ⊛ ‵ (flft κ3 q3) ⊛ ‵ ftrue)) (λ α l δ. Core 𝓤 H A at-mem run .pre (to-core α l δ)) (λ α l δ. Core 𝓤 H A at-mem run .post (to-core α l δ)) Post Ensured (λ r w. Unit {0}) goes-core comes-back said-of exits C Λ fm (λ α l δ. known (to-core α l δ)))
 
 module _ {M : Type 1} (𝓤 : URA M) (H : Heap 𝓤) (A : Atoms 𝓤) (W : Given 𝓤 H A) (at-mem : Memory → SProp 𝓤) (run : Routine → Fun 𝓤) where
   walks : (C : Calls 𝓤 H) (Λ : Loops 𝓤 H) → FmC 𝓤 H (W .laws) C → Triple 𝓤 (C #calls·replies) (Core 𝓤 H A at-mem run) → Walks 𝓤 H A self.ended stayed (WpFn 𝓤 H C Λ code.function) (self.clauses 𝓤 H A at-mem run)
-  walks C Λ fm known = walked 𝓤 H A self.ended stayed (self.clauses 𝓤 H A at-mem run) (WpFn 𝓤 H C Λ code.function) (λ κs. (LL.vals Rec.the-type Rec′.the-laws, (uint-vals w64, (bool-vals, (EL.vals Ans.the-type Ans′.the-laws, (LL.vals Kind·.the-type Kind·′.the-laws, (uint-vals w64, (bool-vals, (slice-vals, (uint-vals w64, (slice-vals, (slice-vals, (LL.vals NtpTimestamp·.the-type NtpTimestamp·′.the-laws, (LL.vals NtpTimestamp·.the-type NtpTimestamp·′.the-laws, (uint-vals w64, tt))))))))))))))) (λ κs. (LL.tells Rec.the-type Rec′.the-laws, (uint-tells w64, (bool-tells, (EL.tells Ans.the-type Ans′.the-laws, (LL.tells Kind·.the-type Kind·′.the-laws, (uint-tells w64, (bool-tells, (shr-slice-tells (named 0) (κs .0) u8, (uint-tells w64, (shr-slice-tells (named 1) (κs .1 .0) u8, (shr-slice-tells (named 2) (κs .1 .1 .0) u8, (LL.tells NtpTimestamp·.the-type NtpTimestamp·′.the-laws, (LL.tells NtpTimestamp·.the-type NtpTimestamp·′.the-laws, (uint-tells w64, tt)))))))))))))))
+  walks C Λ fm known = walked 𝓤 H A self.ended stayed (self.clauses 𝓤 H A at-mem run) (WpFn 𝓤 H C Λ code.function) (λ κs. (LL.vals Rec.the-type Rec′.the-laws, (uint-vals w64, (bool-vals, (LL.vals Ans.the-type Ans′.the-laws, (LL.vals Kind·.the-type Kind·′.the-laws, (uint-vals w64, (bool-vals, (slice-vals, (uint-vals w64, (slice-vals, (slice-vals, (LL.vals NtpTimestamp·.the-type NtpTimestamp·′.the-laws, (LL.vals NtpTimestamp·.the-type NtpTimestamp·′.the-laws, (uint-vals w64, tt))))))))))))))) (λ κs. (LL.tells Rec.the-type Rec′.the-laws, (uint-tells w64, (bool-tells, (LL.tells Ans.the-type Ans′.the-laws, (LL.tells Kind·.the-type Kind·′.the-laws, (uint-tells w64, (bool-tells, (shr-slice-tells (named 0) (κs .0) u8, (uint-tells w64, (shr-slice-tells (named 1) (κs .1 .0) u8, (shr-slice-tells (named 2) (κs .1 .1 .0) u8, (LL.tells NtpTimestamp·.the-type NtpTimestamp·′.the-laws, (LL.tells NtpTimestamp·.the-type NtpTimestamp·′.the-laws, (uint-tells w64, tt)))))))))))))))
       (λ κs qs bounds a g are. via 𝓤 _ (fst∗ 𝓤 _ (emp 𝓤)) (walk-here 𝓤 H A W at-mem run (κs .0) (κs .1 .0) (κs .1 .1 .0) (qs .0) (qs .1 .0) (qs .1 .1 .0) (a .0) (a .1 .0) (a .1 .1 .0) (a .1 .1 .1 .0) (a .1 .1 .1 .1 .0) (a .1 .1 .1 .1 .1 .0) (a .1 .1 .1 .1 .1 .1 .0) (a .1 .1 .1 .1 .1 .1 .1 .0) (a .1 .1 .1 .1 .1 .1 .1 .1 .0) (a .1 .1 .1 .1 .1 .1 .1 .1 .1 .0) (a .1 .1 .1 .1 .1 .1 .1 .1 .1 .1 .0) (a .1 .1 .1 .1 .1 .1 .1 .1 .1 .1 .1 .0) (a .1 .1 .1 .1 .1 .1 .1 .1 .1 .1 .1 .1 .0) (a .1 .1 .1 .1 .1 .1 .1 .1 .1 .1 .1 .1 .1 .0) (are .0) (are .1 .0) (are .1 .1 .0) (are .1 .1 .1 .0) (are .1 .1 .1 .1 .0) (are .1 .1 .1 .1 .1 .0) (are .1 .1 .1 .1 .1 .1 .0) (are .1 .1 .1 .1 .1 .1 .1 .0) (are .1 .1 .1 .1 .1 .1 .1 .1 .0) (are .1 .1 .1 .1 .1 .1 .1 .1 .1 .0) (are .1 .1 .1 .1 .1 .1 .1 .1 .1 .1 .0) (are .1 .1 .1 .1 .1 .1 .1 .1 .1 .1 .1 .0) (are .1 .1 .1 .1 .1 .1 .1 .1 .1 .1 .1 .1 .0) (are .1 .1 .1 .1 .1 .1 .1 .1 .1 .1 .1 .1 .1 .0) C Λ fm known))
 
   goes : AllGo 𝓤 H A W 3 (self.signature .params) (self.ended .kept) stayed

@@ -1,4 +1,4 @@
--- `reckonstile_blank` meets its contract: a walk of its MIR. The borrow is opened, `blank` is called with the other arguments, and of what it returns the association is stored behind the reference and the number is the result; the borrow is closed at the new record.
+-- `reckonstile_blank` meets its contract: a walk of its MIR. The borrow is opened, `blank` is called with the other arguments, and of what it returns the association is stored behind the reference and the answer is the result; the borrow is closed at the new record.
 -- All that the proof knows of what is called is that it meets its contract. Written by tools/walk/mkmake.py. Assumes nothing.
 use mathlib.Core.Path.{_≡_, refl, sym, ap}
 use Prim.Native.Nat.{ℕ}
@@ -56,14 +56,14 @@ use Rattle.embed.proofs.reckonstile_blank as self
 use Rattle.embed.proofs.reckonstile_blank.Statement as stated
 use Rattle.embed.proofs.reckonstile_blank.Code as code
 
--- the function, over any types of the record (τ-to is its name, behind the reference) and of the arguments
-abbrev shape : Sym → (τ-to τ-rec : Ty) → Fn
-shape ν τ-to τ-rec =
+-- the function, over any types of the record (τ-to is its name, behind the reference), of the answer and of the arguments
+abbrev shape : Sym → (τ-to τ-rec τ-ans : Ty) → Fn
+shape ν τ-to τ-rec τ-ans =
     record {
       lifetimes = 1;
       outlives = [];
       params = 1;
-      locals = local (tyInt w32) valueLocal ∷ local (tyRef (named 0) mut τ-to) valueLocal ∷ local (tyStruct ν (tcons (tyInt w32) (tcons τ-rec tnil))) valueLocal ∷ [];
+      locals = local τ-ans valueLocal ∷ local (tyRef (named 0) mut τ-to) valueLocal ∷ local (tyStruct ν (tcons τ-ans (tcons τ-rec tnil))) valueLocal ∷ [];
       body =
           seq (call #embed-rules·blank ([]) (place 2 []))
           (seq (assign (place 1 (deref τ-rec ∷ [])) (rvOpd (copy (place 2 (field 1 ∷ [])))))
@@ -72,11 +72,11 @@ shape ν τ-to τ-rec =
     }
 
 -- The walk, over any rows of a record and of what is made, and any machine values: it asks only that these are of their types.
-module _ (Rec Out : RattleType) (rec : Rec .Denot → Val) (number : Out .Denot → ℕ) (next : Out .Denot → Rec .Denot) (ν : Sym) (τ-to τ-rec : Ty) (rec-mir : Rec .mir ≡ τ-rec ∷ [])
-    (rec-tells : Tells Rec (Is Rec) (λ y. rec y ∷ [])) (out-tells : Tells Out (Is Out) (λ r. vstruct (ofList (vint w32 (number r) ∷ rec (next r) ∷ [])) ∷ []))
+module _ (Rec Out : RattleType) (rec : Rec .Denot → Val) (ans : Out .Denot → Val) (next : Out .Denot → Rec .Denot) (ν : Sym) (τ-to τ-rec τ-ans : Ty) (rec-mir : Rec .mir ≡ τ-rec ∷ [])
+    (rec-tells : Tells Rec (Is Rec) (λ y. rec y ∷ [])) (out-tells : Tells Out (Is Out) (λ r. vstruct (ofList (ans r ∷ rec (next r) ∷ [])) ∷ []))
     (rec-typed : (y : Rec .Denot) → Is Rec y (rec y ∷ []) → T (hasTy τ-rec (rec y)) × WT (rec y))
-    (out-typed : (r : Out .Denot) (v : Val) → Is Out r (v ∷ []) → T (hasTy (tyStruct ν (tcons (tyInt w32) (tcons τ-rec tnil))) v) × WT v)
-    (number-typed : (r : Out .Denot) (vs : List Val) → Is Out r vs → T (hasTy (tyInt w32) (vint w32 (number r))) × WT (vint w32 (number r)))
+    (out-typed : (r : Out .Denot) (v : Val) → Is Out r (v ∷ []) → T (hasTy (tyStruct ν (tcons τ-ans (tcons τ-rec tnil))) v) × WT v)
+    (ans-typed : (r : Out .Denot) (vs : List Val) → Is Out r vs → T (hasTy τ-ans (ans r)) × WT (ans r))
     (next-is : (r : Out .Denot) (vs : List Val) → Is Out r vs → Is Rec (next r) (rec (next r) ∷ []))
     {M : Type 1} (𝓤 : URA M) (H : Heap 𝓤) (A : Atoms 𝓤) (W : Given 𝓤 H A) (rec-makes : Makes 𝓤 H A Rec (Is Rec))
     (κ : Lft) (q : Share) (b o : ℕ) (γ : GName) (h : Rec .Denot)
@@ -85,11 +85,11 @@ module _ (Rec Out : RattleType) (rec : Rec .Denot → Val) (number : Out .Denot 
     (comes-back : (v : Val) → ent 𝓤 (Back v) (mean 𝓤 H A (later (some (λ (r : Out .Denot). (raw Left ⊛ ‵ (Out .own r (v ∷ []))) ⊛ raw (Ensured r))))))
     (said-of : (r : Out .Denot) → ent 𝓤 (Ensured r) (fact 𝓤 (Says r)))
     (exits : (r : Out .Denot) (vs : List Val) → Is Out r vs → Says r →
-    ent 𝓤 (⋆ 𝓤 H A (‵ (fobs γ (Rec .coded .code (next r))) ∷ ‵ (fbor κ (Body (mem Rec) b o γ)) ∷ ‵ (flft κ q) ∷ raw Left ∷ [])) (Post (vint w32 (number r))))
+    ent 𝓤 (⋆ 𝓤 H A (‵ (fobs γ (Rec .coded .code (next r))) ∷ ‵ (fbor κ (Body (mem Rec) b o γ)) ∷ ‵ (flft κ q) ∷ raw Left ∷ [])) (Post (ans r)))
     (C : Calls 𝓤 H) (Λ : Loops 𝓤 H) (fm : FmC 𝓤 H (W .laws) C) (known : ent 𝓤 Pre (C #embed-rules·blank ([]) Back)) where
-  walk : ent 𝓤 (⋆ 𝓤 H A (‵ (fobs γ (Rec .coded .code h)) ∷ ‵ (fbor κ (Body (mem Rec) b o γ)) ∷ ‵ (flft κ q) ∷ raw Own ∷ [])) (WpFn 𝓤 H C Λ (shape ν τ-to τ-rec) (vptr b o ∷ []) Post)
+  walk : ent 𝓤 (⋆ 𝓤 H A (‵ (fobs γ (Rec .coded .code h)) ∷ ‵ (fbor κ (Body (mem Rec) b o γ)) ∷ ‵ (flft κ q) ∷ raw Own ∷ [])) (WpFn 𝓤 H C Λ (shape ν τ-to τ-rec τ-ans) (vptr b o ∷ []) Post)
   walk =
-      qed W (‵ (fobs γ (Rec .coded .code h)) ∷ ‵ (fbor κ (Body (mem Rec) b o γ)) ∷ ‵ (flft κ q) ∷ raw Own ∷ []) ∵ enter ! C Λ (shape ν τ-to τ-rec) (vptr b o ∷ []) _ $
+      qed W (‵ (fobs γ (Rec .coded .code h)) ∷ ‵ (fbor κ (Body (mem Rec) b o γ)) ∷ ‵ (flft κ q) ∷ raw Own ∷ []) ∵ enter ! C Λ (shape ν τ-to τ-rec τ-ans) (vptr b o ∷ []) _ $
       alloc1 ! (λ l0. alloc1 ! (λ l1. alloc1 ! (λ l2. alloc0 ! $ params1 ! $
       pass1 ! (init ! 2 refl (tt, tt)) $
       pass0 ! $
@@ -101,9 +101,9 @@ module _ (Rec Out : RattleType) (rec : Rec .Denot → Val) (number : Out .Denot 
       use1 W (later (some (λ (r : Out .Denot). (raw Left ⊛ ‵ (Out .own r (v ∷ []))) ⊛ raw (Ensured r)))) (comes-back v) $ await ! tt $ pick ! (λ r. split ! $ move ! (1 ∷ []) $
       use1 W (raw (fact 𝓤 (Says r))) (said-of r) $ heard ! (Says r) (λ e. split ! $ move ! (1 ∷ []) $ peeks ! Out (Is Out) (shows 𝓤 H A Out) r (v ∷ []) (λ is. drop ! $
       -- [left; record; obor; obs; auth; the locals, the last first]
-      land ! (from ! (stop !)) (init ! 5 refl (out-typed r v is)) $ rewrite ! 5 (λ (u : Val). ‵ (fat fullShare (tyStruct ν (tcons (tyInt w32) (tcons τ-rec tnil))) l2 0 u)) (ap only (out-tells r _ is)) refl $
+      land ! (from ! (stop !)) (init ! 5 refl (out-typed r v is)) $ rewrite ! 5 (λ (u : Val). ‵ (fat fullShare (tyStruct ν (tcons τ-ans (tcons τ-rec tnil))) l2 0 u)) (ap only (out-tells r _ is)) refl $
       assigns ! (of-opd ! (load ! (from ! (fld ! refl (stop !))) (look-in ! 5 (sub ! 1 refl (whole !))))) (from ! (hop ! (look ! 7 refl) (stop !))) (store-raw ! 1 refl (rec-typed (next r) (next-is r _ is))) $
-      assigns ! (of-opd ! (load ! (from ! (fld ! refl (stop !))) (look-in ! 5 (sub ! 0 refl (whole !))))) (from ! (stop !)) (init ! 9 refl (number-typed r _ is)) $
+      assigns ! (of-opd ! (load ! (from ! (fld ! refl (stop !))) (look-in ! 5 (sub ! 0 refl (whole !))))) (from ! (stop !)) (init ! 9 refl (ans-typed r _ is)) $
       move ! (1 ∷ 2 ∷ 3 ∷ 4 ∷ []) $ rewrite ! 0 (λ (τs : List Ty). ‵ (cellAt fullShare τs (rec (next r) ∷ []) b o)) (sym rec-mir) refl $ owned ! Rec (Is Rec) rec-makes (next r) _ (next-is r _ is) $ move ! (1 ∷ 0 ∷ []) $ closes ! tt Rec (next r) (rec (next r) ∷ []) b o $
       returns ! (look ! 8 refl) $ forget ! 8 refl $ forget ! 6 refl $ forget ! 4 refl $
       move ! (8 ∷ 9 ∷ []) $ free1 ! $ move ! (6 ∷ 7 ∷ []) $ free1 ! $ move ! (4 ∷ 5 ∷ []) $ free1 ! $ free0 ! $
@@ -119,8 +119,8 @@ abbrev Out-val : CMade → Val
 Out-val = LL.val Out.the-type Out′.the-laws
 
 -- what whoever holds what the core returns knows of its two fields
-number-is : (r : CMade) (vs : List Val) → Is Out.the-row r vs → Is u32 (r .number) (vint w32 (r .number) ∷ [])
-number-is r vs g = LL.owed Out.the-type Out′.the-laws r vs g .0
+answer-is : (r : CMade) (vs : List Val) → Is Out.the-row r vs → Is u32 (r .number) (vint w32 (r .number) ∷ [])
+answer-is r vs g = LL.owed Out.the-type Out′.the-laws r vs g .0
 
 next-is : (r : CMade) (vs : List Val) → Is Out.the-row r vs → Is Rec.the-row (r .association) (Rec-val (r .association) ∷ [])
 next-is r vs g = LL.owed Out.the-type Out′.the-laws r vs g .1 .0
@@ -168,7 +168,7 @@ module _ {M : Type 1} (𝓤 : URA M) (H : Heap 𝓤) (A : Atoms 𝓤) (W : Given
 
     ends : (r : CMade) (vs : List Val) → Is Out.the-row r vs → r ≡ blankMade → ent 𝓤 (⋆ 𝓤 H A (‵ (fobs γ (Rec.the-row .coded .code (r .association))) ∷ ‵ (fbor κ (Body (mem Rec.the-row) b o γ)) ∷ ‵ (flft κ q) ∷ raw (mean 𝓤 H A (‵ ftrue)) ∷ [])) (Post (vint w32 (r .number)))
     ends r vs g e =
-        qed W (‵ (fobs γ (Rec.the-row .coded .code (r .association))) ∷ ‵ (fbor κ (Body (mem Rec.the-row) b o γ)) ∷ ‵ (flft κ q) ∷ raw (mean 𝓤 H A (‵ ftrue)) ∷ []) ∵ move ! (3 ∷ []) $ use1 W (‵ ftrue) (id⊢ 𝓤 _) $ drop ! $ move ! (0 ∷ 1 ∷ 2 ∷ []) $ by ! (exits (r .number) (r .association) (number-is r vs g) (ap (λ (s : CMade). s .number) e, ap (λ (s : CMade). s .association) e))
+        qed W (‵ (fobs γ (Rec.the-row .coded .code (r .association))) ∷ ‵ (fbor κ (Body (mem Rec.the-row) b o γ)) ∷ ‵ (flft κ q) ∷ raw (mean 𝓤 H A (‵ ftrue)) ∷ []) ∵ move ! (3 ∷ []) $ use1 W (‵ ftrue) (id⊢ 𝓤 _) $ drop ! $ move ! (0 ∷ 1 ∷ 2 ∷ []) $ by ! (exits (r .number) (r .association) (answer-is r vs g) (ap (λ (s : CMade). s .number) e, ap (λ (s : CMade). s .association) e))
 
     abbrev Given-core : SProp 𝓤
     Given-core = ⋆ 𝓤 H A (‵ ftrue ∷ [])
@@ -179,10 +179,10 @@ module _ {M : Type 1} (𝓤 : URA M) (H : Heap 𝓤) (A : Atoms 𝓤) (W : Given
           qed W ((‵ (flft κ q) ⊛ ‵ ftrue) ∷ ‵ (owns (MutRef (named 0) κ Rec.the-row ∷ []) x at) ∷ []) ∵ split ! $ move ! (1 ∷ []) $ drop ! $ move ! (1 ∷ []) $ fsplit ! $ fsplit3 ! $ drop ! $ move ! (2 ∷ []) $ drop ! $
           nothing ! $
           use1 W (raw Given-core) (id⊢ 𝓤 _) $
-          move ! (1 ∷ 2 ∷ 3 ∷ 0 ∷ []) $ by ! (walk Rec.the-row Out.the-row Rec-val (λ r. r .number) (λ r. r .association)
-          (101 ∷ 109 ∷ 98 ∷ 101 ∷ 100 ∷ 95 ∷ 114 ∷ 117 ∷ 108 ∷ 101 ∷ 115 ∷ 58 ∷ 58 ∷ 67 ∷ 77 ∷ 97 ∷ 100 ∷ 101 ∷ []) (tyNamed (101 ∷ 109 ∷ 98 ∷ 101 ∷ 100 ∷ 95 ∷ 114 ∷ 101 ∷ 99 ∷ 111 ∷ 114 ∷ 100 ∷ 58 ∷ 58 ∷ 67 ∷ 65 ∷ 115 ∷ 115 ∷ 111 ∷ 99 ∷ 105 ∷ 97 ∷ 116 ∷ 105 ∷ 111 ∷ 110 ∷ [], [])) Rec′.mir refl
+          move ! (1 ∷ 2 ∷ 3 ∷ 0 ∷ []) $ by ! (walk Rec.the-row Out.the-row Rec-val (λ r. vint w32 (r .number)) (λ r. r .association)
+          (101 ∷ 109 ∷ 98 ∷ 101 ∷ 100 ∷ 95 ∷ 114 ∷ 117 ∷ 108 ∷ 101 ∷ 115 ∷ 58 ∷ 58 ∷ 67 ∷ 77 ∷ 97 ∷ 100 ∷ 101 ∷ []) (tyNamed (101 ∷ 109 ∷ 98 ∷ 101 ∷ 100 ∷ 95 ∷ 114 ∷ 101 ∷ 99 ∷ 111 ∷ 114 ∷ 100 ∷ 58 ∷ 58 ∷ 67 ∷ 65 ∷ 115 ∷ 115 ∷ 111 ∷ 99 ∷ 105 ∷ 97 ∷ 116 ∷ 105 ∷ 111 ∷ 110 ∷ [], [])) Rec′.mir (tyInt w32) refl
           (LL.tells Rec.the-type Rec′.the-laws) (LL.tells Out.the-type Out′.the-laws)
-          (λ y g. (LL.lawful Rec.the-type Rec′.the-laws 𝓤 H A W .typed y _ g .0)) (λ r v g. (LL.lawful Out.the-type Out′.the-laws 𝓤 H A W .typed r _ g .0)) (λ r vs g. (uint-lawful 𝓤 H A W w32 .typed (r .number) _ (number-is r vs g) .0))
+          (λ y g. (LL.lawful Rec.the-type Rec′.the-laws 𝓤 H A W .typed y _ g .0)) (λ r v g. (LL.lawful Out.the-type Out′.the-laws 𝓤 H A W .typed r _ g .0)) (λ r vs g. (uint-lawful 𝓤 H A W w32 .typed (r .number) _ (answer-is r vs g) .0))
           next-is 𝓤 H A W (LL.makes Rec.the-type Rec′.the-plain 𝓤 H A) κ q b o γ h
           Given-core (mean 𝓤 H A (‵ ftrue)) (C-core 𝓤 H A at-mem run .pre to-core) (C-core 𝓤 H A at-mem run .post to-core) Post E-core (λ r. r ≡ blankMade)
           (goes-core) comes-core said-core ends C Λ fm (known-core to-core))

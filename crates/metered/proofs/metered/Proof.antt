@@ -16,13 +16,17 @@ number-requires c κs = search needs
 blank-requires : tie.Need-blank-requires
 blank-requires c κs = search needs
 
+none-requires : tie.Need-none-requires
+none-requires c κs = search needs
+
 returns : tie.Need-returns
 unfolding meteredOf
 returns c =
-    let a = c .before .before .before .before .before .args in
-    let p = c .before .before .before .profile .ensures in
-    let n = c .before .before .number .ensures in
-    rw (c .blank .ensures, p, ne-eqb (numberOf (profileOf (a .settings) (a .list .now))) 0 (λ e. c .before .if1 .taken (n ∙ ap numberOf p ∙ e)))
+    let b = c .before in
+    let a = b .before .before .before .before .before .args in
+    let p = b .before .before .before .profile .ensures in
+    let n = b .before .before .number .ensures in
+    rw (c .none .ensures, b .blank .ensures, p, ne-eqb (numberOf (profileOf (a .settings) (a .list .now))) 0 (λ e. b .before .if1 .taken (n ∙ ap numberOf p ∙ e)))
 
 new-requires : tie.Need-new-requires
 new-requires c κs = search needs
@@ -30,10 +34,11 @@ new-requires c κs = search needs
 returns-2 : tie.Need-returns-2
 unfolding meteredOf
 returns-2 c =
-    let a = c .before .before .before .before .before .before .args in
-    let p = c .before .before .before .before .profile .ensures in
-    let n = c .before .before .before .number .ensures in
-    rw (p, c .before .new .ensures, eq-eqb (numberOf (profileOf (a .settings) (a .list .now))) 0 (sym (n ∙ ap numberOf p) ∙ c .before .before .if1 .left))
+    let b = c .before in
+    let a = b .before .before .before .before .before .before .args in
+    let p = b .before .before .before .before .profile .ensures in
+    let n = b .before .before .before .number .ensures in
+    rw (p, b .before .new .ensures, eq-eqb (numberOf (profileOf (a .settings) (a .list .now))) 0 (sym (n ∙ ap numberOf p) ∙ b .before .before .if1 .left))
 
 pub metered-spec : {M : Type 1} → statement M
-metered-spec = tie.close (tie.spec profile-requires number-requires blank-requires returns new-requires returns-2)
+metered-spec = tie.close (tie.spec profile-requires number-requires blank-requires none-requires returns new-requires returns-2)

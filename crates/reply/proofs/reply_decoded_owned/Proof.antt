@@ -6,7 +6,6 @@ use base.Logic.{SProp, ent, emp, guard, via, fst∗, id⊢}
 use contract.Monad.{Fun, fact}
 use contract.Running.{givenOf, tables, tablesOf}
 use denote.Builtin.{u8, u64}
-use denote.Enum.Laws as EL
 use denote.Exit.{yes}
 use denote.Laws.{Is, Tells, Makes, shows}
 use denote.Lend.{lends-ref, ref-back}
@@ -48,15 +47,15 @@ use Rattle.reply_clauses.specs.After.{arrival}
 use Rattle.reply.specs.Reply.{replyDecodedOf}
 use Rattle.association.specs.declared.Association.{Association}
 use Rattle.reply.specs.declared.ReplyOut.{ReplyOut}
-use Rattle.reply_rules.specs.declared.ReplyAnswer.{ReplyAnswer}
+use Rattle.reply.specs.declared.Replied.{Replied}
 use Rattle.incoming.specs.declared.DecodedReply.{DecodedReply}
 use Rattle.time_types.specs.declared.NtpTimestamp.{NtpTimestamp}
 use Rattle.association.proofs.Association as Rec
 use Rattle.association.proofs.Association.Laws as Rec′
 use Rattle.reply.proofs.ReplyOut as Out
 use Rattle.reply.proofs.ReplyOut.Laws as Out′
-use Rattle.reply_rules.proofs.ReplyAnswer as Ans
-use Rattle.reply_rules.proofs.ReplyAnswer.Laws as Ans′
+use Rattle.reply.proofs.Replied as Ans
+use Rattle.reply.proofs.Replied.Laws as Ans′
 use Rattle.incoming.proofs.DecodedReply as DecodedReply·
 use Rattle.incoming.proofs.DecodedReply.Laws as DecodedReply·′
 use Rattle.time_types.proofs.NtpTimestamp as NtpTimestamp·
@@ -160,14 +159,14 @@ stayed = (stay-dropped (plain (λ _. Rec.the-row)) yes, (stay-dropped (plain (λ
 abbrev rec : Association → Val
 rec = LL.val Rec.the-type Rec′.the-laws
 
-abbrev ans : ReplyAnswer → Val
-ans = EL.val Ans.the-type Ans′.the-laws
+abbrev ans : Replied → Val
+ans = LL.val Ans.the-type Ans′.the-laws
 
 abbrev out : ReplyOut → Val
 out = LL.val Out.the-type Out′.the-laws
 
-made : (r : ReplyAnswer) (w : Association) → Is Ans.the-row r (ans r ∷ []) → Is Rec.the-row w (rec w ∷ []) → Is Out.the-row (record { answer = r; association = w }) (out (record { answer = r; association = w }) ∷ [])
-made r w is g = LL.owes Out.the-type Out′.the-laws (record { answer = r; association = w }) (is, (g, tt))
+made : (r : Replied) (w : Association) → Is Ans.the-row r (ans r ∷ []) → Is Rec.the-row w (rec w ∷ []) → Is Out.the-row (record { replied = r; association = w }) (out (record { replied = r; association = w }) ∷ [])
+made r w is g = LL.owes Out.the-type Out′.the-laws (record { replied = r; association = w }) (is, (g, tt))
 
 -- the contract that the proof cites
 abbrev Core : {M : Type 1} (𝓤 : URA M) (H : Heap 𝓤) (A : Atoms 𝓤) (at-mem : Memory → SProp 𝓤) (run : Routine → Fun 𝓤) → Contract 𝓤
@@ -184,11 +183,11 @@ module _ {M : Type 1} (𝓤 : URA M) (H : Heap 𝓤) (A : Atoms 𝓤) (W : Given
   abbrev Post : Val → SProp 𝓤
   Post = walkOf 𝓤 H A self.ended stayed (self.clauses 𝓤 H A at-mem run) .post (((κ1, tt), (q1, tt), tt, (h, z), (rec h ∷ [], zv)), tt)
 
-  exits : (r : ReplyAnswer) (w : Association) → Is Ans.the-row r (ans r ∷ []) → Is Rec.the-row w (rec w ∷ []) → (r ≡ replyDecodedOf h d (arrival (list .now) t1 t4 time) .answer) × (w ≡ replyDecodedOf h d (arrival (list .now) t1 t4 time) .association) → ent 𝓤 (⋆ 𝓤 H A ((‵ (flft κ1 q1) ⊛ ‵ ftrue) ∷ [])) (Post (out (record { answer = r; association = w })))
+  exits : (r : Replied) (w : Association) → Is Ans.the-row r (ans r ∷ []) → Is Rec.the-row w (rec w ∷ []) → (r ≡ replyDecodedOf h d (arrival (list .now) t1 t4 time) .replied) × (w ≡ replyDecodedOf h d (arrival (list .now) t1 t4 time) .association) → ent 𝓤 (⋆ 𝓤 H A ((‵ (flft κ1 q1) ⊛ ‵ ftrue) ∷ [])) (Post (out (record { replied = r; association = w })))
   exits r w is g e =
-      qed W ((‵ (flft κ1 q1) ⊛ ‵ ftrue) ∷ []) ∵ suffices ! _ (ends-at 𝓤 H A self.ended stayed (self.clauses 𝓤 H A at-mem run) W (((κ1, tt), (q1, tt), tt, (h, z), (rec h ∷ [], zv)), tt) (out (record { answer = r; association = w })) (record { answer = r; association = w }) (tt, (tt, (tt, (tt, (tt, (tt, tt)))))) (tt, (tt, (tt, (tt, (tt, (tt, tt))))))) $
-      says ! (λ i. record { answer = e .0 i; association = e .1 i }) $ frame ! $ nothing ! $ nothing ! $ fjoin ! $ nothing ! $ fjoin ! $ nothing ! $ fjoin ! $ nothing ! $ fjoin ! $ nothing ! $ fjoin ! $ nothing ! $ fjoin ! $
-      owned ! Out.the-row (Is Out.the-row) (LL.makes Out.the-type Out′.the-plain 𝓤 H A) (record { answer = r; association = w }) _ (made r w is g) $ move ! (1 ∷ 0 ∷ []) $ done !
+      qed W ((‵ (flft κ1 q1) ⊛ ‵ ftrue) ∷ []) ∵ suffices ! _ (ends-at 𝓤 H A self.ended stayed (self.clauses 𝓤 H A at-mem run) W (((κ1, tt), (q1, tt), tt, (h, z), (rec h ∷ [], zv)), tt) (out (record { replied = r; association = w })) (record { replied = r; association = w }) (tt, (tt, (tt, (tt, (tt, (tt, tt)))))) (tt, (tt, (tt, (tt, (tt, (tt, tt))))))) $
+      says ! (λ i. record { replied = e .0 i; association = e .1 i }) $ frame ! $ nothing ! $ nothing ! $ fjoin ! $ nothing ! $ fjoin ! $ nothing ! $ fjoin ! $ nothing ! $ fjoin ! $ nothing ! $ fjoin ! $ nothing ! $ fjoin ! $
+      owned ! Out.the-row (Is Out.the-row) (LL.makes Out.the-type Out′.the-plain 𝓤 H A) (record { replied = r; association = w }) _ (made r w is g) $ move ! (1 ∷ 0 ∷ []) $ done !
 
   -- the record, lent at l for the lifetime α under the name δ, and what the thin call is given of it and of the other arguments
   abbrev lent : ℕ → GName → RefT Association
@@ -205,28 +204,28 @@ module _ {M : Type 1} (𝓤 : URA M) (H : Heap 𝓤) (A : Atoms 𝓤) (W : Given
       qed W (‵ (flft (α ∷ []) fullShare) ∷ ‵ (MutRef (named 0) (α ∷ []) Rec.the-row .own (lent l δ) (vptr l 0 ∷ [])) ∷ (‵ (owns (DecodedReply·.the-row ∷ ShrSlice (named 0) κ1 u8 ∷ NtpTimestamp·.the-row ∷ NtpTimestamp·.the-row ∷ u64 ∷ []) z zv) ⊛ (‵ (flft κ1 q1) ⊛ ‵ ftrue)) ∷ []) ∵
       move ! (2 ∷ []) $ split ! $ move ! (3 ∷ 0 ∷ []) $ fjoin ! $ move ! (2 ∷ 1 ∷ []) $ join ! $ join ! $ frame ! $ done !
 
-  abbrev Ensured : ℕ → ℕ → GName → ReplyAnswer → SProp 𝓤
+  abbrev Ensured : ℕ → ℕ → GName → Replied → SProp 𝓤
   Ensured α l δ r = ensured 𝓤 H A core.ended (core.clauses 𝓤 H A at-mem run) (α ∷ [], (κ1, tt)) (lent l δ, z) tt r
 
   comes-back : (α l : ℕ) (δ : GName) (v : Val) → ent 𝓤 (Core 𝓤 H A at-mem run .post (to-core α l δ) v)
-      (mean 𝓤 H A (later (some (λ (r : ReplyAnswer). ((‵ (flft (α ∷ []) fullShare) ⊛ raw (mean 𝓤 H A (‵ (flft κ1 q1) ⊛ ‵ ftrue))) ⊛ ‵ (Ans.the-row .own r (v ∷ []))) ⊛ raw (Ensured α l δ r)))))
+      (mean 𝓤 H A (later (some (λ (r : Replied). ((‵ (flft (α ∷ []) fullShare) ⊛ raw (mean 𝓤 H A (‵ (flft κ1 q1) ⊛ ‵ ftrue))) ⊛ ‵ (Ans.the-row .own r (v ∷ []))) ⊛ raw (Ensured α l δ r)))))
   comes-back α l δ v = id⊢ 𝓤 _
 
-  said-of : (α l : ℕ) (δ : GName) (r : ReplyAnswer) → ent 𝓤 (Ensured α l δ r) (mean 𝓤 H A (some (λ (w : Association). given ((r ≡ replyDecodedOf h d (arrival (list .now) t1 t4 time) .answer) × (w ≡ replyDecodedOf h d (arrival (list .now) t1 t4 time) .association)) (‵ (fres δ (Rec.the-row .coded .code w))))))
+  said-of : (α l : ℕ) (δ : GName) (r : Replied) → ent 𝓤 (Ensured α l δ r) (mean 𝓤 H A (some (λ (w : Association). given ((r ≡ replyDecodedOf h d (arrival (list .now) t1 t4 time) .replied) × (w ≡ replyDecodedOf h d (arrival (list .now) t1 t4 time) .association)) (‵ (fres δ (Rec.the-row .coded .code w))))))
   said-of α l δ r =
-      qed W (raw (Ensured α l δ r) ∷ []) ∵ use1 W (some (λ (w : Association × (Unit {0} × (Unit {0} × (Unit {0} × (Unit {0} × (Unit {0} × Unit {0})))))). ‵ (lasts core.ended (α ∷ [], (κ1, tt)) (lent l δ, z) w) ⊛ raw (fact 𝓤 ((r ≡ replyDecodedOf h d (arrival (list .now) t1 t4 time) .answer) × ((w .0) ≡ replyDecodedOf h d (arrival (list .now) t1 t4 time) .association))))) (id⊢ 𝓤 _) $ pick ! (λ w. split ! $ move ! (1 ∷ []) $ heard ! ((r ≡ replyDecodedOf h d (arrival (list .now) t1 t4 time) .answer) × ((w .0) ≡ replyDecodedOf h d (arrival (list .now) t1 t4 time) .association)) (λ e. fsplit ! $ move ! (1 ∷ []) $ drop ! $
-      show ! (λ (w : Association). guard 𝓤 ((r ≡ replyDecodedOf h d (arrival (list .now) t1 t4 time) .answer) × (w ≡ replyDecodedOf h d (arrival (list .now) t1 t4 time) .association)) (mean 𝓤 H A (‵ (fres δ (Rec.the-row .coded .code w))))) (w .0) $ check ! e $ done !))
+      qed W (raw (Ensured α l δ r) ∷ []) ∵ use1 W (some (λ (w : Association × (Unit {0} × (Unit {0} × (Unit {0} × (Unit {0} × (Unit {0} × Unit {0})))))). ‵ (lasts core.ended (α ∷ [], (κ1, tt)) (lent l δ, z) w) ⊛ raw (fact 𝓤 ((r ≡ replyDecodedOf h d (arrival (list .now) t1 t4 time) .replied) × ((w .0) ≡ replyDecodedOf h d (arrival (list .now) t1 t4 time) .association))))) (id⊢ 𝓤 _) $ pick ! (λ w. split ! $ move ! (1 ∷ []) $ heard ! ((r ≡ replyDecodedOf h d (arrival (list .now) t1 t4 time) .replied) × ((w .0) ≡ replyDecodedOf h d (arrival (list .now) t1 t4 time) .association)) (λ e. fsplit ! $ move ! (1 ∷ []) $ drop ! $
+      show ! (λ (w : Association). guard 𝓤 ((r ≡ replyDecodedOf h d (arrival (list .now) t1 t4 time) .replied) × (w ≡ replyDecodedOf h d (arrival (list .now) t1 t4 time) .association)) (mean 𝓤 H A (‵ (fres δ (Rec.the-row .coded .code w))))) (w .0) $ check ! e $ done !))
 
   module _ (C : Calls 𝓤 H) (Λ : Loops 𝓤 H) (fm : FmC 𝓤 H (W .laws) C) (known : Triple 𝓤 (C #reply·reply-decoded) (Core 𝓤 H A at-mem run)) where
     walk-here : ent 𝓤 (onEntry 𝓤 H A self.signature (κ1, tt) (q1, tt) (h, z) (rec h ∷ [], zv)) (WpFn 𝓤 H C Λ code.function (rec h ∷ LL.val DecodedReply·.the-type DecodedReply·′.the-laws d ∷ sliceVal (list .ptr) (length (list .now)) ∷ LL.val NtpTimestamp·.the-type NtpTimestamp·′.the-laws t1 ∷ LL.val NtpTimestamp·.the-type NtpTimestamp·′.the-laws t4 ∷ vint w64 time ∷ []) Post)
     walk-here =
         qed W ((‵ (flft κ1 q1) ⊛ ‵ ftrue) ∷ ‵ (owns (Rec.the-row ∷ DecodedReply·.the-row ∷ ShrSlice (named 0) κ1 u8 ∷ NtpTimestamp·.the-row ∷ NtpTimestamp·.the-row ∷ u64 ∷ []) (h, z) (rec h ∷ [], zv)) ∷ []) ∵ move ! (1 ∷ []) $ fsplit ! $ drop ! $ join ! $
         by ! (walk Rec.the-row Ans.the-row rec ans (114 ∷ 101 ∷ 112 ∷ 108 ∷ 121 ∷ 58 ∷ 58 ∷ 82 ∷ 101 ∷ 112 ∷ 108 ∷ 121 ∷ 79 ∷ 117 ∷ 116 ∷ []) (tyNamed (97 ∷ 115 ∷ 115 ∷ 111 ∷ 99 ∷ 105 ∷ 97 ∷ 116 ∷ 105 ∷ 111 ∷ 110 ∷ 58 ∷ 58 ∷ 65 ∷ 115 ∷ 115 ∷ 111 ∷ 99 ∷ 105 ∷ 97 ∷ 116 ∷ 105 ∷ 111 ∷ 110 ∷ [], [])) Rec′.mir Ans′.mir DecodedReply·′.mir (tyStruct (38 ∷ 91 ∷ 93 ∷ []) (tcons (tyRef (named 0) imm (tyInt w8)) (tcons (tyInt w64) tnil))) NtpTimestamp·′.mir NtpTimestamp·′.mir (tyInt w64) refl
-        (LL.tells Rec.the-type Rec′.the-laws) (EL.tells Ans.the-type Ans′.the-laws)
-        (λ y g. LL.lawful Rec.the-type Rec′.the-laws 𝓤 H A W .typed y _ g .0) (λ y v g. EL.lawful Ans.the-type Ans′.the-laws 𝓤 H A W tt .typed y _ g .0) (λ r w is g. LL.lawful Out.the-type Out′.the-laws 𝓤 H A W .typed (record { answer = r; association = w }) _ (made r w is g) .0)
+        (LL.tells Rec.the-type Rec′.the-laws) (LL.tells Ans.the-type Ans′.the-laws)
+        (λ y g. LL.lawful Rec.the-type Rec′.the-laws 𝓤 H A W .typed y _ g .0) (λ y v g. LL.lawful Ans.the-type Ans′.the-laws 𝓤 H A W .typed y _ g .0) (λ r w is g. LL.lawful Out.the-type Out′.the-laws 𝓤 H A W .typed (record { replied = r; association = w }) _ (made r w is g) .0)
         𝓤 H A W (LL.makes Rec.the-type Rec′.the-plain 𝓤 H A) h (LL.val DecodedReply·.the-type DecodedReply·′.the-laws d) (sliceVal (list .ptr) (length (list .now))) (LL.val NtpTimestamp·.the-type NtpTimestamp·′.the-laws t1) (LL.val NtpTimestamp·.the-type NtpTimestamp·′.the-laws t4) (vint w64 time) h-is
         (LL.lawful DecodedReply·.the-type DecodedReply·′.the-laws 𝓤 H A W .typed d _ d-is .0) (shr-slice-lawful 𝓤 H A W (named 0) κ1 u8 .typed list _ list-is .0) (LL.lawful NtpTimestamp·.the-type NtpTimestamp·′.the-laws 𝓤 H A W .typed t1 _ t1-is .0) (LL.lawful NtpTimestamp·.the-type NtpTimestamp·′.the-laws 𝓤 H A W .typed t4 _ t4-is .0) (uint-lawful 𝓤 H A W w64 .typed time _ time-is .0)
-        Own (mean 𝓤 H A (‵ (flft κ1 q1) ⊛ ‵ ftrue)) (λ α l δ. Core 𝓤 H A at-mem run .pre (to-core α l δ)) (λ α l δ. Core 𝓤 H A at-mem run .post (to-core α l δ)) Post Ensured (λ r w. (r ≡ replyDecodedOf h d (arrival (list .now) t1 t4 time) .answer) × (w ≡ replyDecodedOf h d (arrival (list .now) t1 t4 time) .association)) goes-core comes-back said-of exits C Λ fm (λ α l δ. known (to-core α l δ)))
+        Own (mean 𝓤 H A (‵ (flft κ1 q1) ⊛ ‵ ftrue)) (λ α l δ. Core 𝓤 H A at-mem run .pre (to-core α l δ)) (λ α l δ. Core 𝓤 H A at-mem run .post (to-core α l δ)) Post Ensured (λ r w. (r ≡ replyDecodedOf h d (arrival (list .now) t1 t4 time) .replied) × (w ≡ replyDecodedOf h d (arrival (list .now) t1 t4 time) .association)) goes-core comes-back said-of exits C Λ fm (λ α l δ. known (to-core α l δ)))
 
 module _ {M : Type 1} (𝓤 : URA M) (H : Heap 𝓤) (A : Atoms 𝓤) (W : Given 𝓤 H A) (at-mem : Memory → SProp 𝓤) (run : Routine → Fun 𝓤) where
   walks : (C : Calls 𝓤 H) (Λ : Loops 𝓤 H) → FmC 𝓤 H (W .laws) C → Triple 𝓤 (C #reply·reply-decoded) (Core 𝓤 H A at-mem run) → Walks 𝓤 H A self.ended stayed (WpFn 𝓤 H C Λ code.function) (self.clauses 𝓤 H A at-mem run)
