@@ -168,11 +168,12 @@ struct reckonstile_state {
     uint8_t left;      /* as in the settings */
     uint8_t stratum;   /* the source's; 16 until a reply is measured */
     uint8_t denial;    /* 0 or 1: service was denied since */
-    uint8_t present;   /* 0 or 1: a request is pending. Where not, id, deadline and uid are zero */
+    uint8_t unanswered; /* polls since the last that was answered, 0 to 8: the zeros at the low end of reach. 8 when new */
     uint64_t id;       /* the pending request's 64 bits */
     uint64_t deadline; /* until when its reply is awaited */
     uint8_t uid[32];   /* its unique identifier; zero without NTS */
-    uint64_t answered; /* 0 or 1: a reply was measured since the last sent poll. Never 1 while a request is pending */
+    uint32_t answered; /* 0 or 1: a reply was measured since the last sent poll. Never 1 while a request is pending */
+    uint32_t present;  /* 0 or 1: a request is pending. Where not, id, deadline and uid are zero */
 };
 
 struct reckonstile_association {
@@ -259,8 +260,9 @@ RECKONSTILE_ASSERT(sizeof(size_t) == 8, "reckonstile: 64-bit targets only");
 RECKONSTILE_ASSERT(sizeof(struct reckonstile_settings) == 32 && offsetof(struct reckonstile_settings, left) == 28, "reckonstile: layout of settings");
 RECKONSTILE_ASSERT(sizeof(struct reckonstile_slot) == 726 && sizeof(struct reckonstile_stash) == 5824, "reckonstile: layout of the stash");
 RECKONSTILE_ASSERT(sizeof(struct reckonstile_state) == 72 && offsetof(struct reckonstile_state, version) == 8 &&
-                   offsetof(struct reckonstile_state, id) == 16 && offsetof(struct reckonstile_state, uid) == 32 &&
-                   offsetof(struct reckonstile_state, answered) == 64, "reckonstile: layout of the state");
+                   offsetof(struct reckonstile_state, unanswered) == 15 && offsetof(struct reckonstile_state, id) == 16 &&
+                   offsetof(struct reckonstile_state, uid) == 32 && offsetof(struct reckonstile_state, answered) == 64 &&
+                   offsetof(struct reckonstile_state, present) == 68, "reckonstile: layout of the state");
 RECKONSTILE_ASSERT(sizeof(struct reckonstile_association) == 5928 && offsetof(struct reckonstile_association, stash) == 32 &&
                    offsetof(struct reckonstile_association, state) == 5856, "reckonstile: layout of the record");
 RECKONSTILE_ASSERT(sizeof(struct reckonstile_uid) == 32, "reckonstile: layout of a uid");

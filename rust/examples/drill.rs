@@ -429,7 +429,7 @@ impl Drill {
             if state.present == 1 { format!("{:016x}/{}/{}", state.id, hex(&state.uid), state.deadline) } else { "-".into() };
         let lens: Vec<String> = stash.slots.iter().map(|slot| slot.len.to_string()).collect();
         format!(
-            "record reach={} tries={} version={version} last={} remote={} pending={pending} denial={} stratum={} refid={:08x} read={} held={} lens={} answered={}",
+            "record reach={} tries={} version={version} last={} remote={} pending={pending} denial={} stratum={} refid={:08x} read={} held={} lens={} answered={} unanswered={}",
             state.reach,
             state.tries,
             state.last,
@@ -440,7 +440,8 @@ impl Drill {
             stash.read,
             stash.held,
             lens.join(","),
-            if state.answered == 1 { "yes" } else { "no" }
+            if state.answered == 1 { "yes" } else { "no" },
+            state.unanswered
         )
     }
 
@@ -479,6 +480,7 @@ impl Drill {
             "uid" => r.state.uid = uid(value),
             "deadline" => r.state.deadline = number(value),
             "answered" => r.state.answered = number(value),
+            "unanswered" => r.state.unanswered = number(value),
             "slotbyte" => {
                 let parts: Vec<usize> = value.split('/').map(number).collect();
                 r.stash.slots[parts[0]].bytes[parts[1]] = parts[2] as u8;

@@ -1,7 +1,7 @@
 //! The association and its calls.
 use crate::answers::{
-    AcceptRefused, CollectRefused, Dropped, LoadRefused, Measurement, MeteredRefused, NewRefused, NtpLeapIndicator, Poll, ReplyRefused,
-    RequestRefused, SaveRefused, SendKind, TimerRefused,
+    AcceptRefused, CollectRefused, Dropped, LoadRefused, Measurement, MeteredRefused, NewRefused, NtpLeapIndicator, Poll,
+    ReplyRefused, RequestRefused, SaveRefused, SendKind, TimerRefused,
 };
 use crate::ffi::{self, Record};
 use crate::time::{NtpDuration, NtpInstant, NtpTimestamp, PollInterval, PollIntervalLimits};
@@ -563,6 +563,18 @@ impl Association {
     #[must_use]
     pub fn is_reachable(&self) -> bool {
         self.record.state.reach != 0
+    }
+
+    /// How many polls there were since the last that was answered, 0 to 8; a new association has 8.
+    ///
+    /// ```
+    /// # use reckonstile::*;
+    /// let (a, _) = Association::new(&Settings::default(), &[]).unwrap();
+    /// assert_eq!(a.unanswered_polls(), 8);
+    /// ```
+    #[must_use]
+    pub fn unanswered_polls(&self) -> u8 {
+        self.record.state.unanswered
     }
 
     /// The unique identifier of the pending request, where one is pending: what a V5 reply's fields are held to.

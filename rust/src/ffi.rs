@@ -77,8 +77,8 @@ pub struct State {
     pub stratum: u8,
     /// 1 where service was denied since the last measured reply.
     pub denial: u8,
-    /// 1 where a request is pending; where not, `id`, `deadline` and `uid` are zero.
-    pub present: u8,
+    /// Polls since the last that was answered, 0 to 8: the zeros at the low end of `reach`. A new association has 8.
+    pub unanswered: u8,
     /// The pending request's 64 bits.
     pub id: u64,
     /// Until when its reply is awaited.
@@ -86,7 +86,9 @@ pub struct State {
     /// Its unique identifier; zero without NTS.
     pub uid: [u8; 32],
     /// 1 where a reply was measured since the last sent poll, which is never so while a request is pending; else 0.
-    pub answered: u64,
+    pub answered: u32,
+    /// 1 where a request is pending; where not, `id`, `deadline` and `uid` are zero.
+    pub present: u32,
 }
 
 /// The record of an association as the library reads and writes it: numbers only. For looking at, and for tests; its layout is not a format to store:
@@ -117,11 +119,12 @@ impl Record {
             left: 0,
             stratum: 0,
             denial: 0,
-            present: 0,
+            unanswered: 0,
             id: 0,
             deadline: 0,
             uid: [0; 32],
             answered: 0,
+            present: 0,
         },
     };
 }
@@ -227,9 +230,11 @@ const _: () = {
     assert!(
         size_of::<State>() == 72
             && offset_of!(State, version) == 8
+            && offset_of!(State, unanswered) == 15
             && offset_of!(State, id) == 16
             && offset_of!(State, uid) == 32
             && offset_of!(State, answered) == 64
+            && offset_of!(State, present) == 68
     );
     assert!(
         size_of::<Record>() == 5928

@@ -27,8 +27,8 @@ mod time;
 mod tools;
 
 pub use answers::{
-    AcceptRefused, Action, CheckRefused, CollectRefused, Dropped, LoadRefused, Measurement, MeteredRefused, NewRefused, NtpLeapIndicator,
-    PlanRefused, Poll, ReplyRefused, RequestRefused, SalvageRefused, SaveRefused, SendKind, TimerRefused,
+    AcceptRefused, Action, CheckRefused, CollectRefused, Dropped, LoadRefused, Measurement, MeteredRefused, NewRefused,
+    NtpLeapIndicator, PlanRefused, Poll, ReplyRefused, RequestRefused, SalvageRefused, SaveRefused, SendKind, TimerRefused,
 };
 pub use association::{
     collect, cookie_list, layout, write_request, Association, Bloom, DecodedReply, Kisses, Packet, ProtocolVersion,

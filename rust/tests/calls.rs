@@ -2,7 +2,7 @@
 use reckonstile::{
     check_calendar, cookie_list, plan_calendar, salvage, Action, Association, Bloom, CheckRefused, Dropped, NewRefused,
     NtpInstant, NtpTimestamp, Packet, PlanRefused, PollInterval, ProtocolVersion, Record, ReferenceId, ReplyRefused,
-    RequestRefused, SalvageRefused, SendKind, Settings, TimerRefused, Times, COOKIE_BYTES, ENTRIES, REQUEST_BYTES,
+    RequestRefused, SalvageRefused, SendKind, Settings, TimerRefused, Times, COOKIE_BYTES, ENTRIES, FILE_BYTES, REQUEST_BYTES,
 };
 use std::time::{Duration, SystemTime, UNIX_EPOCH};
 
@@ -61,6 +61,31 @@ fn a_reply_without_a_live_request_says_why() {
     record.state.answered = 1;
     let mut broken = Association::from_record(record);
     assert_eq!(heard(&mut broken, 2, 6_000_000_000), Err(ReplyRefused::NotWhole));
+}
+
+#[test]
+fn the_unanswered_polls_are_counted_in_the_record() {
+    let (mut a, _) = Association::new(&Settings::default(), &[]).unwrap();
+    assert_eq!(a.unanswered_polls(), 8);
+    tick(&mut a, 0, 1).unwrap();
+    assert_eq!(a.unanswered_polls(), 8);
+    assert!(a.reply(&Packet::plain(&reply(1)), times(0)).is_ok());
+    assert_eq!(a.unanswered_polls(), 0);
+    for poll in 2..=9 {
+        tick(&mut a, 0, poll).unwrap();
+        assert_eq!(u64::from(a.unanswered_polls()), poll - 1);
+    }
+    // A number that disagrees with reach is none that a call has made.
+    let record = *a.record();
+    for unanswered in (0..=255).filter(|n| *n != 8) {
+        let mut broken = record;
+        broken.state.unanswered = unanswered;
+        assert_eq!(Association::from_record(broken).accept(17, &[], Bloom::NoFilter).unwrap_err().number(), 32);
+    }
+    // A hand-over file does not carry it: a load sets it from reach.
+    let mut file = [0; FILE_BYTES];
+    let length = a.save(&mut file).unwrap();
+    assert_eq!(Association::load(&file[..length]).unwrap().unanswered_polls(), 8);
 }
 
 #[test]

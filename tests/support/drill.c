@@ -332,7 +332,7 @@ static void show(void) {
         putchar('-');
     printf(" denial=%s stratum=%u refid=%08" PRIx32 " read=%zu held=%zu lens=", s->denial ? "yes" : "no", (unsigned)s->stratum, s->refid, a.stash.read, a.stash.held);
     for (int k = 0; k < 8; k++) printf("%s%u", k ? "," : "", (unsigned)a.stash.slots[k].len);
-    printf(" answered=%s\n", s->answered ? "yes" : "no");
+    printf(" answered=%s unanswered=%u\n", s->answered ? "yes" : "no", (unsigned)s->unanswered);
 }
 
 static void cookies(void) {
@@ -366,7 +366,8 @@ static void poke(void) {
     else if (!strcmp(key, "window")) a.settings.window = natural(value);
     else if (!strcmp(key, "id")) a.state.id = bits(value);
     else if (!strcmp(key, "deadline")) a.state.deadline = natural(value);
-    else if (!strcmp(key, "answered")) a.state.answered = natural(value);
+    else if (!strcmp(key, "answered")) a.state.answered = (uint32_t)natural(value);
+    else if (!strcmp(key, "unanswered")) a.state.unanswered = (uint8_t)natural(value);
     else if (!strcmp(key, "uid")) {
         memset(a.state.uid, 0, sizeof a.state.uid);
         bytes(value, a.state.uid);

@@ -31,6 +31,11 @@ static int codes_ok(const struct reckonstile_association *a) {
 static int settings_ok(const struct reckonstile_settings *s) {
     return 0 <= s->min && s->min <= s->max && s->max <= 17 && 1 <= s->startup && s->startup <= 8 && 1 <= s->window && s->window <= 60000000000;
 }
+static uint8_t unanswered_of(uint8_t reach) { /* the zeros at its low end */
+    uint8_t n = 0;
+    while (n < 8 && !(reach & 1u << n)) n++;
+    return n;
+}
 static int whole(const struct reckonstile_association *a) {
     const struct reckonstile_state *s = &a->state;
     if (!codes_ok(a) || !settings_ok(&a->settings) || a->stash.read >= 8 || a->stash.held > 8) return 0;
@@ -40,6 +45,7 @@ static int whole(const struct reckonstile_association *a) {
         if ((k >= a->stash.held && slot->len) || !zeros(slot->bytes + stored, RECKONSTILE_COOKIE_BYTES - stored)) return 0;
     }
     if (s->present ? s->answered != 0 : s->id || s->deadline || !zeros(s->uid, 32)) return 0;
+    if (s->unanswered != unanswered_of(s->reach)) return 0;
     return a->settings.nts || (!a->stash.read && !a->stash.held && zeros(s->uid, 32));
 }
 
@@ -110,6 +116,12 @@ static void make(void) {
         random_bytes(&uid, sizeof uid);
         number = reckonstile_timer(&lent.a, below(1000000), (int8_t)below(18), next(), uid, out.bytes, sizeof out.bytes).number;
         expect(whole(&lent.a) && number >= RECKONSTILE_SENT && number <= RECKONSTILE_COOKIE_SIZE, "timer on a whole record", number);
+    }
+    /* a reach by hand, with its unanswered polls, as a load gives it */
+    if (!below(4)) {
+        lent.a.state.reach = (uint8_t)next();
+        lent.a.state.unanswered = unanswered_of(lent.a.state.reach);
+        expect(whole(&lent.a), "a reach with its unanswered polls", lent.a.state.reach);
     }
     /* then bytes of it, more often where numbers are few */
     for (uint64_t k = below(4); k; k--) {
@@ -281,6 +293,8 @@ int main(int argc, char **argv) {
         n = t.number;
         expect(settings_kept() && (is_whole ? (n >= 20 && n <= 24) || n == 31 : n == 32) && (!is_whole || whole(&lent.a)), "timer", n);
         expect(n == 20 || n == 23 || n == 24 || kept(), "timer: a refusal changed the record", n);
+        uint8_t polled = before.state.unanswered < 8 ? (uint8_t)(before.state.unanswered + 1) : before.state.unanswered;
+        expect(lent.a.state.unanswered == (n == 20 || n == 23 || n == 24 ? polled : before.state.unanswered), "timer: the unanswered polls", n);
         expect((n == 20) == (t.kind != 0) && t.length <= RECKONSTILE_COOKIE_BYTES && (n == 20 || (!t.poll && !t.asked && !t.length)), "timer's answer", n);
         int untouched = 1;
         for (size_t i = t.length; i < sizeof out.bytes; i++) untouched &= out.bytes[i] == 0xAA;
@@ -295,6 +309,7 @@ int main(int argc, char **argv) {
         expect(settings_kept() && (is_whole ? reply_number(n) : n == 32) && (!is_whole || whole(&lent.a)), "reply", n);
         expect(reason_right(n, &before.state, time), "reply: why no request is live", n);
         expect(n == 0 || (n >= 5 && n <= 11) || kept(), "reply: a refusal changed the record", n);
+        expect(lent.a.state.unanswered == (n == 0 ? 0 : before.state.unanswered), "reply: the unanswered polls", n);
         expect(r.measured == (n == 0) && (n == 0 || (!r.delay && !r.offset && !r.local && !r.mono && !r.leap && !r.stratum && !r.precision && !r.rootdelay && !r.rootdisp)), "reply's answer", n);
         expect(dropped_right(n, before.settings.nts, &before.stash, list, list_len, r.dropped, r.lost), "reply: what the stash dropped", n);
 
@@ -318,6 +333,7 @@ int main(int argc, char **argv) {
         expect(settings_kept() && (is_whole ? reply_number(n) : n == 32) && (!is_whole || whole(&lent.a)), "reply_decoded", n);
         expect(reason_right(n, &before.state, time), "reply_decoded: why no request is live", n);
         expect(n == 0 || (n >= 5 && n <= 11) || kept(), "reply_decoded: a refusal changed the record", n);
+        expect(lent.a.state.unanswered == (n == 0 ? 0 : before.state.unanswered), "reply_decoded: the unanswered polls", n);
         expect(dropped_right(n, before.settings.nts, &before.stash, list, list_len, r.dropped, r.lost), "reply_decoded: what the stash dropped", n);
 
         /* a file that is written is read as the record, with nothing sent; a byte of it changed, or its end cut, is a number of its own and a record that is whole or blank */
@@ -335,8 +351,8 @@ int main(int argc, char **argv) {
             kept_of.stash.read = before.stash.read;
             expect(!memcmp(&lent.a, &kept_of, sizeof kept_of), "save: more than the stash changed", n);
             kept_of.stash = before.stash;
-            kept_of.state.present = 0;
-            kept_of.state.id = kept_of.state.deadline = kept_of.state.answered = 0;
+            kept_of.state.present = kept_of.state.answered = 0;
+            kept_of.state.id = kept_of.state.deadline = 0;
             memset(kept_of.state.uid, 0, sizeof kept_of.state.uid);
             n = reckonstile_load(&lent.a, file, w.length);
             expect(n == 0 && !memcmp(&lent.a, &kept_of, sizeof kept_of), "load of what was saved", n);

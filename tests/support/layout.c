@@ -46,6 +46,7 @@ int main(void) {
     b.state.version = RECKONSTILE_UPGRADING;
     b.state.left = 77;
     b.state.stratum = 16;
+    b.state.unanswered = 8;
     EXPECT(!memcmp(&a, &b, sizeof a));
 
     /* timer: effort, polls, the pending request, a cookie taken. The desired poll is the larger. While it upgrades with NTS it sends V5. */
@@ -102,7 +103,7 @@ int main(void) {
     EXPECT(reckonstile_reply(&a, packet, 48, 48, none, 0, none, 0, 0, 0, 6000).number == RECKONSTILE_NEVER_SENT && a.state.answered == 0);
     a.state.answered = 2;
     EXPECT(reckonstile_reply(&a, packet, 48, 48, none, 0, none, 0, 0, 0, 6000).number == RECKONSTILE_NOT_WHOLE && a.state.answered == 2);
-    a.state.answered = (uint64_t)1 << 32;
+    a.state.answered = (uint32_t)1 << 31;
     EXPECT(reckonstile_timer(&a, 6500, 0, 6, uid, none, 0).number == RECKONSTILE_NOT_WHOLE);
     a.state.answered = 1;
     EXPECT(reckonstile_timer(&a, 6500, 0, 6, uid, none, 0).number == RECKONSTILE_SENT && a.state.answered == 0);
@@ -110,6 +111,12 @@ int main(void) {
     a.state.answered = 1;
     EXPECT(reckonstile_reply(&a, packet, 48, 48, none, 0, none, 0, 0, 0, 11501).number == RECKONSTILE_NOT_WHOLE);
     a.state.answered = 0;
+    a.state.present = 2;
+    EXPECT(reckonstile_reply(&a, packet, 48, 48, none, 0, none, 0, 0, 0, 11501).number == RECKONSTILE_NOT_WHOLE && a.state.present == 2);
+    a.state.present = 1;
+
+    /* the unanswered polls: 0 once a reply was measured, one more for each poll sent */
+    EXPECT(a.state.reach == 2 && a.state.unanswered == 1);
 
     /* a denial is noted */
     t = reckonstile_timer(&a, 7000, 0, 5, uid, none, 0);
@@ -118,6 +125,7 @@ int main(void) {
     memcpy(packet + 12, "DENY", 4);
     packet[31] = 5;
     EXPECT(t.number == RECKONSTILE_SENT && reckonstile_reply(&a, packet, 48, 48, none, 0, none, 0, 0, 0, 7000).number == RECKONSTILE_DENIED && a.state.denial == 1);
+    EXPECT(a.state.reach == 4 && a.state.unanswered == 2);
 
     /* a decoded reply: each field in its place. V5 from the start, poll raised to the server's. */
     s.start = RECKONSTILE_V5;
@@ -190,6 +198,8 @@ int main(void) {
     s.source = 0xC0000201;
     EXPECT(reckonstile_new(&a, s, none, 0).number == RECKONSTILE_OK);
     a.state.reach = 1;
+    EXPECT(reckonstile_accept(&a, 16, local, 2, RECKONSTILE_BLOOM_NONE) == RECKONSTILE_NOT_WHOLE); /* the unanswered polls are still 8 */
+    a.state.unanswered = 0;
     EXPECT(reckonstile_accept(&a, 16, local, 2, RECKONSTILE_BLOOM_NONE) == RECKONSTILE_STRATUM);
     EXPECT(reckonstile_accept(&a, 17, local, 2, RECKONSTILE_BLOOM_NONE) == RECKONSTILE_LOOP);
     EXPECT(reckonstile_accept(&a, 17, local, 1, RECKONSTILE_BLOOM_NONE) == RECKONSTILE_OK);
@@ -197,7 +207,19 @@ int main(void) {
     EXPECT(reckonstile_accept(&a, 17, local, 0, RECKONSTILE_BLOOM_PRESENT) == RECKONSTILE_LOOP);
     EXPECT(reckonstile_accept(&a, 17, local, 0, 3) == RECKONSTILE_LOOP);
     a.state.reach = 0;
+    a.state.unanswered = 8;
     EXPECT(reckonstile_accept(&a, 17, local, 0, RECKONSTILE_BLOOM_NONE) == RECKONSTILE_UNREACHABLE);
+
+    /* each reach has one number of unanswered polls: the zeros at its low end, 8 where it is 0 */
+    for (unsigned reach = 0; reach < 256; reach++) {
+        unsigned zeros = 0;
+        while (zeros < 8 && !(reach >> zeros & 1)) zeros++;
+        a.state.reach = (uint8_t)reach;
+        for (unsigned k = 0; k <= 10; k++) {
+            a.state.unanswered = (uint8_t)(k < 10 ? k : 255);
+            EXPECT((reckonstile_accept(&a, 17, local, 0, RECKONSTILE_BLOOM_NONE) == RECKONSTILE_NOT_WHOLE) == (k != zeros));
+        }
+    }
 
     /* salvage: each field of the report in its place. A stray byte, two cookies, a head whose length does not fit, a cookie. */
     uint8_t damaged[] = { 7, 0xC0, 0x0E, 0, 3, 1, 2, 3, 0xC0, 0x0E, 0, 0, 0xC0, 0x0E, 9, 9, 0xC0, 0x0E, 0, 0 }, out[sizeof damaged];

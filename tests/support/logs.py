@@ -162,15 +162,19 @@ class Logs:
 
     def poke(self):
         rng = self.rng
-        key = rng.choice(('reach', 'tries', 'last', 'remote', 'stratum', 'refid', 'read', 'held', 'min', 'max', 'startup', 'window', 'id', 'uid', 'deadline', 'answered', 'slotbyte'))
+        key = rng.choice(('reach', 'tries', 'last', 'remote', 'stratum', 'refid', 'read', 'held', 'min', 'max', 'startup', 'window', 'id', 'uid', 'deadline', 'answered', 'unanswered', 'slotbyte'))
         value = {
             'reach': rng.randrange(256), 'tries': rng.choice((0, 1, 3, 254, 255)), 'last': rng.randint(-128, 127), 'remote': rng.choice((4, 127, -128, 6)),
             'stratum': rng.randrange(256), 'refid': '%08x' % rng.getrandbits(32), 'read': rng.choice((0, 1, 7, 8, MAX64)), 'held': rng.choice((0, 1, 8, 9, MAX64)),
             'min': rng.choice((4, -1, 0)), 'max': rng.choice((10, 17, 18)), 'startup': rng.choice((0, 3, 8, 9)), 'window': rng.choice((0, 1, 5 * 10**9, 60 * 10**9 + 1)),
-            'id': self.bytes(8).hex(), 'uid': self.bytes(32).hex(), 'deadline': rng.choice((0, self.now, MAX64)), 'answered': rng.randrange(2),
+            'id': self.bytes(8).hex(), 'uid': self.bytes(32).hex(), 'deadline': rng.choice((0, self.now, MAX64)), 'answered': rng.randrange(2), 'unanswered': rng.choice((0, 1, 2, 7, 8, 9, 255)),
             'slotbyte': '%d/%d/%d' % (rng.randrange(8), rng.randrange(724), rng.choice((0, 1, 255))),
         }[key]
         return 'poke key=%s value=%s' % (key, value)
+
+    def unanswered(self):
+        """behind a reach that was set by hand: the number that goes with it, so that the record is whole again"""
+        return 'poke key=unanswered value=%d' % self.model.unanswered(self.record.reach)
 
     def save(self):
         length = len(self.model.handover(self.record)) if self.record.whole() else 63
@@ -199,6 +203,8 @@ class Logs:
                                   + ((self.load,) if self.file else ()))()
                 if rng.random() < 0.02:
                     line = rng.choice((self.poke, self.poke, self.poke, lambda: 'blank'))()
+                elif self.record.unanswered != self.model.unanswered(self.record.reach) and rng.random() < 0.4:
+                    line = self.unanswered()
             left -= 1
             self.record, said = self.model.answer(self.record, line)
             if said.startswith('timer 20'):

@@ -49,7 +49,7 @@ loops stratum id refid local bloom = (isOurs stratum id local || servedByUs stra
 -- 40 if stratum ≥ local stratum; 41 for a loop; 42 if reach is 0
 abbrev pub acceptBy : Bool → Settings → State → Seen → ℕ → AcceptAnswer
 acceptBy loop g s v stratum =
-    cond (wholeSeen g v (s .request))
+    cond (wholeSeen g v s)
     (cond (leb stratum (s .source .stratum)) Stratum
     (cond loop Loop
     (cond (reachableOf (s .effort .reach)) Accepted Unreachable)))

@@ -108,8 +108,7 @@ pub fn accept_seen(
 ) -> AcceptAnswer
     ensures { λ r. ⌜ r ≡ acceptSeen settings state seen stratum (now (local .entry)) bloom ⌝ }
 {
-    let request = state.request;
-    if !association::whole_seen(settings, seen, request) {
+    if !association::whole_seen(settings, seen, state) {
         return AcceptAnswer::NotWhole;
     }
     let source = state.source;

@@ -8,7 +8,7 @@ use lib.IntN.{pos}
 use lib.ListN.{replicate}
 use Rattle.words.specs.Bytes.{zeros}
 use Rattle.identifiers.specs.Names.{named, xnon}
-use Rattle.reach.specs.Register.{neverOf}
+use Rattle.reach.specs.Register.{neverOf, unansweredOf}
 use Rattle.cookiestash.specs.declared.CookieStash.{CookieStash}
 use Rattle.cookiestash.specs.declared.Seen.{Seen}
 use Rattle.cookiestash.specs.Stash.{newOf}
@@ -17,6 +17,7 @@ use Rattle.version.specs.declared.ProtocolVersion.the-variants.{V4}
 use Rattle.version.specs.Upgrade.{version}
 use Rattle.time_types.specs.Poll.{interval}
 use Rattle.association.specs.declared.Settings.{Settings}
+use Rattle.association.specs.declared.Effort.{Effort}
 use Rattle.association.specs.declared.Pending.{Pending}
 use Rattle.association.specs.declared.State.{State}
 use Rattle.association.specs.declared.Association.{Association}
@@ -44,7 +45,7 @@ blankOf =
       stash = newOf;
       state =
           record {
-            effort = record { reach = neverOf; tries = 0 };
+            effort = record { reach = neverOf; tries = 0; unanswered = 0 };
             version = version V4;
             polls = record { last = interval (pos 0); remote = interval (pos 0) };
             source = record { stratum = 0; refid = named 0; denial = false };
@@ -52,7 +53,7 @@ blankOf =
           };
     }
 
--- a new association has reach 0, tries 0, stratum 16, reference identifier XNON, both poll values at min, nothing pending, no reply measured, no denial noted
+-- a new association has reach 0, tries 0, 8 unanswered polls (RULES, No. 8), stratum 16, reference identifier XNON, both poll values at min, nothing pending, no reply measured, no denial noted
 unfoldable pub freshOf : Settings → Association
 freshOf s =
     record {
@@ -60,7 +61,7 @@ freshOf s =
       stash = newOf;
       state =
           record {
-            effort = record { reach = neverOf; tries = 0 };
+            effort = record { reach = neverOf; tries = 0; unanswered = 8 };
             version = s .start;
             polls = record { last = s .min; remote = s .min };
             source = record { stratum = 16; refid = named xnon; denial = false };
@@ -75,6 +76,10 @@ withStash a s = record { settings = a .settings; stash = s; state = a .state }
 abbrev pub withState : Association → State → Association
 withState a s = record { settings = a .settings; stash = a .stash; state = s }
 
+-- the unanswered polls are those of reach, the trailing zeros (RULES, No. 8)
+unfoldable pub effortValid : Effort → Bool
+effortValid e = eqb (e .unanswered) (unansweredOf (e .reach))
+
 -- beside a pending request no reply has been measured (RULES, No. 3); absent things are zero
 unfoldable pub pendingValid : Pending → Bool
 pendingValid r = cond (r .present) (not (r .answered)) (eqb (r .id) 0 && (eqb (r .deadline) 0 && zeros (r .uid)))
@@ -83,10 +88,15 @@ pendingValid r = cond (r .present) (not (r .answered)) (eqb (r .id) 0 && (eqb (r
 unfoldable pub idleValid : Bool → ℕ → ℕ → List ℕ → Bool
 idleValid nts read held uid = nts || (eqb read 0 && (eqb held 0 && zeros uid))
 
--- a record is whole if its settings hold, its stash is whole (read < 8, held ≤ 8, free slots have length 0, bytes past a slot's stored bytes are zero), a pending request is unanswered,
--- absent things are zero, and without NTS read, held and uid are zero
-unfoldable pub wholeSeen : Settings → Seen → Pending → Bool
-wholeSeen s v q = settingsValid s && (v .whole && (pendingValid q && idleValid (s .nts) (v .read) (v .held) (q .uid)))
+-- a record is whole if its settings hold, its stash is whole (read < 8, held ≤ 8, free slots have length 0, bytes past a slot's stored bytes are zero), its unanswered polls are those of reach,
+-- a pending request is unanswered, absent things are zero, and without NTS read, held and uid are zero
+unfoldable pub wholeSeen : Settings → Seen → State → Bool
+wholeSeen s v q =
+    settingsValid s
+    && (v .whole
+    && (effortValid (q .effort)
+    && (pendingValid (q .request)
+    && idleValid (s .nts) (v .read) (v .held) (q .request .uid))))
 
 unfoldable pub wholeOf : Association → Bool
-wholeOf a = wholeSeen (a .settings) (seenOf 8 (a .stash)) (a .state .request)
+wholeOf a = wholeSeen (a .settings) (seenOf 8 (a .stash)) (a .state)

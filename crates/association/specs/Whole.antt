@@ -2,6 +2,7 @@
 -- Assumes nothing.
 use mathlib.Core.Path.{_≡_}
 use mathlib.Core.Bool.{true}
+use Rattle.reach.specs.Register.{unansweredOf}
 use Rattle.cookiestash.specs.Whole as stash
 use Rattle.association.specs.declared.Association.{Association}
 use Rattle.association.specs.Settings.{settingsValid}
@@ -10,5 +11,6 @@ use Rattle.association.specs.Record.{pendingValid, idleValid}
 pub record Whole (a : Association) : Type 0 where
   pub settings : settingsValid (a .settings) ≡ true
   pub stash : stash.Whole 8 (a .stash)
+  pub counted : a .state .effort .unanswered ≡ unansweredOf (a .state .effort .reach)
   pub request : pendingValid (a .state .request) ≡ true
   pub idle : idleValid (a .settings .nts) (a .stash .read) (a .stash .held) (a .state .request .uid) ≡ true

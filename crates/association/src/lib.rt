@@ -12,7 +12,7 @@ use version::ProtocolVersion;
 use version::Version;
 ghost use mathlib.Core.Path.{_≡_};
 ghost use Rattle.association.specs.Settings.{within, limitsValid, settingsValid};
-ghost use Rattle.association.specs.Record.{noPending, pendingValid, idleValid, wholeSeen, wholeOf, blankOf, freshOf};
+ghost use Rattle.association.specs.Record.{noPending, effortValid, pendingValid, idleValid, wholeSeen, wholeOf, blankOf, freshOf};
 ghost use Rattle.association.specs.New.{numberOf, newOf};
 
 // The largest poll exponent that a limit may be.
@@ -38,10 +38,11 @@ pub struct Settings {
 }
 
 // How the polls went: the reach register, and how many were sent.
-#[repr(C)]
 pub struct Effort {
     pub reach: Reach,
     pub tries: u8,
+    // How many of the last eight polls were sent since the newest answer: what the register tells, kept beside it, so that no call has to count bits.
+    pub unanswered: u8,
 }
 
 // The poll exponent last used, and the least that the source asks for.
@@ -119,6 +120,16 @@ impl Settings {
     }
 }
 
+impl Effort {
+    // Whether the unanswered polls are those that the register tells.
+    pub fn valid(self) -> bool
+        ensures { λ r. ⌜ r ≡ effortValid self ⌝ }
+    {
+        let reach = self.reach;
+        self.unanswered == reach.unanswered_polls()
+    }
+}
+
 impl Pending {
     // No request is pending, since one was answered or since none was sent.
     pub fn none(answered: bool) -> Pending
@@ -167,9 +178,9 @@ fn idle_valid(nts: bool, read: usize, held: usize, uid: [u8; 32]) -> bool
     words::zeros_from(&uid, 0)
 }
 
-// Whether a record is whole, of its settings, of what is seen of its stash, and of its pending request.
-pub fn whole_seen(settings: Settings, seen: Seen, request: Pending) -> bool
-    ensures { λ r. ⌜ r ≡ wholeSeen settings seen request ⌝ }
+// Whether a record is whole, of its settings, of what is seen of its stash, and of its state.
+pub fn whole_seen(settings: Settings, seen: Seen, state: State) -> bool
+    ensures { λ r. ⌜ r ≡ wholeSeen settings seen state ⌝ }
 {
     if !settings.valid() {
         return false;
@@ -177,6 +188,11 @@ pub fn whole_seen(settings: Settings, seen: Seen, request: Pending) -> bool
     if !seen.whole {
         return false;
     }
+    let effort = state.effort;
+    if !effort.valid() {
+        return false;
+    }
+    let request = state.request;
     if !request.valid() {
         return false;
     }
@@ -211,6 +227,7 @@ impl Association {
                 effort: Effort {
                     reach: Reach(0),
                     tries: 0,
+                    unanswered: 0,
                 },
                 version,
                 polls: Polls {
@@ -234,8 +251,7 @@ impl Association {
         let settings = self.settings;
         let stash = self.stash;
         let state = self.state;
-        let request = state.request;
-        whole_seen(settings, stash.seen(CAPACITY), request)
+        whole_seen(settings, stash.seen(CAPACITY), state)
     }
 
     // A new association with its settings, before it has a cookie.
@@ -253,6 +269,7 @@ impl Association {
                 effort: Effort {
                     reach: Reach::never(),
                     tries: 0,
+                    unanswered: 8,
                 },
                 version,
                 polls: Polls {

@@ -39,35 +39,37 @@ mod field {
 
     pub const TRIES: usize = 1;
 
-    pub const STRATUM: usize = 2;
+    pub const UNANSWERED: usize = 2;
 
-    pub const REFID: usize = 3;
+    pub const STRATUM: usize = 3;
 
-    pub const LAST: usize = 4;
+    pub const REFID: usize = 4;
 
-    pub const REMOTE: usize = 5;
+    pub const LAST: usize = 5;
 
-    pub const ID: usize = 6;
+    pub const REMOTE: usize = 6;
 
-    pub const DEADLINE: usize = 7;
+    pub const ID: usize = 7;
 
-    pub const UID: usize = 8;
+    pub const DEADLINE: usize = 8;
 
-    pub const ANSWERED: usize = 9;
+    pub const UID: usize = 9;
 
-    pub const READ: usize = 10;
+    pub const ANSWERED: usize = 10;
 
-    pub const HELD: usize = 11;
+    pub const READ: usize = 11;
 
-    pub const SLOTBYTE: usize = 12;
+    pub const HELD: usize = 12;
 
-    pub const MIN: usize = 13;
+    pub const SLOTBYTE: usize = 13;
 
-    pub const MAX: usize = 14;
+    pub const MIN: usize = 14;
 
-    pub const STARTUP: usize = 15;
+    pub const MAX: usize = 15;
 
-    pub const WINDOW: usize = 16;
+    pub const STARTUP: usize = 16;
+
+    pub const WINDOW: usize = 17;
 }
 
 fn put_version(out: &mut [u8], at: usize, version: Version) -> usize {
@@ -162,6 +164,14 @@ fn put_answers(out: &mut [u8], at: usize, state: State) -> usize {
     put_source(out, at, source)
 }
 
+// Whether a reply was measured since the last sent poll, and how many polls were sent since the newest answer.
+fn put_since(out: &mut [u8], at: usize, state: State) -> usize {
+    let request = state.request;
+    let at = put_answered(out, at, request.answered);
+    let effort = state.effort;
+    print::number(out, at, b" unanswered=", effort.unanswered as u64)
+}
+
 pub fn show(a: Association, line: &[u8], number: u64, out: &mut [u8]) -> Ran {
     let v = keys::read(line, number, b"", out);
     if v.refused {
@@ -175,8 +185,7 @@ pub fn show(a: Association, line: &[u8], number: u64, out: &mut [u8]) -> Ran {
     let at = put_answers(out, at, state);
     let stash = a.stash;
     let at = put_stash(out, at, stash);
-    let request = state.request;
-    let end = put_answered(out, at, request.answered);
+    let end = put_since(out, at, state);
     Ran {
         association: a,
         end,
@@ -263,6 +272,9 @@ fn poke_state(state: State, key: usize, n: u64) -> State {
         }
         field::TRIES => {
             effort.tries = small;
+        }
+        field::UNANSWERED => {
+            effort.unanswered = small;
         }
         field::STRATUM => {
             source.stratum = small;
@@ -437,8 +449,8 @@ fn poke_by(
     Ran { association, end }
 }
 
-// The keys of poke: reach, tries, stratum and startup are unsigned 8-bit numbers, refid is 8 hexadecimal digits, last, remote, min and
-// max are signed 8-bit numbers, deadline, read, held and window unsigned 64-bit ones, id 16 digits, uid 32 bytes, answered 0 or 1, slotbyte a byte of a slot.
+// The keys of poke: reach, tries, unanswered, stratum and startup are unsigned 8-bit numbers, refid is 8 hexadecimal digits, last, remote, min
+// and max are signed 8-bit numbers, deadline, read, held and window unsigned 64-bit ones, id 16 digits, uid 32 bytes, answered 0 or 1, slotbyte a byte of a slot.
 pub fn poke(a: Association, line: &[u8], number: u64, out: &mut [u8]) -> Ran {
     let v = keys::read(line, number, b"key:t value:t", out);
     if v.refused {
@@ -451,7 +463,7 @@ pub fn poke(a: Association, line: &[u8], number: u64, out: &mut [u8]) -> Ran {
         a,
         v.text(poke_key::KEY, line),
         v.text(poke_key::VALUE, line),
-        b"reach:u tries:u stratum:u refid:f last:b remote:b id:x deadline:n uid:i answered:a read:n held:n slotbyte:p min:b max:b startup:u window:n",
+        b"reach:u tries:u unanswered:u stratum:u refid:f last:b remote:b id:x deadline:n uid:i answered:a read:n held:n slotbyte:p min:b max:b startup:u window:n",
         number,
         out,
     )

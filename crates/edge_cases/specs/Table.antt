@@ -70,7 +70,7 @@ askedBy NotWhole = 0
 
 -- a timer with NTS that tries a poll, and takes the oldest cookie
 pub record Taking (g : Settings) (s : State) (v : Seen) (room gap length : ℕ) : Type 0 where
-  pub whole : wholeSeen g v (s .request) ≡ true
+  pub whole : wholeSeen g v s ≡ true
   pub roomy : shortBuffer g room ≡ false
   pub going : startupOver g s ≡ false
   pub nts : g .nts ≡ true

@@ -149,18 +149,20 @@ cstate-back c e =
     let request = right-true (isBit (c .denial)) _ bits in
     let name = name-back (c .version) (c .left) (left-true kind _ e) in
     λ i. record {
-      effort = c .effort;
+      reach = c .reach;
+      tries = c .tries;
       polls = c .polls;
       refid = c .refid;
       version = name .0 i;
       left = name .1 i;
       stratum = c .stratum;
       denial = bit-back (c .denial) (left-true _ (isBit (c .present) && isBit (c .answered)) bits) i;
-      present = bit-back (c .present) (left-true _ (isBit (c .answered)) request) i;
+      unanswered = c .unanswered;
       id = c .id;
       deadline = c .deadline;
       uid = c .uid;
       answered = bit-back (c .answered) (right-true (isBit (c .present)) _ request) i;
+      present = bit-back (c .present) (left-true _ (isBit (c .answered)) request) i;
     }
 
 -- what the test of both groups, unpacked, says of the record

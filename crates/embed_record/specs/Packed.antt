@@ -55,7 +55,7 @@ stateOk c = isKind (c .version) (c .left) && (isBit (c .denial) && (isBit (c .pr
 unfoldable pub stateIn : CState → State
 stateIn c =
     record {
-      effort = c .effort;
+      effort = record { reach = c .reach; tries = c .tries; unanswered = c .unanswered };
       version = versionIn (c .version) (c .left);
       polls = c .polls;
       source = record { stratum = c .stratum; refid = c .refid; denial = truth (c .denial) };
@@ -68,18 +68,20 @@ unpackState c = record { ok = stateOk c; state = stateIn c }
 unfoldable pub packState : State → CState
 packState s =
     record {
-      effort = s .effort;
+      reach = s .effort .reach;
+      tries = s .effort .tries;
       polls = s .polls;
       refid = s .source .refid;
       version = kindOut (s .version .kind);
       left = leftOut (s .version .kind);
       stratum = s .source .stratum;
       denial = bitOf (s .source .denial);
-      present = bitOf (s .request .present);
+      unanswered = s .effort .unanswered;
       id = s .request .id;
       deadline = s .request .deadline;
       uid = s .request .uid;
       answered = bitOf (s .request .answered);
+      present = bitOf (s .request .present);
     }
 
 -- ---- the record

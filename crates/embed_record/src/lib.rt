@@ -10,6 +10,7 @@ use association::Source;
 use association::State;
 use cookiestash::CookieStash;
 use identifiers::ReferenceId;
+use reach::Reach;
 use time_types::PollInterval;
 use version::ProtocolVersion;
 use version::Version;
@@ -38,7 +39,8 @@ pub struct CSettings {
 // No padding in it either.
 #[repr(C)]
 pub struct CState {
-    pub effort: Effort,
+    pub reach: Reach,
+    pub tries: u8,
     pub polls: Polls,
     pub refid: ReferenceId,
     // The version and the tries left, as in the settings.
@@ -47,13 +49,15 @@ pub struct CState {
     pub stratum: u8,
     // 0 or 1.
     pub denial: u8,
-    // 0 or 1.
-    pub present: u8,
+    // How many of the last eight polls were sent since the newest answer.
+    pub unanswered: u8,
     pub id: u64,
     pub deadline: u64,
     pub uid: [u8; 32],
-    // 0 or 1: whether a reply has been measured since the last sent poll. Eight bytes, since all else is at a multiple of eight.
-    pub answered: u64,
+    // 0 or 1: whether a reply has been measured since the last sent poll.
+    pub answered: u32,
+    // 0 or 1: whether a request is pending.
+    pub present: u32,
 }
 
 #[repr(C)]
@@ -146,6 +150,25 @@ fn bit(b: bool) -> u8
     if b { 1 } else { 0 }
 }
 
+// The same of a number of 32 bits, as behind the identifiers of the pending request.
+fn is_wide_bit(n: u32) -> bool
+    ensures { λ r. ⌜ r ≡ isBit n ⌝ }
+{
+    n <= 1
+}
+
+fn wide_truth(n: u32) -> bool
+    ensures { λ r. ⌜ r ≡ truth n ⌝ }
+{
+    n == 1
+}
+
+fn wide_bit(b: bool) -> u32
+    ensures { λ r. ⌜ r ≡ bitOf b ⌝ }
+{
+    if b { 1 } else { 0 }
+}
+
 // ---- settings and state
 
 // What is unpacked, and whether every code of it is of a kind.
@@ -212,8 +235,8 @@ fn state_ok(c: CState) -> bool
 {
     let kind = is_kind(c.version, c.left);
     let denial = is_bit(c.denial as u64);
-    let present = is_bit(c.present as u64);
-    let answered = is_bit(c.answered);
+    let present = is_wide_bit(c.present);
+    let answered = is_wide_bit(c.answered);
     let request = both(present, answered);
     let bits = both(denial, request);
     both(kind, bits)
@@ -223,14 +246,19 @@ pub fn unpack_state(c: CState) -> UnpackedState
     ensures { λ r. ⌜ r ≡ unpackState c ⌝ }
 {
     let ok = state_ok(c);
-    let effort = c.effort;
+    let reach = c.reach;
     let polls = c.polls;
     let refid = c.refid;
     let uid = c.uid;
     let version = version_in(c.version, c.left);
     let denial = truth(c.denial as u64);
-    let present = truth(c.present as u64);
-    let answered = truth(c.answered);
+    let present = wide_truth(c.present);
+    let answered = wide_truth(c.answered);
+    let effort = Effort {
+        reach,
+        tries: c.tries,
+        unanswered: c.unanswered,
+    };
     let source = Source {
         stratum: c.stratum,
         refid,
@@ -257,6 +285,7 @@ pub fn pack_state(s: State) -> CState
     ensures { λ r. ⌜ r ≡ packState s ⌝ }
 {
     let effort = s.effort;
+    let reach = effort.reach;
     let kind = s.version;
     let polls = s.polls;
     let source = s.source;
@@ -266,21 +295,23 @@ pub fn pack_state(s: State) -> CState
     let version = kind_out(kind);
     let left = left_out(kind);
     let denial = bit(source.denial);
-    let present = bit(request.present);
-    let answered = bit(request.answered);
+    let present = wide_bit(request.present);
+    let answered = wide_bit(request.answered);
     CState {
-        effort,
+        reach,
+        tries: effort.tries,
         polls,
         refid,
         version,
         left,
         stratum: source.stratum,
         denial,
-        present,
+        unanswered: effort.unanswered,
         id: request.id,
         deadline: request.deadline,
         uid,
-        answered: answered as u64,
+        answered,
+        present,
     }
 }
 

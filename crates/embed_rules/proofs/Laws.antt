@@ -78,7 +78,7 @@ module _ (g : CSettings) (s : CState) (v : Seen) (e : (settingsOk g && stateOk s
   accepts stratum local bloom = rw e
 
   -- the verdict on what cannot be decoded: the state as it was
-  unread : (b : Bool) (t : Arrival) → wholeSeen (settingsIn g) v (stateIn s .request) ≡ b → verdictOf (settingsIn g) (stateIn s) v Undecodable t ≡ leaves (cond b R.Undecodable R.NotWhole) (stateIn s)
+  unread : (b : Bool) (t : Arrival) → wholeSeen (settingsIn g) v (stateIn s) ≡ b → verdictOf (settingsIn g) (stateIn s) v Undecodable t ≡ leaves (cond b R.Undecodable R.NotWhole) (stateIn s)
   unfolding verdictOf
   unread true t w = rw w
   unread false t w = rw w
@@ -87,7 +87,7 @@ module _ (g : CSettings) (s : CState) (v : Seen) (e : (settingsOk g && stateOk s
   as-it-was true = λ i. record { answer = unmeasured 1; state = cstate-back s (right-true (settingsOk g) _ e) i; stores = false }
   as-it-was false = λ i. record { answer = unmeasured 32; state = cstate-back s (right-true (settingsOk g) _ e) i; stores = false }
 
-  pub undecoded : (b : Bool) (t : Arrival) → wholeSeen (settingsIn g) v (stateIn s .request) ≡ b → judgeOf g s v Undecodable t ≡ record { answer = unmeasured (cond b 1 32); state = s; stores = false }
+  pub undecoded : (b : Bool) (t : Arrival) → wholeSeen (settingsIn g) v (stateIn s) ≡ b → judgeOf g s v Undecodable t ≡ record { answer = unmeasured (cond b 1 32); state = s; stores = false }
   undecoded b t w = judges Undecodable t ∙ (ap verdictOut (unread b t w) ∙ as-it-was b)
 
 -- ---- a decoded reply

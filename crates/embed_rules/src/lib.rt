@@ -488,8 +488,7 @@ pub fn judge_decoded(
     let inner = g.settings;
     let old = s.state;
     if !decoded_ok(d) {
-        let request = old.request;
-        let whole = association::whole_seen(inner, seen, request);
+        let whole = association::whole_seen(inner, seen, old);
         let answer = undecodable(whole);
         return CVerdict {
             answer,

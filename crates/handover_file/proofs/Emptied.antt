@@ -32,6 +32,7 @@ emptied-whole a w =
     record {
       settings = w .settings;
       stash = empty-at-whole (a .stash .read) (w .stash .reads);
+      counted = w .counted;
       request = w .request;
       idle = idle-emptied (a .settings .nts) (a .stash .read) (a .stash .held) (a .state .request .uid) (w .idle);
     }

@@ -53,6 +53,7 @@ unsent-whole a w =
     record {
       settings = w .settings;
       stash = w .stash;
+      counted = w .counted;
       request = none-valid;
       idle = idle-unsent (a .settings .nts) (a .stash .read) (a .stash .held) (a .state .request .uid) (w .idle);
     }
@@ -115,7 +116,7 @@ module _ (a : Association) (w : Whole a) (f : Fit a) where
   record-back =
       let se = settings-back (a .settings) (f .settings) in
       let st = stash-back (a .stash) (w .stash) (f .eight) in
-      let re = effort-back (a .state .effort) in
+      let re = effort-back (a .state .effort) (w .counted) in
       let ve = version-back (a .state .version) in
       let po = polls-back (a .state .polls) (f .polls) in
       let so = source-back (a .state .source) (f .refid) in

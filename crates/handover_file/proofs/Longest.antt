@@ -1,6 +1,6 @@
 -- One whole record has a file of 5,871 bytes: eight cookies that fill their slots.
 -- Assumes nothing.
-use mathlib.Core.Path.{_≡_, refl}
+use mathlib.Core.Path.{_≡_, refl, sym}
 use mathlib.Core.Bool.{true}
 use mathlib.Core.List.{[]}
 use native.Mathlib.Omega.{arith}
@@ -10,6 +10,7 @@ use Rattle.identifiers.specs.Names.{named}
 use Rattle.time_types.specs.Poll.{interval}
 use Rattle.version.specs.declared.ProtocolVersion.the-variants.{V4}
 use Rattle.version.specs.Upgrade.{version}
+use Rattle.reach.proofs.Unanswered.{never-unanswered}
 use Rattle.cookiestash.specs.declared.Slot.{Slot}
 use Rattle.cookiestash.specs.declared.CookieStash.{CookieStash}
 use Rattle.cookiestash.specs.Stash.{stored, wrap}
@@ -66,7 +67,7 @@ stash-whole =
 
 longest-whole : Whole longest
 unfolding longest full-stash freshOf nts-settings settingsValid idleValid
-longest-whole = record { settings = refl; stash = stash-whole; request = none-valid; idle = refl }
+longest-whole = record { settings = refl; stash = stash-whole; counted = sym never-unanswered; request = none-valid; idle = refl }
 
 all-filled : AllFill (cookies 8 (longest .stash))
 unfolding longest full-stash full-slot cookies queue seen stored wrap

@@ -12,6 +12,7 @@ use mir.Val.{SFits}
 use Rattle.words.specs.Bytes.{part}
 use Rattle.words.proofs.Bytes.{Bytes, part-drop}
 use Rattle.words.proofs.Readings.{signed-unsigned, unsigned-signed}
+use Rattle.reach.specs.Register.{unansweredOf}
 use Rattle.version.specs.declared.Version.{Version}
 use Rattle.association.specs.declared.Effort.{Effort}
 use Rattle.association.specs.declared.Polls.{Polls}
@@ -32,9 +33,14 @@ two b n =
 
 -- ---- effort
 
-pub effort-back : (e : Effort) → effortOf (effortBytes e) ≡ e
+-- whatever the bytes are, the unanswered polls are those of reach; so they are read back where they were
+pub effort-counted : (b : List ℕ) → effortOf b .unanswered ≡ unansweredOf (effortOf b .reach)
+unfolding effortOf
+effort-counted b = refl
+
+pub effort-back : (e : Effort) → e .unanswered ≡ unansweredOf (e .reach) → effortOf (effortBytes e) ≡ e
 unfolding effortOf effortBytes
-effort-back e = refl
+effort-back e h = λ i. record { reach = e .reach; tries = e .tries; unanswered = sym h i }
 
 pub effort-long : (e : Effort) → length (effortBytes e) ≡ 2
 unfolding effortBytes

@@ -10,6 +10,7 @@ use Rattle.identifiers.specs.Names.{named}
 use Rattle.time_types.specs.Poll.{interval}
 use Rattle.version.specs.declared.Version.{Version}
 use Rattle.version.specs.Upgrade.{version}
+use Rattle.reach.specs.Register.{unansweredOf}
 use Rattle.association.specs.declared.Effort.{Effort}
 use Rattle.association.specs.declared.Polls.{Polls}
 use Rattle.association.specs.declared.Source.{Source}
@@ -20,8 +21,9 @@ use Rattle.handover_groups.specs.Codes.{yesCode, yesOf, yesKnown, kindCo
 unfoldable pub effortBytes : Effort → List ℕ
 effortBytes e = e .reach .0 ∷ e .tries ∷ []
 
+-- the unanswered polls are not written: a load sets them from reach (No. 8)
 unfoldable pub effortOf : List ℕ → Effort
-effortOf b = record { reach = record { 0 = getD b 0 0 }; tries = getD b 1 0 }
+effortOf b = record { reach = record { 0 = getD b 0 0 }; tries = getD b 1 0; unanswered = unansweredOf (record { 0 = getD b 0 0 }) }
 
 -- ---- version: kind 1, tries 1
 

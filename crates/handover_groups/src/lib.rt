@@ -174,7 +174,12 @@ pub fn effort_of(b: &[u8]) -> Effort
 {
     let reach = Reach(byte_at(b, 0));
     let tries = byte_at(b, 1);
-    Effort { reach, tries }
+    let unanswered = reach.unanswered_polls();
+    Effort {
+        reach,
+        tries,
+        unanswered,
+    }
 }
 
 pub fn version_bytes(v: Version) -> [u8; 2]

@@ -1,3 +1,4 @@
 -- What holds along any log.
 pub mod Along
 pub mod Rate
+pub mod Unanswered

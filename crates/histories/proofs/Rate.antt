@@ -41,7 +41,7 @@ use Rattle.histories.specs.Rate.{remoteOf, withRemote, crateRemote, crat
 use Rattle.histories.proofs.Along.{between, same-logs}
 
 -- what a reply is read as, beside the record that it meets
-abbrev read-by : Association → ReplyIn → ReplyRead
+abbrev pub read-by : Association → ReplyIn → ReplyRead
 read-by a r = readAs (a .settings) (a .state .request) r
 
 -- ---- it never falls

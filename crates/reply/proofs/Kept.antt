@@ -1,12 +1,13 @@
 -- A reply leaves a whole record whole.
 -- Assumes nothing.
-use mathlib.Core.Path.{_≡_, refl, _∙_}
+use mathlib.Core.Path.{_≡_, refl, sym, _∙_}
 use mathlib.Core.Bool.{Bool, true, false, cond}
 use mathlib.Core.List.{List}
 use Prim.Native.Nat.{ℕ}
 use lib.Dec.{eqb}
 use Rattle.words.proofs.Zeros.{of-zeros}
 use Rattle.words.proofs.Tests.{passes, both}
+use Rattle.reach.proofs.Unanswered.{answered-unanswered}
 use Rattle.cookiestash.specs.declared.CookieStash.{CookieStash}
 use Rattle.cookiestash.specs.StoreList.{storeListOf}
 use Rattle.cookiestash.specs.Whole as stash
@@ -49,17 +50,18 @@ module _ (a : Association) (read : ReplyRead) (t : Arrival) (w : Whole a) where
   given-whole (already-measured x e) = w
   given-whole (late x e) = w
   given-whole (no-match i e) = w
-  given-whole (rate m e) = record { settings = w .settings; stash = w .stash; request = w .request; idle = w .idle }
-  given-whole (denied u e f) = record { settings = w .settings; stash = w .stash; request = w .request; idle = w .idle }
-  given-whole (denied-nts u e f) = record { settings = w .settings; stash = w .stash; request = w .request; idle = w .idle }
-  given-whole (ntsn v e) = record { settings = w .settings; stash = w .stash; request = w .request; idle = w .idle }
-  given-whole (other-kiss k e) = record { settings = w .settings; stash = w .stash; request = w .request; idle = w .idle }
-  given-whole (bad-stratum k e) = record { settings = w .settings; stash = w .stash; request = w .request; idle = w .idle }
-  given-whole (not-server s e) = record { settings = w .settings; stash = w .stash; request = w .request; idle = w .idle }
+  given-whole (rate m e) = record { settings = w .settings; stash = w .stash; counted = w .counted; request = w .request; idle = w .idle }
+  given-whole (denied u e f) = record { settings = w .settings; stash = w .stash; counted = w .counted; request = w .request; idle = w .idle }
+  given-whole (denied-nts u e f) = record { settings = w .settings; stash = w .stash; counted = w .counted; request = w .request; idle = w .idle }
+  given-whole (ntsn v e) = record { settings = w .settings; stash = w .stash; counted = w .counted; request = w .request; idle = w .idle }
+  given-whole (other-kiss k e) = record { settings = w .settings; stash = w .stash; counted = w .counted; request = w .request; idle = w .idle }
+  given-whole (bad-stratum k e) = record { settings = w .settings; stash = w .stash; counted = w .counted; request = w .request; idle = w .idle }
+  given-whole (not-server s e) = record { settings = w .settings; stash = w .stash; counted = w .counted; request = w .request; idle = w .idle }
   given-whole (measured s e) =
       record {
         settings = w .settings;
         stash = stored-whole (a .stash) (t .list) (a .settings .nts) (w .stash);
+        counted = sym (answered-unanswered (a .state .effort .reach));
         request = of-zeros 32;
         idle = stored-idle (a .stash) (t .list) (a .settings .nts) (a .state .request .uid) (w .idle);
       }

@@ -97,11 +97,11 @@ afterDenial s =
 abbrev pub raised : PollInterval → Reply → PollInterval
 raised remote r = cond (eqb (r .version) 5) (interval (larger (remote .0) (r .poll .0))) remote
 
--- 0: reach bit, denial cleared, pending cleared, a reply measured since the last sent poll (No. 3), stratum and reference identifier taken
+-- 0: reach bit, no unanswered poll (No. 8), denial cleared, pending cleared, a reply measured since the last sent poll (No. 3), stratum and reference identifier taken
 unfoldable pub afterMeasured : State → Reply → State
 afterMeasured s r =
     record {
-      effort = record { reach = answeredOf (s .effort .reach); tries = s .effort .tries };
+      effort = record { reach = answeredOf (s .effort .reach); tries = s .effort .tries; unanswered = 0 };
       version = s .version;
       polls = record { last = s .polls .last; remote = raised (s .polls .remote) r };
       source = record { stratum = r .stratum; refid = r .refid; denial = false };

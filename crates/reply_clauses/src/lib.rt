@@ -153,6 +153,7 @@ pub fn after_measured(s: State, reply: Reply) -> State
     let effort = Effort {
         reach,
         tries: tried.tries,
+        unanswered: 0,
     };
     let polls = Polls { last, remote };
     let source = Source {

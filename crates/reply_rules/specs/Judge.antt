@@ -53,7 +53,7 @@ onRead g s t R.Undecodable = leaves Undecodable s
 
 -- either form, of what was read
 unfoldable pub verdictOf : Settings → State → Seen → ReplyRead → Arrival → Verdict
-verdictOf g s v read t = cond (wholeSeen g v (s .request)) (onRead g s t read) (leaves NotWhole s)
+verdictOf g s v read t = cond (wholeSeen g v s) (onRead g s t read) (leaves NotWhole s)
 
 -- what the byte form is read as, with the uid of what is pending
 abbrev pub readWith : Settings → State → List ℕ → ℕ → List ℕ → ReplyRead

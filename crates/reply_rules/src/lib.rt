@@ -228,14 +228,14 @@ pub fn judge_packet(
 ) -> Verdict
     ensures { λ r. ⌜ r ≡ verdictOf settings s seen (readWith settings s (now (packet .entry)) end (now (decrypted .entry))) (arrival (now (list .entry)) t1 t4 time) ⌝ }
 {
-    let request = s.request;
-    if !association::whole_seen(settings, seen, request) {
+    if !association::whole_seen(settings, seen, s) {
         return Verdict {
             answer: ReplyAnswer::NotWhole,
             state: s,
             stores: false,
         };
     }
+    let request = s.request;
     let uid = awaited(settings.nts, request);
     let ReplyRead::Decoded(reply) = incoming::read_reply(
         settings.nts,
@@ -267,8 +267,7 @@ pub fn judge_decoded(
 ) -> Verdict
     ensures { λ r. ⌜ r ≡ verdictOf settings s seen (Decoded (decodedOf d)) (arrival (now (list .entry)) t1 t4 time) ⌝ }
 {
-    let request = s.request;
-    if !association::whole_seen(settings, seen, request) {
+    if !association::whole_seen(settings, seen, s) {
         return Verdict {
             answer: ReplyAnswer::NotWhole,
             state: s,

@@ -15,6 +15,7 @@ use Rattle.association.specs.Record.{pendingValid, idleValid, withState, withSt
 use Rattle.association.specs.Whole.{Whole}
 use Rattle.timer_rules.specs.declared.TimerInput.{TimerInput}
 use Rattle.timer_rules.specs.Poll.{triedOf, pendingOf, sentOf}
+use Rattle.timer_rules.proofs.Unanswered.{polled-counted}
 use Rattle.timer.specs.declared.TimerOut.{TimerOut}
 use Rattle.timer.specs.Timer.{timerOf}
 use Rattle.timer.specs.Numbers.{Given, not-whole, short-buffer, demobilize, reset, no-cookie, too-large, sent, sent-nts}
@@ -22,7 +23,7 @@ use Rattle.timer.proofs.Numbers.{given}
 
 tried-whole : (a : Association) → Whole a → Whole (withState a (triedOf (a .state)))
 unfolding triedOf
-tried-whole a w = record { settings = w .settings; stash = w .stash; request = w .request; idle = w .idle }
+tried-whole a w = record { settings = w .settings; stash = w .stash; counted = polled-counted (a .state .effort) (w .counted); request = w .request; idle = w .idle }
 
 -- with NTS nothing is asked of what is idle without it
 busy : (nts : Bool) (read held : ℕ) (uid : List ℕ) → nts ≡ true → idleValid nts read held uid ≡ true
@@ -30,7 +31,7 @@ unfolding idleValid
 busy nts read held uid e = rw e
 
 taken-whole : (a : Association) → Whole a → a .settings .nts ≡ true → Whole (withStash a (getOf 8 (a .stash) .stash))
-taken-whole a w n = record { settings = w .settings; stash = get-whole 8 (a .stash) (w .stash); request = w .request; idle = busy _ _ _ _ n }
+taken-whole a w n = record { settings = w .settings; stash = get-whole 8 (a .stash) (w .stash); counted = w .counted; request = w .request; idle = busy _ _ _ _ n }
 
 no-uid : zeros (replicate 32 0) ≡ true
 unfolding zeros
@@ -47,7 +48,7 @@ idle-kept false read held old uid e =
 
 sent-whole : (a : Association) → Whole a → (i : TimerInput) → Whole (withState a (sentOf (a .settings) (a .state) i))
 unfolding sentOf pendingOf pendingValid
-sent-whole a w i = record { settings = w .settings; stash = w .stash; request = refl; idle = idle-kept (a .settings .nts) _ _ (a .state .request .uid) (i .uid) (w .idle) }
+sent-whole a w i = record { settings = w .settings; stash = w .stash; counted = w .counted; request = refl; idle = idle-kept (a .settings .nts) _ _ (a .state .request .uid) (i .uid) (w .idle) }
 
 module _ (a : Association) (w : Whole a) (i : TimerInput) (room : ℕ) where
   -- the tried record, without its oldest cookie

@@ -53,7 +53,7 @@ module _ (a : Association) (i : TimerInput) (ys : List ℕ) where
   same : Same (decideOf (a .settings) (a .state) seen i (length ys))
   unfolding decideOf decideNts
   same =
-      either Same (wholeSeen (a .settings) seen (a .state .request))
+      either Same (wholeSeen (a .settings) seen (a .state))
       (λ _. either Same (shortBuffer (a .settings) (length ys)) (λ _. refl)
       (λ b. either Same (startupOver (a .settings) (a .state)) (λ _. either Same (a .state .source .denial) (λ _. refl) (λ _. refl))
       (λ _. either Same (a .settings .nts)

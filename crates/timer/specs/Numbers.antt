@@ -1,8 +1,9 @@
 -- RULES, "The numbers": when the timer gives each number, and which answer and record come with it, in the order of the tests.
 -- Assumes nothing.
 use mathlib.Core.Path.{_≡_}
-use mathlib.Core.Bool.{true, false}
+use mathlib.Core.Bool.{Bool, true, false, _||_}
 use Prim.Native.Nat.{ℕ, _<_}
+use lib.Dec.{eqb}
 use Rattle.cookiestash.specs.Stash.{getOf}
 use Rattle.cookiestash.specs.Whole.{seenOf}
 use Rattle.association.specs.declared.Association.{Association}
@@ -13,6 +14,10 @@ use Rattle.timer_rules.specs.Poll.{shortBuffer, startupOver, triedOf}
 use Rattle.timer_rules.specs.Decide.{sendOf, askedWith}
 use Rattle.timer.specs.declared.TimerOut.{TimerOut}
 use Rattle.timer.specs.Timer.{out, decided}
+
+-- the numbers of a timer that tries a poll, whether it is sent or not: to each the unanswered polls grow by one (RULES, No. 8)
+abbrev pub triesPoll : ℕ → Bool
+triesPoll n = eqb n 20 || eqb n 23 || eqb n 24
 
 module _ (a : Association) (i : TimerInput) (room : ℕ) where
   -- ---- the tests that a timer has passed, each with those before it

@@ -1,4 +1,5 @@
 -- Laws that belong to no one function.
 pub mod Count
+pub mod Unanswered
 pub mod Actions
 pub mod Determined

@@ -39,7 +39,7 @@ decideNts g s v i =
 -- room is how many bytes of buffer the caller lends
 unfoldable pub decideOf : Settings → State → Seen → TimerInput → ℕ → Decision
 decideOf g s v i room =
-    cond (wholeSeen g v (s .request))
+    cond (wholeSeen g v s)
     (cond (shortBuffer g room) (leaves ShortBuffer s)
     (cond (startupOver g s)
     (cond (s .source .denial) (leaves Demobilize s) (leaves Reset s))

@@ -5,7 +5,7 @@ use mathlib.Core.List.{List}
 use Prim.Native.Nat.{ℕ, _+_, _-_, _/_, _^_, min, max}
 use lib.Dec.{ltb, leb, eqb}
 use lib.ListN.{replicate}
-use Rattle.reach.specs.Register.{polledOf, unansweredOf}
+use Rattle.reach.specs.Register.{polledOf}
 use Rattle.version.specs.Upgrade.{fallenBackOf}
 use Rattle.time_types.specs.declared.PollInterval.{PollInterval}
 use Rattle.time_types.specs.Poll.{interval, larger}
@@ -27,16 +27,16 @@ shortBuffer g room = g .nts && ltb room 724
 unfoldable pub startupOver : Settings → State → Bool
 startupOver g s = eqb (s .effort .reach .0) 0 && leb (g .startup) (s .effort .tries)
 
--- reach polls; tries grow by one, held at 255
+-- reach polls; tries grow by one, held at 255; the unanswered polls grow by one, held at 8 (RULES, No. 8)
 unfoldable pub polled : Effort → Effort
-polled e = record { reach = polledOf (e .reach); tries = min (e .tries + 1) 255 }
+polled e = record { reach = polledOf (e .reach); tries = min (e .tries + 1) 255; unanswered = min (e .unanswered + 1) 8 }
 
--- the state once a poll is tried: upgraded with 2 or more unanswered polls becomes V4; reach polls; tries grow
+-- the state once a poll is tried: upgraded with 2 or more unanswered polls, by the stored number, becomes V4; reach polls; tries grow
 unfoldable pub triedOf : State → State
 triedOf s =
     record {
       effort = polled (s .effort);
-      version = fallenBackOf (s .version) (unansweredOf (s .effort .reach));
+      version = fallenBackOf (s .version) (s .effort .unanswered);
       polls = s .polls;
       source = s .source;
       request = s .request;

@@ -11,7 +11,7 @@ use cookiestash::Seen;
 use time_types::PollInterval;
 use version::SendKind;
 ghost use mathlib.Core.Path.{_≡_};
-ghost use Prim.Native.Nat.{_/_, min, max};
+ghost use Prim.Native.Nat.{_+_, _/_, min, max};
 ghost use Rattle.timer_rules.specs.Answer.{numberOf};
 ghost use Rattle.timer_rules.specs.Poll.{shortBuffer, startupOver, polled, triedOf, askedOf, deadlineOf, pendingOf};
 ghost use Rattle.timer_rules.specs.Decide.{sendOf, decideNts, decideOf};
@@ -71,20 +71,25 @@ fn short_buffer(settings: Settings, room: usize) -> bool
     }
 }
 
-// One poll more: the register shifts, and tries grow by one, held at 255.
+// One more, held at the most that there may be.
+fn one_more(n: u8, most: u8) -> u8
+    ensures { λ r. ⌜ r ≡ min (n + 1) most ⌝ }
+{
+    if n < most { n + 1 } else { most }
+}
+
+// One poll more: the register shifts, tries grow by one, held at 255, and so do the unanswered polls, held at 8.
 fn polled(effort: Effort) -> Effort
     ensures { λ r. ⌜ r ≡ polled effort ⌝ }
 {
     let old = effort.reach;
     let reach = old.poll();
-    let tries = effort.tries;
-    if tries == u8::MAX {
-        Effort { reach, tries }
-    } else {
-        Effort {
-            reach,
-            tries: tries + 1,
-        }
+    let tries = one_more(effort.tries, u8::MAX);
+    let unanswered = one_more(effort.unanswered, 8);
+    Effort {
+        reach,
+        tries,
+        unanswered,
     }
 }
 
@@ -93,9 +98,8 @@ fn tried(s: State) -> State
     ensures { λ r. ⌜ r ≡ triedOf s ⌝ }
 {
     let effort = s.effort;
-    let reach = effort.reach;
     let old = s.version;
-    let version = old.fallback(reach.unanswered_polls());
+    let version = old.fallback(effort.unanswered);
     let more = polled(effort);
     let mut next = s;
     next.effort = more;
@@ -239,8 +243,7 @@ fn decide_nts(settings: Settings, s: State, seen: Seen, input: TimerInput) -> De
 pub fn decide(settings: Settings, s: State, seen: Seen, input: TimerInput, room: usize) -> Decision
     ensures { λ r. ⌜ r ≡ decideOf settings s seen input room ⌝ }
 {
-    let request = s.request;
-    if !association::whole_seen(settings, seen, request) {
+    if !association::whole_seen(settings, seen, s) {
         return Decision {
             answer: TimerAnswer::NotWhole,
             state: s,

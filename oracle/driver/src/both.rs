@@ -169,7 +169,8 @@ mod tests {
             source,
             cookies: vec![],
         });
-        both.step(&Op::Poke(vec![("stratum", stratum as i64), ("reach", reach as i64)]));
+        let [reach, unanswered] = super::reach(reach);
+        both.step(&Op::Poke(vec![("stratum", stratum as i64), reach, unanswered]));
         let local = local.iter().map(|i| address(*i)).collect();
         let step = both.step(&Op::Accept { stratum: 17, local, bloom });
         assert!(!step.failed);

@@ -133,7 +133,7 @@ fn show(s: &State) -> String {
         lens[(s.read + i) % 8] = c.0;
     }
     format!(
-        "record reach={} tries={} version={} last={} remote={} pending={pending} denial={} stratum={} refid={:08x} read={} held={} lens={} answered={}",
+        "record reach={} tries={} version={} last={} remote={} pending={pending} denial={} stratum={} refid={:08x} read={} held={} lens={} answered={} unanswered={}",
         s.reach,
         s.tries,
         version(s.version),
@@ -145,7 +145,8 @@ fn show(s: &State) -> String {
         s.read,
         s.cookies.len(),
         lens.map(|n: usize| n.to_string()).join(","),
-        if s.answered { "yes" } else { "no" }
+        if s.answered { "yes" } else { "no" },
+        s.unanswered
     )
 }
 

@@ -71,6 +71,7 @@ fn state_of(r: &Record, answered: bool) -> State {
         remote: r.remote_min,
         pending: r.pending.map(|(id, uid, deadline)| (id, uid.unwrap_or([0; 32]), deadline)),
         answered,
+        unanswered: r.unanswered as u8,
         denial: r.denied,
         stratum: r.stratum,
         refid: u32::from_be_bytes(r.reference_id),
@@ -224,6 +225,8 @@ impl Exec {
                 for (key, value) in pairs {
                     match *key {
                         "reach" => r.reach = *value as u8,
+                        // The crate keeps no such number: it counts the zeros of its reach.
+                        "unanswered" => {}
                         "tries" => r.tries = *value as usize,
                         "stratum" => r.stratum = *value as u8,
                         "last" => r.last_poll = *value as i8,

@@ -284,7 +284,7 @@ impl Cases<'_> {
             }
             self.accept(stratum, &[reported], Bloom::None);
             self.accept(stratum + 1, &[reported], Bloom::None);
-            self.poke(&[("reach", 0)]);
+            self.poke(&reach(0));
             for local in [other, own, reported] {
                 self.accept(17, &[local], Bloom::None);
             }
@@ -425,7 +425,8 @@ impl Cases<'_> {
     fn counters(&mut self) {
         for tries in [0, 253, 254, 255] {
             self.begin(&format!("tries {tries}, reach 1"), plain());
-            self.poke(&[("tries", tries), ("reach", 1)]);
+            self.poke(&[("tries", tries)]);
+            self.poke(&reach(1));
             self.timer();
             self.timer();
         }
@@ -445,9 +446,10 @@ impl Cases<'_> {
         self.timer();
         self.reply(V4.kiss(b"RSTR").bytes());
         self.reply(V4.bytes());
-        for reach in [0, 1, 2, 3, 4, 64, 127, 128, 129, 255] {
-            self.begin(&format!("reach {reach}, upgraded"), Start { start: Version::UpgradedToV5, ..plain() });
-            self.poke(&[("reach", reach), ("tries", 2)]);
+        for register in [0, 1, 2, 3, 4, 64, 127, 128, 129, 255] {
+            self.begin(&format!("reach {register}, upgraded"), Start { start: Version::UpgradedToV5, ..plain() });
+            self.poke(&reach(register));
+            self.poke(&[("tries", 2)]);
             self.timer();
             self.timer();
         }
@@ -464,7 +466,7 @@ impl Cases<'_> {
         self.asked("upgrading, NTSN that is an upgrade reply", Start { start: UPGRADING, ..plain() }, ntsn);
         self.timer();
         self.begin("upgraded, answered in V5", Start { start: Version::UpgradedToV5, ..plain() });
-        self.poke(&[("reach", 1)]);
+        self.poke(&reach(1));
         self.timer();
         self.reply(V5.v5());
         self.timer();
@@ -546,16 +548,17 @@ impl Cases<'_> {
                     self.accept(17, &[other], bloom);
                     self.accept(17, &[other, source], bloom);
                 }
-                self.poke(&[("reach", 0)]);
+                self.poke(&reach(0));
                 self.accept(17, &[other], Bloom::Absent);
                 self.accept(17, &[source], Bloom::Absent);
-                self.poke(&[("reach", 128)]);
+                self.poke(&reach(128));
                 self.accept(17, &[other], Bloom::Absent);
             }
         }
         for stratum in [0, 16, 17, 255] {
             self.begin(&format!("stratum {stratum} by hand, acceptance"), plain());
-            self.poke(&[("stratum", stratum), ("reach", 1)]);
+            self.poke(&[("stratum", stratum)]);
+            self.poke(&reach(1));
             for own in [0, 16, 17, 18, 255] {
                 self.accept(own, &[], Bloom::None);
             }

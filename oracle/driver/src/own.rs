@@ -3,8 +3,8 @@
 use crate::drill::Log;
 use crate::state::hex;
 
-const BLANK: &str = "record reach=0 tries=0 version=v4 last=0 remote=0 pending=- denial=no stratum=0 refid=00000000 read=0 held=0 lens=0,0,0,0,0,0,0,0 answered=no";
-const NEW: &str = "record reach=0 tries=0 version=v4 last=4 remote=4 pending=- denial=no stratum=16 refid=584e4f4e read=0 held=0 lens=0,0,0,0,0,0,0,0 answered=no";
+const BLANK: &str = "record reach=0 tries=0 version=v4 last=0 remote=0 pending=- denial=no stratum=0 refid=00000000 read=0 held=0 lens=0,0,0,0,0,0,0,0 answered=no unanswered=0";
+const NEW: &str = "record reach=0 tries=0 version=v4 last=4 remote=4 pending=- denial=no stratum=16 refid=584e4f4e read=0 held=0 lens=0,0,0,0,0,0,0,0 answered=no unanswered=8";
 const PLAIN: &str = "new min=4 max=10 startup=3 window=5000 mark=4e54503544524654 start=v4 nts=no source=c0000201";
 const NTS: &str = "new min=4 max=10 startup=3 window=5000 mark=4e54503544524654 start=v4 nts=yes source=c0000201";
 const TIMER: &str = "timer now=1000 desired=6 id=0102030405060708";
@@ -105,12 +105,28 @@ fn wholeness(log: &mut Log) {
         ("window", "60000000001", "60000000000"),
         ("read", "1", "0"),
         ("held", "1", "0"),
+        ("reach", "1", "0"),
+        ("unanswered", "0", "8"),
+        ("unanswered", "7", "8"),
+        ("unanswered", "9", "8"),
+        ("unanswered", "255", "8"),
     ] {
         log.own(PLAIN, NEW_0);
         log.own(&format!("poke key={key} value={bad}"), "poke");
         refused_32(log);
         log.own(&format!("poke key={key} value={good}"), "poke");
         log.own(TIMER, SENT);
+    }
+    log.comment("the unanswered polls of each reach: with another number, and with another reach, the record is not whole");
+    for register in (0..8).flat_map(|k| [1u8 << k, u8::MAX << k]).chain([0, 0b1010_0100]) {
+        let unanswered = (0..8).take_while(|k| register >> k & 1 == 0).count();
+        log.own(PLAIN, NEW_0);
+        log.own(&format!("poke key=reach value={register}"), "poke");
+        for number in 0..=9 {
+            log.own(&format!("poke key=unanswered value={number}"), "poke");
+            let reached = if register == 0 { 42 } else { 0 };
+            log.own("accept stratum=17", &format!("accept {}", if number == unanswered { reached } else { 32 }));
+        }
     }
     log.comment("a reply measured since the last sent poll, beside a request that is pending: not whole");
     log.own(PLAIN, NEW_0);

@@ -235,6 +235,7 @@ impl Random {
         if pairs.is_empty() {
             pairs.push(all[7]);
         }
+        pairs = pairs.into_iter().flat_map(|p| if p.0 == "reach" { reach(p.1 as u8).to_vec() } else { vec![p] }).collect();
         // Beside a pending request it would make the record not whole, of which the crate knows nothing.
         if self.pending.is_none() && self.r.one_in(2) {
             pairs.push(("answered", self.r.below(2) as i64));

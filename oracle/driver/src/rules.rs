@@ -63,6 +63,7 @@ impl Rules {
             remote: min,
             pending: None,
             answered: false,
+            unanswered: 8,
             denial: false,
             stratum: 16,
             refid: name(b"XNON"),
@@ -98,11 +99,12 @@ impl Rules {
         if s.reach == 0 && s.tries >= self.startup {
             return number(if s.denial { 22 } else { 21 });
         }
-        let unanswered = if s.reach == 0 { 8 } else { s.reach.trailing_zeros() };
-        if s.version == Version::UpgradedToV5 && unanswered >= 2 {
+        // By the number in the record (No. 8).
+        if s.version == Version::UpgradedToV5 && s.unanswered >= 2 {
             s.version = Version::V4;
         }
         s.reach <<= 1;
+        s.unanswered = (s.unanswered + 1).min(8);
         s.tries = s.tries.saturating_add(1);
         let (mut kind, mut cookie, mut asked) = (
             match s.version {
@@ -254,6 +256,7 @@ impl Rules {
             return number(11);
         }
         s.reach |= 1;
+        s.unanswered = 0;
         s.denial = false;
         s.pending = None;
         s.answered = true;
@@ -306,6 +309,7 @@ impl Rules {
                 "stratum" => s.stratum = *value as u8,
                 "last" => s.last = *value as i8,
                 "answered" => s.answered = *value != 0,
+                "unanswered" => s.unanswered = *value as u8,
                 _ => s.remote = *value as i8,
             }
         }

@@ -111,12 +111,20 @@ pub struct State {
     pub pending: Option<(u64, [u8; 32], u64)>,
     /// A reply was measured since the last sent poll (RULES, No. 3). The crate keeps no such fact; its own actions tell it.
     pub answered: bool,
+    /// Polls since the last that was answered, 0 to 8 (RULES, No. 8). The crate counts it from its reach.
+    pub unanswered: u8,
     pub denial: bool,
     pub stratum: u8,
     pub refid: u32,
     pub read: usize,
     /// Oldest first: the length, and the stored bytes, which are none where the length is over 724.
     pub cookies: Vec<(usize, Vec<u8>)>,
+}
+
+/// Reach set by hand, with the unanswered polls that go with it: set alone, it would make the record not whole, of which the
+/// crate knows nothing.
+pub fn reach(value: u8) -> [(&'static str, i64); 2] {
+    [("reach", value as i64), ("unanswered", value.trailing_zeros() as i64)]
 }
 
 pub fn stored(cookie: &[u8]) -> (usize, Vec<u8>) {

@@ -8,6 +8,8 @@ pub mod inspect {
     #[derive(Debug, Clone, PartialEq, Eq)]
     pub struct Record {
         pub reach: u8,
+        /// Counted by the crate from its reach, whenever it is asked for.
+        pub unanswered: u32,
         pub tries: usize,
         pub stratum: u8,
         pub reference_id: [u8; 4],
@@ -88,6 +90,7 @@ pub mod inspect {
         pub fn record(&mut self) -> Record {
             Record {
                 reach: self.reach.0,
+                unanswered: self.reach.unanswered_polls(),
                 tries: self.tries,
                 stratum: self.stratum,
                 reference_id: self.reference_id.to_bytes(),

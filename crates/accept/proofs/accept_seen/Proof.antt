@@ -10,7 +10,7 @@ use Rattle.accept.proofs.accept_seen.Statement.{statement}
 use Rattle.accept.proofs.accept_seen.Tie as tie
 
 -- the record is whole once the first test is passed
-whole : (c : tie.Else1) → let a = c .before .before .before .before .args in wholeSeen (a .settings) (a .seen) (a .state .request) ≡ true
+whole : (c : tie.Else1) → let a = c .before .before .before .args in wholeSeen (a .settings) (a .seen) (a .state) ≡ true
 whole c = sym (c .before .whole-seen .ensures) ∙ not-false _ (c .if1 .left)
 
 whole-seen-requires : tie.Need-whole-seen-requires

@@ -15,14 +15,11 @@ cast-is-bit c = search needs
 is-bit-requires : tie.Need-is-bit-requires
 is-bit-requires c κs = search needs
 
-cast-is-bit-2 : tie.Need-cast-is-bit-2
-cast-is-bit-2 c = search needs
+is-wide-bit-requires : tie.Need-is-wide-bit-requires
+is-wide-bit-requires c κs = search needs
 
-is-bit-requires-2 : tie.Need-is-bit-requires-2
-is-bit-requires-2 c κs = search needs
-
-is-bit-requires-3 : tie.Need-is-bit-requires-3
-is-bit-requires-3 c κs = search needs
+is-wide-bit-requires-2 : tie.Need-is-wide-bit-requires-2
+is-wide-bit-requires-2 c κs = search needs
 
 both-requires : tie.Need-both-requires
 both-requires c κs = search needs
@@ -37,11 +34,11 @@ returns : tie.Need-returns
 returns c =
     let request = c .before .before in
     let present = request .before .before in
-    let denial = present .before .before in
+    let denial = present .before in
     c .both3 .ensures
     ∙ (λ i. denial .before .before .is-kind .ensures i
     && (c .before .both2 .ensures
-    ∙ (λ j. denial .is-bit .ensures j && (request .both .ensures ∙ (λ k. present .is-bit2 .ensures k && request .before .is-bit3 .ensures k)) j)) i)
+    ∙ (λ j. denial .is-bit .ensures j && (request .both .ensures ∙ (λ k. present .is-wide-bit .ensures k && request .before .is-wide-bit2 .ensures k)) j)) i)
 
 pub state-ok-spec : {M : Type 1} → statement M
 state-ok-spec =
@@ -50,9 +47,8 @@ state-ok-spec =
     is-kind-requires
     cast-is-bit
     is-bit-requires
-    cast-is-bit-2
-    is-bit-requires-2
-    is-bit-requires-3
+    is-wide-bit-requires
+    is-wide-bit-requires-2
     both-requires
     both-requires-2
     both-requires-3

@@ -17,20 +17,17 @@ cast-truth c = search needs
 truth-requires : tie.Need-truth-requires
 truth-requires c κs = search needs
 
-cast-truth-2 : tie.Need-cast-truth-2
-cast-truth-2 c = search needs
+wide-truth-requires : tie.Need-wide-truth-requires
+wide-truth-requires c κs = search needs
 
-truth-requires-2 : tie.Need-truth-requires-2
-truth-requires-2 c κs = search needs
-
-truth-requires-3 : tie.Need-truth-requires-3
-truth-requires-3 c κs = search needs
+wide-truth-requires-2 : tie.Need-wide-truth-requires-2
+wide-truth-requires-2 c κs = search needs
 
 returns : tie.Need-returns
 unfolding stateIn
 returns c =
     let present = c .before in
-    let denial = present .before .before in
+    let denial = present .before in
     let version = denial .before .before in
     let tested = version .before .before .before .before .before in
     let s = tested .before .args .c in
@@ -38,11 +35,11 @@ returns c =
       ok = tested .state-ok .ensures i;
       state =
           record {
-            effort = s .effort;
+            effort = record { reach = s .reach; tries = s .tries; unanswered = s .unanswered };
             version = version .version-in .ensures i;
             polls = s .polls;
             source = record { stratum = s .stratum; refid = s .refid; denial = denial .truth .ensures i };
-            request = record { present = present .truth2 .ensures i; id = s .id; uid = s .uid; deadline = s .deadline; answered = c .truth3 .ensures i };
+            request = record { present = present .wide-truth .ensures i; id = s .id; uid = s .uid; deadline = s .deadline; answered = c .wide-truth2 .ensures i };
           };
     }
 
@@ -54,7 +51,6 @@ unpack-state-spec =
     version-in-requires
     cast-truth
     truth-requires
-    cast-truth-2
-    truth-requires-2
-    truth-requires-3
+    wide-truth-requires
+    wide-truth-requires-2
     returns)

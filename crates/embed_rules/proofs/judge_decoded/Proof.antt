@@ -45,13 +45,13 @@ undecodable-requires c κs = search needs
 
 returns-2 : tie.Need-returns-2
 returns-2 c =
-    let a = c .before .before .before .before .before .before .before .before .before .before .before .before .args in
-    let u = c .before .before .before .before .before .before .before .before .before .before .unpack-settings .ensures in
-    let v = c .before .before .before .before .before .before .before .before .before .unpack-state .ensures in
+    let a = c .before .before .before .before .before .before .before .before .before .before .before .args in
+    let u = c .before .before .before .before .before .before .before .before .before .unpack-settings .ensures in
+    let v = c .before .before .before .before .before .before .before .before .unpack-state .ensures in
     let t = arrival (now (a .list)) (a .t1) (a .t4) (a .time) in
-    let o = tested _ _ _ _ _ (c .before .before .before .before .before .before .before .before .both .ensures) u v ∙ not-false _ (c .before .before .before .before .before .before .before .if1 .left) in
-    let whole = c .before .whole-seen .ensures ∙ (λ i. wholeSeen (u i .settings) (a .seen) (v i .state .request)) in
-    let bad = not-decoded (a .d) (sym (c .before .before .before .before .decoded-ok .ensures) ∙ not-true _ (c .before .before .before .if2 .taken)) in
+    let o = tested _ _ _ _ _ (c .before .before .before .before .before .before .before .both .ensures) u v ∙ not-false _ (c .before .before .before .before .before .before .if1 .left) in
+    let whole = c .before .whole-seen .ensures ∙ (λ i. wholeSeen (u i .settings) (a .seen) (v i .state)) in
+    let bad = not-decoded (a .d) (sym (c .before .before .before .decoded-ok .ensures) ∙ not-true _ (c .before .before .if2 .taken)) in
     (λ i. record { answer = c .undecodable .ensures i; state = a .state; stores = false })
     ∙ (sym (undecoded (a .settings) (a .state) (a .seen) o _ t (sym whole))
     ∙ ap (λ (k : ReplyRead). judgeOf (a .settings) (a .state) (a .seen) k t) bad)

@@ -37,7 +37,7 @@ returns-2 : tie.Need-returns-2
 unfolding verdictOf
 returns-2 c =
     let k = c .before .before in
-    let w = k .before .before in
+    let w = k .before .before .before in
     rw (sym (w .before .whole-seen .ensures) ∙ not-false _ (w .if1 .left), sym (was-read k) ∙ c .enum-told .given .1)
 
 judge-requires : tie.Need-judge-requires
@@ -48,7 +48,7 @@ unfolding verdictOf
 returns-3 c =
     let d = c .before .before in
     let k = d .before .before in
-    let w = k .before .before in
+    let w = k .before .before .before in
     rw (sym (w .before .whole-seen .ensures) ∙ not-false _ (w .if1 .left), sym (was-read k) ∙ d .reply .given .1) (c .judge .ensures)
 
 pub judge-packet-spec : {M : Type 1} → statement M

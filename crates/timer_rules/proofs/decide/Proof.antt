@@ -11,16 +11,16 @@ use Rattle.timer_rules.proofs.decide.Statement.{statement}
 use Rattle.timer_rules.proofs.decide.Tie as tie
 
 -- what each test that was passed says
-whole : (c : tie.Else1) → let a = c .before .before .before .args in wholeSeen (a .settings) (a .seen) (a .s .request) ≡ true
+whole : (c : tie.Else1) → let a = c .before .before .args in wholeSeen (a .settings) (a .seen) (a .s) ≡ true
 whole c = sym (c .before .whole-seen .ensures) ∙ not-false _ (c .if1 .left)
 
-roomy : (c : tie.Else2) → let a = c .before .before .before .before .before .args in shortBuffer (a .settings) (a .room) ≡ false
+roomy : (c : tie.Else2) → let a = c .before .before .before .before .args in shortBuffer (a .settings) (a .room) ≡ false
 roomy c = sym (c .before .short-buffer .ensures) ∙ c .if2 .left
 
-over : (c : tie.Then3) → let a = c .before .before .before .before .before .before .before .args in startupOver (a .settings) (a .s) ≡ true
+over : (c : tie.Then3) → let a = c .before .before .before .before .before .before .args in startupOver (a .settings) (a .s) ≡ true
 over c = sym (c .before .startup-over .ensures) ∙ c .if3 .taken
 
-going : (c : tie.Else3) → let a = c .before .before .before .before .before .before .before .args in startupOver (a .settings) (a .s) ≡ false
+going : (c : tie.Else3) → let a = c .before .before .before .before .before .before .args in startupOver (a .settings) (a .s) ≡ false
 going c = sym (c .before .startup-over .ensures) ∙ c .if3 .left
 
 whole-seen-requires : tie.Need-whole-seen-requires

@@ -5,9 +5,6 @@ use Rattle.timer_rules.specs.Poll.{triedOf}
 use Rattle.timer_rules.proofs.tried.Statement.{statement}
 use Rattle.timer_rules.proofs.tried.Tie as tie
 
-unanswered-polls-requires : tie.Need-unanswered-polls-requires
-unanswered-polls-requires c κs = search needs
-
 fallback-requires : tie.Need-fallback-requires
 fallback-requires c κs = search needs
 
@@ -16,7 +13,7 @@ polled-requires c κs = search needs
 
 returns : tie.Need-returns
 unfolding triedOf
-returns c = simp (c .polled .ensures, c .before .fallback .ensures, c .before .before .unanswered-polls .ensures)
+returns c = simp (c .polled .ensures, c .before .fallback .ensures)
 
 pub tried-spec : {M : Type 1} → statement M
-tried-spec = tie.close (tie.spec unanswered-polls-requires fallback-requires polled-requires returns)
+tried-spec = tie.close (tie.spec fallback-requires polled-requires returns)
