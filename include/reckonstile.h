@@ -41,10 +41,12 @@ extern "C" {
 
 /* The longest cookie that is kept, and with NTS the least room of the timer's buffer. */
 #define RECKONSTILE_COOKIE_BYTES 724
+/* The slots of a stash: the largest capacity that an association may have. */
+#define RECKONSTILE_SLOTS 8
 /* A buffer of this size holds any request that a timer's 20 asks for. */
 #define RECKONSTILE_REQUEST_BYTES 852
 /* A buffer of this size holds the hand-over file of any association. */
-#define RECKONSTILE_FILE_BYTES 5871
+#define RECKONSTILE_FILE_BYTES 5872
 /* How many gaps of a damaged cookie list have their places told. */
 #define RECKONSTILE_PLACES 32
 /* The most entries of a calendar, and the minutes of its day. */
@@ -141,7 +143,9 @@ struct reckonstile_settings {
     uint64_t upgrademark; /* the reference timestamp of an upgrade request and of an upgrade reply */
     uint32_t source;      /* the source's own identifier */
     uint32_t start;       /* the version to start with: RECKONSTILE_V4 .. RECKONSTILE_V5 */
-    uint32_t nts;         /* 0 or 1 */
+    uint16_t nts;         /* 0 or 1 */
+    uint8_t capacity;     /* how many cookies the stash holds: 1 to RECKONSTILE_SLOTS */
+    uint8_t spare;        /* 0 */
     uint8_t left;         /* upgrading: the tries left; else 0 */
     uint8_t startup;      /* give up after so many polls with no answer: 1 to 8 */
     int8_t min, max;      /* limits of the poll exponent: 0 <= min <= max <= 17 */
@@ -153,9 +157,9 @@ struct reckonstile_slot {
 };
 
 struct reckonstile_stash {
-    struct reckonstile_slot slots[8];
-    size_t read; /* the slot of the oldest cookie */
-    size_t held; /* how many cookies there are */
+    struct reckonstile_slot slots[RECKONSTILE_SLOTS]; /* those past the settings' capacity are never used */
+    size_t read; /* the slot of the oldest cookie, below the capacity */
+    size_t held; /* how many cookies there are, at most the capacity */
 };
 
 struct reckonstile_state {
@@ -191,7 +195,7 @@ struct reckonstile_uid {
 struct reckonstile_new_answer {
     uint32_t number;  /* new: 0, 30, 33; metered: those and 34 to 37. Where it is not 0 all below is zero */
     uint32_t made;    /* 1 where the number is 0 */
-    uint64_t dropped; /* with NTS, how many cookies of the list did not fit: with more than eight the oldest fall out */
+    uint64_t dropped; /* with NTS, how many cookies of the list did not fit: with more than the capacity the oldest fall out */
     uint64_t lost;    /* their lengths, summed */
 };
 
@@ -199,7 +203,7 @@ struct reckonstile_timer_answer {
     uint32_t number; /* 20, 21, 22, 23, 24, 31, 32; where it is not 20 all below is zero */
     uint8_t kind;    /* what to send: RECKONSTILE_SEND_V4 .. RECKONSTILE_SEND_NTS_V5 */
     int8_t poll;     /* the poll exponent: the next poll is due in 2^poll seconds, stretched at random by the caller */
-    uint16_t asked;  /* with NTS, how many new cookies the request asks for: 1 to 8 */
+    uint16_t asked;  /* with NTS, how many new cookies the request asks for: 1 to the capacity */
     size_t length;   /* with NTS, how many bytes of the buffer are the cookie */
 };
 
@@ -257,7 +261,8 @@ struct reckonstile_calendar_answer {
 
 /* The layout. A compiler that lays a struct out otherwise stops here: each size is the sum of its fields. */
 RECKONSTILE_ASSERT(sizeof(size_t) == 8, "reckonstile: 64-bit targets only");
-RECKONSTILE_ASSERT(sizeof(struct reckonstile_settings) == 32 && offsetof(struct reckonstile_settings, left) == 28, "reckonstile: layout of settings");
+RECKONSTILE_ASSERT(sizeof(struct reckonstile_settings) == 32 && offsetof(struct reckonstile_settings, nts) == 24 &&
+                   offsetof(struct reckonstile_settings, capacity) == 26 && offsetof(struct reckonstile_settings, left) == 28, "reckonstile: layout of settings");
 RECKONSTILE_ASSERT(sizeof(struct reckonstile_slot) == 726 && sizeof(struct reckonstile_stash) == 5824, "reckonstile: layout of the stash");
 RECKONSTILE_ASSERT(sizeof(struct reckonstile_state) == 72 && offsetof(struct reckonstile_state, version) == 8 &&
                    offsetof(struct reckonstile_state, unanswered) == 15 && offsetof(struct reckonstile_state, id) == 16 &&

@@ -20,7 +20,8 @@ static void make(int nts) {
     s.window = 5000000000;
     s.upgrademark = 0x4E54503544524654;
     s.source = 0xC0000201;
-    s.nts = (uint32_t)nts;
+    s.nts = (uint16_t)nts;
+    s.capacity = RECKONSTILE_SLOTS;
     s.startup = 3;
     s.min = 4;
     s.max = 10;

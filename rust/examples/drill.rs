@@ -143,6 +143,7 @@ impl Drill {
             version,
             nts: p.text("nts") == "yes",
             source: ReferenceId::from_bits(p.bits("source") as u32),
+            capacity: number(p.or("capacity", "8")),
         }
     }
 
@@ -418,7 +419,7 @@ impl Drill {
     }
 
     fn show(&self) -> String {
-        let Record { stash, state, .. } = self.a.record();
+        let Record { settings, stash, state } = self.a.record();
         let version = match state.version {
             0 => "v4".into(),
             1 => format!("upgrading:{}", state.left),
@@ -429,7 +430,7 @@ impl Drill {
             if state.present == 1 { format!("{:016x}/{}/{}", state.id, hex(&state.uid), state.deadline) } else { "-".into() };
         let lens: Vec<String> = stash.slots.iter().map(|slot| slot.len.to_string()).collect();
         format!(
-            "record reach={} tries={} version={version} last={} remote={} pending={pending} denial={} stratum={} refid={:08x} read={} held={} lens={} answered={} unanswered={}",
+            "record reach={} tries={} version={version} last={} remote={} pending={pending} denial={} stratum={} refid={:08x} read={} held={} lens={} answered={} unanswered={} capacity={}",
             state.reach,
             state.tries,
             state.last,
@@ -441,19 +442,20 @@ impl Drill {
             stash.held,
             lens.join(","),
             if state.answered == 1 { "yes" } else { "no" },
-            state.unanswered
+            state.unanswered,
+            settings.capacity
         )
     }
 
     fn cookies(&self) -> String {
-        let stash = &self.a.record().stash;
+        let Record { settings, stash, .. } = self.a.record();
         // A record that is not whole shows no cookies; acceptance tells it.
         if stash.held == 0 || self.a.accept(0, &[], Bloom::NoFilter).is_err_and(|refused| refused.number() == 32) {
             return "cookies 0".into();
         }
         let held: Vec<String> = (0..stash.held)
             .map(|k| {
-                let slot = &stash.slots[(stash.read + k) % 8];
+                let slot = &stash.slots[(stash.read + k) % usize::from(settings.capacity)];
                 hex(slot.bytes.get(..slot.len.into()).unwrap_or(&[]))
             })
             .collect();
@@ -476,6 +478,7 @@ impl Drill {
             "max" => r.settings.max = number(value),
             "startup" => r.settings.startup = number(value),
             "window" => r.settings.window = number(value),
+            "capacity" => r.settings.capacity = number(value),
             "id" => r.state.id = bits(value),
             "uid" => r.state.uid = uid(value),
             "deadline" => r.state.deadline = number(value),

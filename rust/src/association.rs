@@ -15,7 +15,10 @@ pub const COOKIE_BYTES: usize = 724;
 pub const REQUEST_BYTES: usize = 852;
 
 /// A buffer of this size holds the hand-over file of any association.
-pub const FILE_BYTES: usize = 5871;
+pub const FILE_BYTES: usize = 5872;
+
+/// The slots of a stash: the largest capacity that an association may have.
+pub const SLOTS: u8 = 8;
 
 /// An identifier of a source: of an IPv4 address its four bytes, of an IPv6 address the first four bytes of its MD5 digest.
 ///
@@ -95,7 +98,7 @@ impl ProtocolVersion {
     }
 }
 
-/// The settings of an association. The default has the crate's own numbers, V4 and no NTS.
+/// The settings of an association. The default has the crate's own numbers, with eight slots for cookies, V4 and no NTS.
 ///
 /// ```
 /// use reckonstile::{ReferenceId, Settings};
@@ -118,6 +121,8 @@ pub struct Settings {
     pub nts: bool,
     /// The source's own identifier, made of its address.
     pub source: ReferenceId,
+    /// How many cookies the stash holds: 1 to [`SLOTS`].
+    pub capacity: u8,
 }
 
 impl Default for Settings {
@@ -130,6 +135,7 @@ impl Default for Settings {
             version: ProtocolVersion::V4,
             nts: false,
             source: ReferenceId(0),
+            capacity: SLOTS,
         }
     }
 }
@@ -143,6 +149,8 @@ impl Settings {
             source: self.source.0,
             start,
             nts: self.nts.into(),
+            capacity: self.capacity,
+            spare: 0,
             left,
             startup: self.startup_tries,
             min: self.poll_interval_limits.min.as_log(),

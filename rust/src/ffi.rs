@@ -22,7 +22,11 @@ pub struct Settings {
     /// The version to start with: 0 V4, 1 upgrading, 2 upgraded, 3 V5.
     pub start: u32,
     /// 1 with NTS, else 0.
-    pub nts: u32,
+    pub nts: u16,
+    /// How many of the eight places the stash uses.
+    pub capacity: u8,
+    /// Always 0.
+    pub spare: u8,
     /// The tries left while upgrading, else 0.
     pub left: u8,
     /// After so many polls with no answer the association gives up.
@@ -47,11 +51,11 @@ pub struct Slot {
 #[repr(C)]
 #[derive(Clone, Copy, Debug, PartialEq, Eq)]
 pub struct Stash {
-    /// Eight places.
+    /// Eight places; those past the settings' capacity are never used.
     pub slots: [Slot; 8],
-    /// The place of the oldest cookie.
+    /// The place of the oldest cookie, below the capacity.
     pub read: usize,
-    /// How many cookies there are.
+    /// How many cookies there are, at most the capacity.
     pub held: usize,
 }
 
@@ -107,7 +111,19 @@ pub struct Record {
 impl Record {
     /// The blank record, all zero. It is not whole.
     pub const BLANK: Record = Record {
-        settings: Settings { window: 0, upgrademark: 0, source: 0, start: 0, nts: 0, left: 0, startup: 0, min: 0, max: 0 },
+        settings: Settings {
+            window: 0,
+            upgrademark: 0,
+            source: 0,
+            start: 0,
+            nts: 0,
+            capacity: 0,
+            spare: 0,
+            left: 0,
+            startup: 0,
+            min: 0,
+            max: 0,
+        },
         stash: Stash { slots: [Slot { bytes: [0; 724], len: 0 }; 8], read: 0, held: 0 },
         state: State {
             reach: 0,
@@ -225,7 +241,12 @@ pub(crate) struct Scheduled {
 
 // The layout that the library has; another one stops the build. `tests/embed` holds the header to the same numbers and to the library's own answers.
 const _: () = {
-    assert!(size_of::<Settings>() == 32 && offset_of!(Settings, left) == 28);
+    assert!(
+        size_of::<Settings>() == 32
+            && offset_of!(Settings, nts) == 24
+            && offset_of!(Settings, capacity) == 26
+            && offset_of!(Settings, left) == 28
+    );
     assert!(size_of::<Slot>() == 726 && size_of::<Stash>() == 5824);
     assert!(
         size_of::<State>() == 72

@@ -32,7 +32,7 @@ pub use answers::{
 };
 pub use association::{
     collect, cookie_list, layout, write_request, Association, Bloom, DecodedReply, Kisses, Packet, ProtocolVersion,
-    ReferenceId, Settings, Source, Times, Uid, COOKIE_BYTES, FILE_BYTES, REQUEST_BYTES,
+    ReferenceId, Settings, Source, Times, Uid, COOKIE_BYTES, FILE_BYTES, REQUEST_BYTES, SLOTS,
 };
 pub use ffi::Record;
 pub use time::{NtpDuration, NtpInstant, NtpTimestamp, PollInterval, PollIntervalLimits};

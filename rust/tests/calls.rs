@@ -136,6 +136,22 @@ fn cookies_that_do_not_fit_are_told() {
 }
 
 #[test]
+fn a_stash_of_two_holds_the_newest_two() {
+    let mut list = [0; 64];
+    let length = cookie_list([&[1; 20][..], &[2; 3], &[3; 4]], &mut list).unwrap();
+    let settings = Settings { nts: true, capacity: 2, ..Settings::default() };
+    let (mut a, dropped) = Association::new(&settings, &list[..length]).unwrap();
+    assert_eq!((a.cookies(), dropped), (2, Dropped { count: 1, bytes: 20 }));
+    let mut buffer = [0; COOKIE_BYTES];
+    for (cookie, asked) in [(&[2; 3][..], 1), (&[3; 4], 2)] {
+        let poll = a.timer(NtpInstant::from_nanos(0), PollInterval::new(6), 1, [0; 32], &mut buffer).unwrap();
+        assert_eq!((poll.cookie, poll.asked), (cookie, asked));
+    }
+    let refused = a.timer(NtpInstant::from_nanos(0), PollInterval::new(6), 1, [0; 32], &mut buffer).unwrap_err();
+    assert_eq!(refused, TimerRefused::NoCookie);
+}
+
+#[test]
 fn a_version_is_kept_with_its_tries() {
     for version in [
         ProtocolVersion::V4,
@@ -156,6 +172,7 @@ fn settings_out_of_range_are_refused() {
         .map(|poll_window| Settings { poll_window, ..good })
         .into_iter()
         .chain([0, 9].map(|startup_tries| Settings { startup_tries, ..good }))
+        .chain([0, 9, 255].map(|capacity| Settings { capacity, ..good }))
     {
         assert_eq!(Association::new(&bad, &[]).unwrap_err(), NewRefused::Settings);
     }
@@ -176,13 +193,15 @@ fn more_identifiers_than_any_machine_has() {
 #[test]
 fn a_record_of_any_numbers_is_refused_untouched() {
     let whole = *Association::new(&Settings::default(), &[]).unwrap().0.record();
-    let mut broken = [whole; 6];
+    let mut broken = [whole; 8];
     broken[0].settings.nts = 2;
     broken[1].settings.start = 4;
     broken[2].state.denial = 255;
     broken[3].state.version = u32::MAX;
     broken[4].stash.read = usize::MAX;
     broken[5] = Record::BLANK;
+    broken[6].settings.capacity = 9;
+    broken[7].settings.spare = 1;
     for record in broken {
         let mut a = Association::from_record(record);
         assert_eq!(tick(&mut a, 0, 1), Err(TimerRefused::NotWhole));

@@ -81,6 +81,7 @@ static struct reckonstile_settings settings(void) {
         if (!strncmp(text("start"), versions[k], strlen(versions[k])) && (k != RECKONSTILE_UPGRADED || strlen(text("start")) == 8)) s.start = k;
     if (s.start == RECKONSTILE_UPGRADING) s.left = (uint8_t)natural(text("start") + 10);
     s.nts = !strcmp(text("nts"), "yes");
+    s.capacity = (uint8_t)natural(or_text("capacity", "8"));
     s.startup = (uint8_t)natural(text("startup"));
     s.min = (int8_t)integer(text("min"));
     s.max = (int8_t)integer(text("max"));
@@ -331,8 +332,8 @@ static void show(void) {
     } else
         putchar('-');
     printf(" denial=%s stratum=%u refid=%08" PRIx32 " read=%zu held=%zu lens=", s->denial ? "yes" : "no", (unsigned)s->stratum, s->refid, a.stash.read, a.stash.held);
-    for (int k = 0; k < 8; k++) printf("%s%u", k ? "," : "", (unsigned)a.stash.slots[k].len);
-    printf(" answered=%s unanswered=%u\n", s->answered ? "yes" : "no", (unsigned)s->unanswered);
+    for (int k = 0; k < RECKONSTILE_SLOTS; k++) printf("%s%u", k ? "," : "", (unsigned)a.stash.slots[k].len);
+    printf(" answered=%s unanswered=%u capacity=%u\n", s->answered ? "yes" : "no", (unsigned)s->unanswered, (unsigned)a.settings.capacity);
 }
 
 static void cookies(void) {
@@ -343,7 +344,7 @@ static void cookies(void) {
     }
     printf("cookies %zu ", a.stash.held);
     for (size_t k = 0; k < a.stash.held; k++) {
-        const struct reckonstile_slot *slot = &a.stash.slots[(a.stash.read + k) % 8];
+        const struct reckonstile_slot *slot = &a.stash.slots[(a.stash.read + k) % a.settings.capacity];
         if (k) putchar(',');
         hex(slot->bytes, slot->len <= RECKONSTILE_COOKIE_BYTES ? slot->len : 0);
     }
@@ -364,6 +365,7 @@ static void poke(void) {
     else if (!strcmp(key, "max")) a.settings.max = (int8_t)integer(value);
     else if (!strcmp(key, "startup")) a.settings.startup = (uint8_t)natural(value);
     else if (!strcmp(key, "window")) a.settings.window = natural(value);
+    else if (!strcmp(key, "capacity")) a.settings.capacity = (uint8_t)natural(value);
     else if (!strcmp(key, "id")) a.state.id = bits(value);
     else if (!strcmp(key, "deadline")) a.state.deadline = natural(value);
     else if (!strcmp(key, "answered")) a.state.answered = (uint32_t)natural(value);

@@ -24,12 +24,14 @@ static int zeros(const uint8_t *b, size_t n) {
     return 1;
 }
 static int version_ok(uint32_t kind, uint8_t left) { return kind == RECKONSTILE_UPGRADING || (kind <= RECKONSTILE_V5 && left == 0); }
+static int setting_codes_ok(const struct reckonstile_settings *s) { return version_ok(s->start, s->left) && s->nts <= 1 && !s->spare; }
 static int codes_ok(const struct reckonstile_association *a) {
-    return version_ok(a->settings.start, a->settings.left) && a->settings.nts <= 1 && version_ok(a->state.version, a->state.left) && a->state.denial <= 1 && a->state.present <= 1 &&
+    return setting_codes_ok(&a->settings) && version_ok(a->state.version, a->state.left) && a->state.denial <= 1 && a->state.present <= 1 &&
            a->state.answered <= 1;
 }
 static int settings_ok(const struct reckonstile_settings *s) {
-    return 0 <= s->min && s->min <= s->max && s->max <= 17 && 1 <= s->startup && s->startup <= 8 && 1 <= s->window && s->window <= 60000000000;
+    return 0 <= s->min && s->min <= s->max && s->max <= 17 && 1 <= s->startup && s->startup <= 8 && 1 <= s->window && s->window <= 60000000000 && 1 <= s->capacity &&
+           s->capacity <= RECKONSTILE_SLOTS;
 }
 static uint8_t unanswered_of(uint8_t reach) { /* the zeros at its low end */
     uint8_t n = 0;
@@ -38,9 +40,10 @@ static uint8_t unanswered_of(uint8_t reach) { /* the zeros at its low end */
 }
 static int whole(const struct reckonstile_association *a) {
     const struct reckonstile_state *s = &a->state;
-    if (!codes_ok(a) || !settings_ok(&a->settings) || a->stash.read >= 8 || a->stash.held > 8) return 0;
-    for (size_t k = 0; k < 8; k++) {
-        const struct reckonstile_slot *slot = &a->stash.slots[(a->stash.read + k) % 8];
+    size_t capacity = a->settings.capacity;
+    if (!codes_ok(a) || !settings_ok(&a->settings) || a->stash.read >= capacity || a->stash.held > capacity) return 0;
+    for (size_t k = 0; k < RECKONSTILE_SLOTS; k++) { /* those of the round, oldest first, then those past the capacity */
+        const struct reckonstile_slot *slot = &a->stash.slots[k < capacity ? (a->stash.read + k) % capacity : k];
         size_t stored = slot->len <= RECKONSTILE_COOKIE_BYTES ? slot->len : 0;
         if ((k >= a->stash.held && slot->len) || !zeros(slot->bytes + stored, RECKONSTILE_COOKIE_BYTES - stored)) return 0;
     }
@@ -105,7 +108,8 @@ static void make(void) {
     s.source = (uint32_t)next();
     s.start = (uint32_t)below(4);
     s.left = s.start == RECKONSTILE_UPGRADING ? (uint8_t)next() : 0;
-    s.nts = (uint32_t)below(2);
+    s.nts = (uint16_t)below(2);
+    s.capacity = (uint8_t)(1 + below(RECKONSTILE_SLOTS));
     s.startup = (uint8_t)(1 + below(8));
     s.max = (int8_t)below(18);
     s.min = (int8_t)below((uint64_t)s.max + 1);
@@ -134,15 +138,15 @@ static void make(void) {
 
 /* What falls out where a list is stored: of the lengths held and those of the list, oldest first, as many as do not fit. With another number than 0, and without NTS,
    nothing is stored. */
-static int dropped_right(uint32_t number, uint32_t nts, const struct reckonstile_stash *s, const uint8_t *list, size_t n, uint64_t dropped, uint64_t lost) {
-    if (number || !nts) return !dropped && !lost;
-    uint64_t cookies = 0, sum = 0;
+static int dropped_right(uint32_t number, const struct reckonstile_settings *set, const struct reckonstile_stash *s, const uint8_t *list, size_t n, uint64_t dropped, uint64_t lost) {
+    if (number || !set->nts) return !dropped && !lost;
+    uint64_t cookies = 0, sum = 0, capacity = set->capacity;
     for (size_t at = 0; at < n; at += 4u + (size_t)(list[at + 2] << 8 | list[at + 3])) cookies++;
-    uint64_t over = s->held + cookies > 8 ? s->held + cookies - 8 : 0;
+    uint64_t over = s->held + cookies > capacity ? s->held + cookies - capacity : 0;
     size_t at = 0;
     for (uint64_t k = 0; k < over; k++) {
         if (k < s->held) {
-            sum += s->slots[(s->read + k) % 8].len;
+            sum += s->slots[(s->read + k) % capacity].len;
             continue;
         }
         size_t len = (size_t)(list[at + 2] << 8 | list[at + 3]);
@@ -295,7 +299,7 @@ int main(int argc, char **argv) {
         expect(n == 20 || n == 23 || n == 24 || kept(), "timer: a refusal changed the record", n);
         uint8_t polled = before.state.unanswered < 8 ? (uint8_t)(before.state.unanswered + 1) : before.state.unanswered;
         expect(lent.a.state.unanswered == (n == 20 || n == 23 || n == 24 ? polled : before.state.unanswered), "timer: the unanswered polls", n);
-        expect((n == 20) == (t.kind != 0) && t.length <= RECKONSTILE_COOKIE_BYTES && (n == 20 || (!t.poll && !t.asked && !t.length)), "timer's answer", n);
+        expect((n == 20) == (t.kind != 0) && t.length <= RECKONSTILE_COOKIE_BYTES && t.asked <= before.settings.capacity && (n == 20 || (!t.poll && !t.asked && !t.length)), "timer's answer", n);
         int untouched = 1;
         for (size_t i = t.length; i < sizeof out.bytes; i++) untouched &= out.bytes[i] == 0xAA;
         expect(untouched, "timer: the buffer past the cookie changed", n);
@@ -311,7 +315,7 @@ int main(int argc, char **argv) {
         expect(n == 0 || (n >= 5 && n <= 11) || kept(), "reply: a refusal changed the record", n);
         expect(lent.a.state.unanswered == (n == 0 ? 0 : before.state.unanswered), "reply: the unanswered polls", n);
         expect(r.measured == (n == 0) && (n == 0 || (!r.delay && !r.offset && !r.local && !r.mono && !r.leap && !r.stratum && !r.precision && !r.rootdelay && !r.rootdisp)), "reply's answer", n);
-        expect(dropped_right(n, before.settings.nts, &before.stash, list, list_len, r.dropped, r.lost), "reply: what the stash dropped", n);
+        expect(dropped_right(n, &before.settings, &before.stash, list, list_len, r.dropped, r.lost), "reply: what the stash dropped", n);
 
         if (below(4)) lent.a = before;
         before = lent.a;
@@ -334,7 +338,7 @@ int main(int argc, char **argv) {
         expect(reason_right(n, &before.state, time), "reply_decoded: why no request is live", n);
         expect(n == 0 || (n >= 5 && n <= 11) || kept(), "reply_decoded: a refusal changed the record", n);
         expect(lent.a.state.unanswered == (n == 0 ? 0 : before.state.unanswered), "reply_decoded: the unanswered polls", n);
-        expect(dropped_right(n, before.settings.nts, &before.stash, list, list_len, r.dropped, r.lost), "reply_decoded: what the stash dropped", n);
+        expect(dropped_right(n, &before.settings, &before.stash, list, list_len, r.dropped, r.lost), "reply_decoded: what the stash dropped", n);
 
         /* a file that is written is read as the record, with nothing sent; a byte of it changed, or its end cut, is a number of its own and a record that is whole or blank */
         static uint8_t file[RECKONSTILE_FILE_BYTES];
@@ -344,7 +348,7 @@ int main(int argc, char **argv) {
         struct reckonstile_written w = reckonstile_save(&lent.a, file, below(4) ? sizeof file : below(100));
         n = w.number;
         expect(is_whole ? n == 0 || n == 60 : n == 32, "save", n);
-        expect(w.written == (n == 0) && (n == 0 ? w.length >= 63 : !w.length), "save's answer", n);
+        expect(w.written == (n == 0) && (n == 0 ? w.length >= 64 : !w.length), "save's answer", n);
         if (n == 0) {
             struct reckonstile_association kept_of = before;
             memset(&kept_of.stash, 0, sizeof kept_of.stash);
@@ -356,6 +360,14 @@ int main(int argc, char **argv) {
             memset(kept_of.state.uid, 0, sizeof kept_of.state.uid);
             n = reckonstile_load(&lent.a, file, w.length);
             expect(n == 0 && !memcmp(&lent.a, &kept_of, sizeof kept_of), "load of what was saved", n);
+            /* without the capacity it is an old file, of 26 bytes of settings, which reads as 8 */
+            static uint8_t old[RECKONSTILE_FILE_BYTES];
+            memcpy(old, file, 30);
+            old[3] = 26;
+            memcpy(old + 30, file + 31, w.length - 31);
+            n = reckonstile_load(&lent.a, old, w.length - 1);
+            if (kept_of.settings.capacity == 8) expect(n == 0 && !memcmp(&lent.a, &kept_of, sizeof kept_of), "load of an old file", n);
+            else expect(n == 0 ? whole(&lent.a) && lent.a.settings.capacity == 8 && lent.a.stash.held == kept_of.stash.held : n == 63, "load of an old file", n);
             if (below(2)) file[below(w.length)] = (uint8_t)next();
             else w.length = below(w.length);
             n = reckonstile_load(&lent.a, file, w.length);
@@ -372,10 +384,10 @@ int main(int argc, char **argv) {
         struct reckonstile_settings s = before.settings;
         struct reckonstile_new_answer made = reckonstile_new(&lent.a, s, list, list_len);
         n = made.number;
-        int good = version_ok(s.start, s.left) && s.nts <= 1 && settings_ok(&s);
+        int good = setting_codes_ok(&s) && settings_ok(&s);
         expect(good ? n == 0 || (n == 33 && s.nts) : n == 30, "new", n);
         expect(n == 0 ? whole(&lent.a) && settings_kept() : zeros((const uint8_t *)&lent.a, sizeof lent.a), "new's record", n);
-        expect(made.made == (n == 0) && dropped_right(n, s.nts, &empty, list, list_len, made.dropped, made.lost), "new: what the stash dropped", n);
+        expect(made.made == (n == 0) && dropped_right(n, &s, &empty, list, list_len, made.dropped, made.lost), "new: what the stash dropped", n);
 
         /* the same for a metered link: the plain record where the profile is met, and the check's number */
         struct reckonstile_association plain = lent.a;
@@ -384,7 +396,7 @@ int main(int argc, char **argv) {
         int slow = s.min >= 8 && s.startup <= 3 && s.start != RECKONSTILE_UPGRADING;
         expect(m == told && (n != 0 ? m == n : m == 0 ? slow : m >= 34 && m <= 37 && (!slow || (m == 37 && s.nts))), "metered", m);
         expect(m == 0 ? !memcmp(&lent.a, &plain, sizeof plain) : zeros((const uint8_t *)&lent.a, sizeof lent.a), "metered's record", m);
-        expect(metered.made == (m == 0) && dropped_right(m, s.nts, &empty, list, list_len, metered.dropped, metered.lost), "metered: what the stash dropped", m);
+        expect(metered.made == (m == 0) && dropped_right(m, &s, &empty, list, list_len, metered.dropped, metered.lost), "metered: what the stash dropped", m);
     }
     printf("%lu of the records were whole\n%lu passed, %lu failed\n", wholes, passed, failed);
     return failed != 0;

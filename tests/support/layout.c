@@ -27,6 +27,7 @@ int main(void) {
     s.source = 0xC0000201;
     s.start = RECKONSTILE_UPGRADING;
     s.nts = 1;
+    s.capacity = 6;
     s.left = 77;
     s.startup = 7;
     s.min = 3;
@@ -53,7 +54,7 @@ int main(void) {
     struct reckonstile_uid uid;
     for (int i = 0; i < 32; i++) uid.bytes[i] = (uint8_t)(200 + i);
     struct reckonstile_timer_answer t = reckonstile_timer(&a, 1000, 9, 0x1122334455667788, uid, buffer, sizeof buffer);
-    EXPECT(t.number == RECKONSTILE_SENT && t.kind == RECKONSTILE_SEND_NTS_V5 && t.poll == 9 && t.asked == 7 && t.length == 5 && !memcmp(buffer, list + 4, 5));
+    EXPECT(t.number == RECKONSTILE_SENT && t.kind == RECKONSTILE_SEND_NTS_V5 && t.poll == 9 && t.asked == 5 && t.length == 5 && !memcmp(buffer, list + 4, 5));
     memset(&b.stash.slots[0], 0, sizeof b.stash.slots[0]);
     b.stash.read = 1;
     b.stash.held = 1;
@@ -70,6 +71,7 @@ int main(void) {
     s.window = 5000;
     s.max = 17;
     s.startup = 1;
+    s.capacity = RECKONSTILE_SLOTS;
     EXPECT(reckonstile_new(&a, s, none, 0).number == RECKONSTILE_OK);
     memset(&uid, 0, sizeof uid);
     t = reckonstile_timer(&a, 1000, -5, 0x0102030405060708, uid, none, 0);
@@ -190,6 +192,27 @@ int main(void) {
     EXPECT(r.number == RECKONSTILE_OK && r.dropped == 1 && r.lost == 700);
     m = reckonstile_new(&a, s, nine, sizeof nine - 1);
     EXPECT(m.number == RECKONSTILE_BROKEN_LIST && !m.made && !m.dropped && !m.lost);
+
+    /* a stash of two: two of nine are held, the slots go round at two, and one is asked for where one is free. A capacity outside 1 to 8 is refused, and so is a spare byte that is not 0 */
+    s.capacity = 2;
+    m = reckonstile_new(&a, s, nine, sizeof nine);
+    EXPECT(m.number == RECKONSTILE_OK && m.dropped == 7 && m.lost == 3 && a.settings.capacity == 2 && a.stash.read == 1 && a.stash.held == 2);
+    t = reckonstile_timer(&a, 1, 4, 99, uid, buffer, sizeof buffer);
+    EXPECT(t.number == RECKONSTILE_SENT && t.asked == 1 && a.stash.read == 0 && a.stash.held == 1);
+    uint32_t nobody[] = { 0 };
+    uint8_t outside[][2] = { { 0, 0 }, { 9, 0 }, { 255, 0 }, { 2, 1 }, { 2, 255 } };
+    for (size_t k = 0; k < sizeof outside / sizeof *outside; k++) {
+        a.settings.capacity = s.capacity = outside[k][0];
+        a.settings.spare = s.spare = outside[k][1];
+        EXPECT(reckonstile_accept(&a, 17, nobody, 0, RECKONSTILE_BLOOM_NONE) == RECKONSTILE_NOT_WHOLE);
+        EXPECT(reckonstile_new(&b, s, nine, sizeof nine).number == RECKONSTILE_SETTINGS && reckonstile_profile(s, nine, sizeof nine) == RECKONSTILE_SETTINGS);
+    }
+    a.settings.capacity = 2;
+    a.settings.spare = s.spare = 0;
+    EXPECT(reckonstile_accept(&a, 17, nobody, 0, RECKONSTILE_BLOOM_NONE) == RECKONSTILE_UNREACHABLE);
+    a.stash.read = 2;
+    EXPECT(reckonstile_accept(&a, 17, nobody, 0, RECKONSTILE_BLOOM_NONE) == RECKONSTILE_NOT_WHOLE);
+    s.capacity = RECKONSTILE_SLOTS;
     s.nts = 0;
 
     /* accept: the words of the Bloom filter, and the identifiers as numbers */

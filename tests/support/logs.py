@@ -60,10 +60,12 @@ class Logs:
         nts = rng.random() < 0.6
         if word != 'profile':
             self.now = rng.choice((0, rng.randrange(10**12), MAX64 - 10**10))
-        return word + ' min=%d max=%d startup=%d window=%d mark=%s start=%s nts=%s source=%08x list=%s' % (
+        capacity = rng.choice((1, 2, 2, 4, 4, 7)) if good else rng.choice((0, 9, 255, 8))
+        return word + ' min=%d max=%d startup=%d window=%d mark=%s start=%s nts=%s source=%08x list=%s%s' % (
             low if good else rng.choice((-128, -1, 18, low)), rng.choice((low, max(low, 10), 17)) if good else rng.choice((18, 127, -1, 10)),
             rng.choice((1, 3, 3, 3, 4) if metered else (1, 3, 8)) if good else rng.choice((0, 9, 255, 3)), rng.choice((1, 5 * 10**9, 60 * 10**9)) if good else rng.choice((0, 60 * 10**9 + 1, MAX64)),
-            '4e54503544524654', start, 'yes' if nts else 'no', rng.choice((0, 1, 0x7f000001, 0xffffffff)), hexed(self.list(100 if metered and rng.random() < 0.7 else 1000)))
+            '4e54503544524654', start, 'yes' if nts else 'no', rng.choice((0, 1, 0x7f000001, 0xffffffff)), hexed(self.list(100 if metered and rng.random() < 0.7 else 1000)),
+            rng.choice(('', '', ' capacity=8', ' capacity=%d' % capacity, ' capacity=%d' % capacity)))
 
     def timer(self):
         rng = self.rng
@@ -162,12 +164,14 @@ class Logs:
 
     def poke(self):
         rng = self.rng
-        key = rng.choice(('reach', 'tries', 'last', 'remote', 'stratum', 'refid', 'read', 'held', 'min', 'max', 'startup', 'window', 'id', 'uid', 'deadline', 'answered', 'unanswered', 'slotbyte'))
+        key = rng.choice(('reach', 'tries', 'last', 'remote', 'stratum', 'refid', 'read', 'held', 'min', 'max', 'startup', 'window', 'id', 'uid', 'deadline', 'answered', 'unanswered', 'capacity',
+                          'slotbyte'))
         value = {
             'reach': rng.randrange(256), 'tries': rng.choice((0, 1, 3, 254, 255)), 'last': rng.randint(-128, 127), 'remote': rng.choice((4, 127, -128, 6)),
             'stratum': rng.randrange(256), 'refid': '%08x' % rng.getrandbits(32), 'read': rng.choice((0, 1, 7, 8, MAX64)), 'held': rng.choice((0, 1, 8, 9, MAX64)),
             'min': rng.choice((4, -1, 0)), 'max': rng.choice((10, 17, 18)), 'startup': rng.choice((0, 3, 8, 9)), 'window': rng.choice((0, 1, 5 * 10**9, 60 * 10**9 + 1)),
             'id': self.bytes(8).hex(), 'uid': self.bytes(32).hex(), 'deadline': rng.choice((0, self.now, MAX64)), 'answered': rng.randrange(2), 'unanswered': rng.choice((0, 1, 2, 7, 8, 9, 255)),
+            'capacity': rng.choice((0, 1, 2, 4, 8, 9, 255)),
             'slotbyte': '%d/%d/%d' % (rng.randrange(8), rng.randrange(724), rng.choice((0, 1, 255))),
         }[key]
         return 'poke key=%s value=%s' % (key, value)
@@ -177,12 +181,14 @@ class Logs:
         return 'poke key=unanswered value=%d' % self.model.unanswered(self.record.reach)
 
     def save(self):
-        length = len(self.model.handover(self.record)) if self.record.whole() else 63
-        return 'save room=%d' % self.rng.choice((8192, 8192, 5871, length, length - 1, 0))
+        length = len(self.model.handover(self.record)) if self.record.whole() else 64
+        return 'save room=%d' % self.rng.choice((8192, 8192, 5872, length, length - 1, 0))
 
     def load(self):
-        """the last file that was written, with a byte of it changed or its end cut at times"""
+        """the last file that was written, at times as an old one, without the capacity, and at times with a byte of it changed or its end cut"""
         rng, f = self.rng, self.file
+        if f and rng.random() < 0.2:
+            f = f[:3] + b'\x1a' + f[4:30] + f[31:]
         if f and rng.random() < 0.4:
             at = rng.randrange(len(f))
             f = rng.choice((f[:at] + self.bytes(1) + f[at + 1:], f[:at], f + self.bytes(1), f[:4] + self.bytes(1) + f[5:], b'S' + f[:at]))

@@ -33,15 +33,15 @@ class Poll:
 class Log:
     """The log of one association since its `new`."""
 
-    def __init__(self, minimum, maximum, startup, window, mark, start, nts, source, first_cookies):
+    def __init__(self, minimum, maximum, startup, window, mark, start, nts, source, first_cookies, capacity=SLOTS):
         self.min, self.max, self.startup, self.window, self.mark, self.nts, self.source = minimum, maximum, startup, window, mark, nts, source
-        self.start, self.polls, self.matched, self.cookies = start, [], [], []
+        self.start, self.polls, self.matched, self.cookies, self.capacity = start, [], [], [], capacity
         self.store(first_cookies)
 
     def store(self, more):
         """keeps the newest cookies; how many of the oldest did not fit, and their bytes, in the drill's words"""
         every = self.cookies + list(more) if self.nts else []
-        gone, self.cookies = every[:-SLOTS], every[-SLOTS:]
+        gone, self.cookies = every[:-self.capacity], every[-self.capacity:]
         self.dropped = 'dropped=%d lost=%d' % (len(gone), sum(map(len, gone)))
 
     # ---- what the log says of the moment
@@ -98,7 +98,7 @@ class Log:
             if not self.cookies:
                 return 'timer 23'
             cookie = self.cookies.pop(0)
-            asked = min(SLOTS - len(self.cookies), SLOT_BYTES // max(len(cookie), 1))
+            asked = min(self.capacity - len(self.cookies), SLOT_BYTES // max(len(cookie), 1))
         poll = max(desired, self.remote())
         kind = {'v4': 'v4', 'upgrading': 'v4-upgrade', 'upgraded': 'v5'}[self.version()]
         self.polls.append(Poll(ident, uid, now + self.window, poll))

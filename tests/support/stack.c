@@ -64,6 +64,7 @@ int main(void) {
     int passed = 0, failed = 0;
     settings.window = 5000;
     settings.nts = 1;
+    settings.capacity = RECKONSTILE_SLOTS;
     settings.startup = 3;
     settings.min = 8;
     settings.max = 10;

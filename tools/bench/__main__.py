@@ -27,7 +27,7 @@ it is not), and 2 on bad usage or where reading or writing failed. Answers go to
 
 A log has a command to a line; empty lines and lines that begin with # are skipped:
 
-  new min= max= startup= window= mark= start= nts= source= list=[-]
+  new min= max= startup= window= mark= start= nts= source= list=[-] capacity=[8]
   timer now= desired= id= uid=[-] room=[1024]
   reply now= t1= t4= packet= auth=[48] plain=[-] list=[-]
   reply5 now= t1= t4= leap= mode= stratum= poll= precision= rootdelay= rootdisp= receive= transmit= cookie=

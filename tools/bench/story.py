@@ -153,8 +153,9 @@ PROFILE = {34: lambda s: 'the lower poll limit is %s, and has to be 8 (256 s) or
            36: lambda s: 'the start version is %s, and the profile has no upgrading' % s.given['start'],
            37: lambda s: 'a cookie of the first list has %d bytes, and may have 100' % next(n for n in cookie_lengths(s) if n > 100)}
 
-# The records of a hand-over file in their order: mark, what it is, and how long its body is (docs/HANDOVER.md); the stash is as long as its cookies make it.
-FILE = ((b'SE', 'settings', 26), (b'ST', 'stash', None), (b'RE', 'reach and tries', 2), (b'VE', 'version', 2), (b'PO', 'polls', 2), (b'SO', 'source', 6))
+# The records of a hand-over file in their order: mark, what it is, and how long its body is (docs/HANDOVER.md); an old file has 26 bytes of settings, and the stash is as
+# long as its cookies make it.
+FILE = ((b'SE', 'settings', (27, 26)), (b'ST', 'stash', None), (b'RE', 'reach and tries', (2,)), (b'VE', 'version', (2,)), (b'PO', 'polls', (2,)), (b'SO', 'source', (6,)))
 
 
 def why_file(step):
@@ -168,8 +169,8 @@ def why_file(step):
         body = int.from_bytes(f[at + 2:at + 4], 'big')
         if body > len(f) - at - 4:
             return 'the %s record at byte %d says %d bytes, and %d follow' % (name, at, body, len(f) - at - 4)
-        if usual is not None and body != usual:
-            return 'the %s record at byte %d says %d bytes, and has %d' % (name, at, body, usual)
+        if usual is not None and body not in usual:
+            return 'the %s record at byte %d says %d bytes, and has %d' % (name, at, body, usual[0])
         if usual is None and not cookies_end(f[at + 4:at + 4 + body]):
             return 'the cookies of the stash record at byte %d do not end with it' % at
         at += 4 + body
@@ -216,8 +217,16 @@ def measured(step):
 
 
 def settings(g):
-    return ('polls every %s to %s, gives up from %s tries on where none of the last eight polls was answered, waits %s for a reply; version %s, %s NTS, source %s'
-            % (every(g['min']), every(g['max']), g['startup'], human.span(int(g['window'])), g['start'], 'with' if g['nts'] == 'yes' else 'no', human.address(g['source'])))
+    return ('polls every %s to %s, gives up from %s tries on where none of the last eight polls was answered, waits %s for a reply; version %s, %s, source %s'
+            % (every(g['min']), every(g['max']), g['startup'], human.span(int(g['window'])), g['start'], nts(g), human.address(g['source'])))
+
+
+def nts(g):
+    """with NTS or not, and how many cookies the stash holds where that is not the usual eight"""
+    if g['nts'] != 'yes':
+        return 'no NTS'
+    capacity = g.get('capacity', '8')
+    return 'with NTS' + ('' if capacity == '8' else ' and a stash of %s' % capacity)
 
 
 def made(step):
@@ -229,7 +238,7 @@ def in_file(f):
     signed = lambda octet: str(octet - 256 if octet > 127 else octet)
     start = ('v4', 'upgrading:%d' % f[24], 'upgraded', 'v5')[f[23]]
     return dict(min=signed(f[4]), max=signed(f[5]), startup=str(f[6]), window=str(int.from_bytes(f[7:15], 'big')), start=start,
-                nts='yes' if f[25] else 'no', source=f[26:30].hex())
+                nts='yes' if f[25] else 'no', source=f[26:30].hex(), capacity=str(f[30]) if f[3] == 27 else '8')
 
 
 def loaded(step):

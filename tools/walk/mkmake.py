@@ -192,7 +192,7 @@ def reckonstile_metered():
 
 
 def reckonstile_load():
-    return Make('embed', 'reckonstile_load', REC, [('file', Slice('shr', 1))], ('embed_handover', 'load', lambda r: '%s ≡ loadCall (file .now)' % r), 'CLoaded',
+    return Make('embed', 'reckonstile_load', REC, [('file', Slice('shr', 1))], ('embed_handover', 'load', lambda r: '%s ≡ loadCall (file .now)' % r), 'CLoaded', ('number', U32),
                 '(r ≡ loadCall (file .now) .number) × (w ≡ loadCall (file .now) .association)', 'ap (λ (s : CLoaded). s .number) e, ap (λ (s : CLoaded). s .association) e',
                 'use Rattle.embed_handover.specs.Handed.{loadCall}\n')
 

@@ -1,18 +1,18 @@
 #!/usr/bin/env python3
 """mkthin.py FN > crates/CRATE/proofs/FN/Proof.antt: the walks of the calls over a lent association (README.md):
 
-    let seen = lent_stash::see(&a.stash, CAPACITY);
     let settings = a.settings;
+    let seen = lent_stash::see(&a.stash, settings.capacity);
     let state = a.state;
     [let input = INPUT { params.. };]
     let decision = RULES(settings, state, seen, [input or params..][, buffer.len()]);
     a.state = decision.state;
-    lent_stash::AFTER(&mut a.stash, CAPACITY, decision.FLAG, SLICE);
+    lent_stash::AFTER(&mut a.stash, settings.capacity, decision.FLAG, SLICE);
     decision.answer
 
 or, where AFTER tells what fell out of the stash (`gives`), with these last lines:
 
-    let dropped = lent_stash::AFTER(&mut a.stash, CAPACITY, decision.FLAG, SLICE);
+    let dropped = lent_stash::AFTER(&mut a.stash, settings.capacity, decision.FLAG, SLICE);
     GIVES { answer: decision.answer, dropped }
 
 The walk itself is over any types of these shapes, so that no type is written out in it; below it is put at FN's own. With no argument the script lists its walks."""
@@ -22,16 +22,17 @@ from inplace import *
 Fn.by = 'mkthin.py'
 STA, SEEN = struct('CookieStash', 'Sta'), struct('Seen', 'Seen·')
 L = lambda *a: lambda w: w.loc(*a)
-LIT = lambda w: '(lit ! tt)'
-CAPACITY = '(refl, lit< tt)'
 
 # ---- over any types
 
-TYS = '(tcons τ-set (tcons τ-sta (tcons τ-sm tnil)))'
+# the settings are a struct, of which the walk knows one field alone: the capacity
+TSET = '(tyStruct ν-set τs-set)'
+SETV = 'vstruct (set (settings %s))'
+TYS = '(tcons %s (tcons τ-sta (tcons τ-sm tnil)))' % TSET
 REC = 'tyStruct ν ' + TYS
 OUT = 'tyStruct ν-out (tcons τ-ans (tcons τ-sm (tcons tyBool tnil)))'
 RES = 'tyStruct ν-res (tcons τ-ans (tcons τ-drop tnil))'
-VALUE = 'vstruct (ofList (set (settings %s) ∷ sta %s ∷ sm %s ∷ []))'
+VALUE = 'vstruct (ofList (%s ∷ sta %%s ∷ sm %%s ∷ []))' % SETV
 LIES = ('𝓤 H A W Sta sta τ-sta sta-mir sta-tells sta-makes', 'fullShare')
 AT = '(o + away)'
 
@@ -46,7 +47,13 @@ class Any(Ty):
         return '(%s-typed %s %s)' % (self.val, atom(x), atom(g))
 
 
-ASET, ASTA, ASM, ASEEN, AANS = Any('Set', 'τ-set', 'set'), Any('Sta', 'τ-sta', 'sta'), Any('Sm', 'τ-sm', 'sm'), Any('Seen', 'τ-seen', 'seen'), Any('Ans', 'τ-ans', 'ans')
+def capacity(k):
+    """what the walk asks of the settings' field k, the capacity: its place in the type, its value, and the operand that reads it from the local that the settings are copied to"""
+    return ('(cap-in : fieldAt zero τs-set %d ≡ some (tyInt w8, d-cap))' % k, 'getV (set (settings h)) %d' % k,
+            lambda local: lambda w: '(load ! (from ! (fld ! cap-in (stop !))) (look-in ! %d (sub ! %d cap-in (whole !))))' % (w.i('L%d' % local), k))
+
+
+ASET, ASTA, ASM, ASEEN, AANS = Any('Set', TSET, 'set'), Any('Sta', 'τ-sta', 'sta'), Any('Sm', 'τ-sm', 'sm'), Any('Seen', 'τ-seen', 'seen'), Any('Ans', 'τ-ans', 'ans')
 
 
 def toks(lfts):
@@ -60,6 +67,8 @@ class Thin:
 
     # the record that is lent: its crate, its name, and the names of its settings and of its state; and what the answer is
     record, answer_is = ('association', 'Association', 'Settings', 'State'), enum
+    # the place of the capacity among the settings' fields
+    field = 8
 
     def __init__(self, crate, fn, params, rules, out, flag, answer, after, over, says, told, uses, structs=(), input=None, gives=None):
         self.gives = gives
@@ -73,7 +82,8 @@ class Thin:
         self.lent = self.types[over].kind == 'mut'
         # the locals
         n = iter(range(len(params) + 2, 99))
-        self.SEEN, self.SET, self.STATE = next(n), next(n), next(n)
+        self.SET, self.SEEN, self.STATE = next(n), next(n), next(n)
+        self.cap_in, self.capv, self.cap = capacity(self.field)
         self.INPUT = next(n) if input else None
         self.OUT = next(n)
         self.DROPPED = next(n) if gives else None
@@ -93,13 +103,13 @@ class Thin:
     def mir(self):
         loc = lambda t: 'local %s valueLocal' % atom(t)
         byte = 'tyRef erased mut (tyInt w8)'
-        tys = [RES if self.gives else 'τ-ans', 'tyRef (named 0) mut τ-to'] + [t.mir if isinstance(t, Slice) else 'τ-' + p for p, t in self.params] + ['τ-seen', 'τ-set', 'τ-sm'] + (['τ-in'] if self.input else []) + [OUT] + (['τ-drop'] if self.gives else []) + ['tyRef erased imm τ-sto']
+        tys = [RES if self.gives else 'τ-ans', 'tyRef (named 0) mut τ-to'] + [t.mir if isinstance(t, Slice) else 'τ-' + p for p, t in self.params] + [TSET, 'τ-seen', 'τ-sm'] + (['τ-in'] if self.input else []) + [OUT] + (['τ-drop'] if self.gives else []) + ['tyRef erased imm τ-sto']
         tys += (['tyInt w64'] if self.lent else []) + ([] if self.gives else ['tyUnit']) + ['tyRef erased mut τ-sto'] + ([byte, 'sliceTy (%s)' % byte] if self.lent else [])
         field = lambda k: 'place 1 (deref (%s) ∷ field %d ∷ [])' % (REC, k)
         cp = lambda k, f=None: 'copy (place %d %s)' % (k, '(field %d ∷ [])' % f if f is not None else '[]')
         key = lambda c, f: '#%s·%s' % (kebab(c), kebab(f))
-        st = ['assign (place %d []) (addrOf (%s))' % (self.REF, field(1)), 'call %s (%s) (place %d [])' % (key('lent_stash', 'see'), listed([cp(self.REF), 'int w8 8']), self.SEEN),
-              'assign (place %d []) (rvOpd (copy (%s)))' % (self.SET, field(0)), 'assign (place %d []) (rvOpd (copy (%s)))' % (self.STATE, field(2))]
+        st = ['assign (place %d []) (rvOpd (copy (%s)))' % (self.SET, field(0)), 'assign (place %d []) (addrOf (%s))' % (self.REF, field(1)),
+              'call %s (%s) (place %d [])' % (key('lent_stash', 'see'), listed([cp(self.REF), cp(self.SET, self.field)]), self.SEEN), 'assign (place %d []) (rvOpd (copy (%s)))' % (self.STATE, field(2))]
         if self.input:
             st.append('assign (place %d []) (aggregate (%s))' % (self.INPUT, listed(cp(self.at[p]) for p in self.input[1])))
         if self.lent:
@@ -109,10 +119,10 @@ class Thin:
         if self.lent:
             b = self.at[self.over]
             st += ['assign (place %d []) (addrOf (place %d (field 0 ∷ deref (tyInt w8) ∷ [])))' % (self.PTR, b), 'assign (place %d []) (aggregate (%s))' % (self.SLICE, listed([cp(self.PTR), cp(b, 1)]))]
-        st += ['call %s (%s) (place %d [])' % (key('lent_stash', self.after[0]), listed([cp(self.MUT), 'int w8 8', cp(self.OUT, 2), cp(self.given())]), self.UNIT), 'assign (place 0 []) (%s)' % ('aggregate (%s)' % listed([cp(self.OUT, 0), cp(self.DROPPED)]) if self.gives else 'rvOpd (%s)' % cp(self.OUT, 0))]
+        st += ['call %s (%s) (place %d [])' % (key('lent_stash', self.after[0]), listed([cp(self.MUT), cp(self.SET, self.field), cp(self.OUT, 2), cp(self.given())]), self.UNIT), 'assign (place 0 []) (%s)' % ('aggregate (%s)' % listed([cp(self.OUT, 0), cp(self.DROPPED)]) if self.gives else 'rvOpd (%s)' % cp(self.OUT, 0))]
         o = '''-- the function, over any types of the record's groups (τ-to and τ-sto are the names of the record and of the stash, behind a reference), of what is seen of the stash, of the answer and of the other arguments
-abbrev shape : (%s : Sym) → (%s : Ty) → Fn
-shape %s %s =
+abbrev shape : (%s : Sym) → (τs-set : Tys) → (%s : Ty) → Fn
+shape %s τs-set %s =
     record {
       lifetimes = %d;
       outlives = [];
@@ -127,10 +137,10 @@ shape %s %s =
         return o
 
     def syms(self):
-        return 'ν ν-out' + (' ν-res' if self.gives else '')
+        return 'ν ν-out' + (' ν-res' if self.gives else '') + ' ν-set'
 
     def tynames(self):
-        return ' '.join(['τ-to', 'τ-sto', 'τ-set', 'τ-sta', 'τ-sm', 'τ-seen', 'τ-ans'] + (['τ-drop'] if self.gives else []) + (['τ-in'] if self.input else []) + ['τ-' + p for p, _ in self.plain])
+        return ' '.join(['τ-to', 'τ-sto', 'τ-sta', 'τ-sm', 'τ-seen', 'τ-ans'] + (['τ-drop'] if self.gives else []) + (['τ-in'] if self.input else []) + ['τ-' + p for p, _ in self.plain])
 
     def passed(self):
         """the locals that the rules are given"""
@@ -144,14 +154,14 @@ shape %s %s =
         return 'vstruct (ofList (%s))' % listed(self.input[1])
 
     def passedv(self, rs):
-        v = ['set (settings h)', 'sm (state h)', 'seen ' + rs]
+        v = [SETV % 'h', 'sm (state h)', 'seen ' + rs]
         v += [atom(self.inval())] if self.input else ['slice-val ' + p if isinstance(t, Slice) else p for p, t in self.params]
         return listed(v + (['vint w64 (length (%s .now))' % self.over] if self.lent else []))
 
     def filled(self, names, text):
         for k in sorted(names, key=len, reverse=True):
             text = text.replace(k, names[k])
-        return text.replace('$SYMS', self.syms())
+        return text.replace('$SYMS', self.syms()).replace('$TSET', TSET).replace('$CAPIN', self.cap_in).replace('$CAPV', self.capv)
 
     # ---- the walk
     def walk(self):
@@ -176,18 +186,18 @@ shape %s %s =
                 '$DROPS': ' Drop .Denot →', '$R': 'Drop .Denot', '$OWN': 'Drop', '$DENOT': ' r', '$D': ' (d : Drop .Denot)', '$ISD': ' Is Drop d (dro d ∷ []) →', '$GAVE': ' d', '$POST': dropped % ('rd', 'd')} if self.gives else {
                 '$ROWS': '', '$VALS': '', '$TELLS': '', '$TYPED': '', '$DROPS': '', '$R': 'Unit {0}', '$OWN': 'unit', '$DENOT': '', '$D': '', '$ISD': '', '$GAVE': '', '$POST': 'ans (answer rd)'}
         o = self.mir() + self.filled(more, '''-- The walk, over any rows of the groups and any machine values: it asks only that these are of their types.
-module _ (Rec Set Sta Sm Seen Out Ans$ROWS : RattleType) (set : Set .Denot → Val) (sta : Sta .Denot → Val) (sm : Sm .Denot → Val) (seen : Seen .Denot → Val) (ans : Ans .Denot → Val)$VALS
+module _ (Rec Set Sta Sm Seen Out Ans$ROWS : RattleType) (set : Set .Denot → Vals) (sta : Sta .Denot → Val) (sm : Sm .Denot → Val) (seen : Seen .Denot → Val) (ans : Ans .Denot → Val)$VALS
     (settings : Rec .Denot → Set .Denot) (stash : Rec .Denot → Sta .Denot) (state : Rec .Denot → Sm .Denot) (put : Rec .Denot → Sta .Denot → Sm .Denot → Rec .Denot)
     (answer : Out .Denot → Ans .Denot) (next : Out .Denot → Sm .Denot) (flag : Out .Denot → Bool)
-    ($SYMS : Sym) (%s : Ty) (rec-mir : Rec .mir ≡ %s ∷ []) (sta-mir : Sta .mir ≡ τ-sta ∷ [])
+    ($SYMS : Sym) (τs-set : Tys) (%s : Ty) (rec-mir : Rec .mir ≡ %s ∷ []) (sta-mir : Sta .mir ≡ τ-sta ∷ []) {d-cap : ℕ} $CAPIN
     (rec-tells : Tells Rec (Is Rec) (λ y. %s ∷ [])) (sta-tells : Tells Sta (Is Sta) (λ y. sta y ∷ [])) (seen-tells : Tells Seen (Is Seen) (λ y. seen y ∷ []))$TELLS
     (out-tells : Tells Out (Is Out) (λ y. vstruct (ofList (ans (answer y) ∷ sm (next y) ∷ vbool (flag y) ∷ [])) ∷ []))
-    (set-typed : (y : Set .Denot) → Is Set y (set y ∷ []) → T (hasTy τ-set (set y)) × WT (set y))
+    (set-typed : (y : Set .Denot) → Is Set y (vstruct (set y) ∷ []) → T (hasTy $TSET (vstruct (set y))) × WT (vstruct (set y)))
     (sm-typed : (y : Sm .Denot) → Is Sm y (sm y ∷ []) → T (hasTy τ-sm (sm y)) × WT (sm y))
     (ans-typed : (y : Ans .Denot) → Is Ans y (ans y ∷ []) → T (hasTy τ-ans (ans y)) × WT (ans y))
     (seen-typed : (y : Seen .Denot) (v : Val) → Is Seen y (v ∷ []) → T (hasTy τ-seen v) × WT v)
     (out-typed : (y : Out .Denot) (v : Val) → Is Out y (v ∷ []) → T (hasTy (%s) v) × WT v)$TYPED
-    (set-is : (y : Rec .Denot) (vs : List Val) → Is Rec y vs → Is Set (settings y) (set (settings y) ∷ []))
+    (set-is : (y : Rec .Denot) (vs : List Val) → Is Rec y vs → Is Set (settings y) (vstruct (set (settings y)) ∷ []))
     (sta-is : (y : Rec .Denot) (vs : List Val) → Is Rec y vs → Is Sta (stash y) (sta (stash y) ∷ []))
     (sm-is : (y : Rec .Denot) (vs : List Val) → Is Rec y vs → Is Sm (state y) (sm (state y) ∷ []))
     (answer-is : (y : Out .Denot) (vs : List Val) → Is Out y vs → Is Ans (answer y) (ans (answer y) ∷ []))
@@ -198,7 +208,7 @@ module _ (Rec Set Sta Sm Seen Out Ans$ROWS : RattleType) (set : Set .Denot → V
     %s where
   -- where the stash lies
   abbrev away : ℕ
-  away = up (align τ-sta) (up (align τ-set) zero + size τ-set)
+  away = up (align τ-sta) (up (align $TSET) zero + size $TSET)
 
   abbrev rec : Val
   rec = %s
@@ -215,20 +225,20 @@ module _ (Rec Set Sta Sm Seen Out Ans$ROWS : RattleType) (set : Set .Denot → V
       (PreS : ℕ → GName → SProp 𝓤) (BackS : ℕ → GName → Val → SProp 𝓤) (EnsuredS : ℕ → GName → Seen .Denot → SProp 𝓤)
       (PreR : Seen .Denot → SProp 𝓤) (BackR : Seen .Denot → Val → SProp 𝓤) (EnsuredR : Seen .Denot → Out .Denot → SProp 𝓤)
       (PreA : ℕ → GName → Out .Denot → SProp 𝓤) (BackA : ℕ → GName → Out .Denot → Val → SProp 𝓤) (EnsuredA : ℕ → GName → Out .Denot → $R → SProp 𝓤) (Post : Val → SProp 𝓤)
-      (goes-see : (α : ℕ) (δ : GName) → ent 𝓤 (⋆ 𝓤 H A (%s)) (PreS α δ))
+      (goes-see : (α : ℕ) (δ : GName) → Is Set (settings h) (vstruct (set (settings h)) ∷ []) → ent 𝓤 (⋆ 𝓤 H A (%s)) (PreS α δ))
       (comes-see : (α : ℕ) (δ : GName) (v : Val) → ent 𝓤 (BackS α δ v) (mean 𝓤 H A (later (some (λ (r : Seen .Denot). (%s ⊛ ‵ (Seen .own r (v ∷ []))) ⊛ raw (EnsuredS α δ r))))))
       (said-see : (α : ℕ) (δ : GName) (r : Seen .Denot) → ent 𝓤 (EnsuredS α δ r) (fact 𝓤 (SaysS r)))
-      (goes-rule : (rs : Seen .Denot) → Is Set (settings h) (set (settings h) ∷ []) → Is Sm (state h) (sm (state h) ∷ []) → Is Seen rs (seen rs ∷ []) → ent 𝓤 (⋆ 𝓤 H A (%s)) (PreR rs))
+      (goes-rule : (rs : Seen .Denot) → Is Set (settings h) (vstruct (set (settings h)) ∷ []) → Is Sm (state h) (sm (state h) ∷ []) → Is Seen rs (seen rs ∷ []) → ent 𝓤 (⋆ 𝓤 H A (%s)) (PreR rs))
       (comes-rule : (rs : Seen .Denot) (v : Val) → ent 𝓤 (BackR rs v) (mean 𝓤 H A (later (some (λ (r : Out .Denot). (%s ⊛ ‵ (Out .own r (v ∷ []))) ⊛ raw (EnsuredR rs r))))))
       (said-rule : (rs : Seen .Denot) (r : Out .Denot) → ent 𝓤 (EnsuredR rs r) (fact 𝓤 (SaysR rs r)))
-      (goes-after : (β : ℕ) (δ : GName) (rd : Out .Denot) (vs : List Val) → Is Out rd vs → ent 𝓤 (⋆ 𝓤 H A (%s)) (PreA β δ rd))
+      (goes-after : (β : ℕ) (δ : GName) (rd : Out .Denot) (vs : List Val) → Is Set (settings h) (vstruct (set (settings h)) ∷ []) → Is Out rd vs → ent 𝓤 (⋆ 𝓤 H A (%s)) (PreA β δ rd))
       (comes-after : (β : ℕ) (δ : GName) (rd : Out .Denot) (v : Val) → ent 𝓤 (BackA β δ rd v) (mean 𝓤 H A (later (some (λ (r : $R). (%s ⊛ ‵ ($OWN .own r (v ∷ []))) ⊛ raw (EnsuredA β δ rd r))))))
       (said-after : (β : ℕ) (δ : GName) (rd : Out .Denot) (r : $R) → ent 𝓤 (EnsuredA β δ rd r) (mean 𝓤 H A (some (λ (w : %s). given (SaysA rd$DENOT w) (%s)))))
       (exits : (rs : Seen .Denot) (rd : Out .Denot)$D (w : %s) (vs : List Val) → Is Out rd vs →$ISD SaysS rs → SaysR rs rd → SaysA rd$GAVE w → ent 𝓤 (⋆ 𝓤 H A (%s)) (Post ($POST)))
       (C : Calls 𝓤 H) (Λ : Loops 𝓤 H) (fm : FmC 𝓤 H (W .laws) C)
-      (known-see : (α : ℕ) (δ : GName) → ent 𝓤 (PreS α δ) (C #lent-stash·see (vptr b %s ∷ vint w8 8 ∷ []) (BackS α δ)))
+      (known-see : (α : ℕ) (δ : GName) → ent 𝓤 (PreS α δ) (C #lent-stash·see (vptr b %s ∷ $CAPV ∷ []) (BackS α δ)))
       (known-rule : (rs : Seen .Denot) → ent 𝓤 (PreR rs) (C #%s·%s (%s) (BackR rs)))
-      (known-after : (β : ℕ) (δ : GName) (rd : Out .Denot) → ent 𝓤 (PreA β δ rd) (C #lent-stash·%s (vptr b %s ∷ vint w8 8 ∷ vbool (flag rd) ∷ slice-val %s ∷ []) (BackA β δ rd))) where
+      (known-after : (β : ℕ) (δ : GName) (rd : Out .Denot) → ent 𝓤 (PreA β δ rd) (C #lent-stash·%s (vptr b %s ∷ $CAPV ∷ vbool (flag rd) ∷ slice-val %s ∷ []) (BackA β δ rd))) where
 ''') % (self.tynames(), REC, VALUE % ('y', '(stash y)', '(state y)'), OUT, VALUE % ('y', 'w', 's'),
             ''.join(' ' + κ for κ, _, _ in self.lfts), ''.join(' ' + q for _, q, _ in self.lfts),
             ''.join(' (%s : %s)' % (p, 'RefT (List ℕ)' if isinstance(t, Slice) else 'Val') for p, t in self.params),
@@ -236,7 +246,7 @@ module _ (Rec Set Sta Sm Seen Out Ans$ROWS : RattleType) (set : Set .Denot → V
             VALUE % ('h', '(stash h)', '(state h)'), VALUE % ('h', 'w', 's'), W,
             listed([toks(α), reft('ShrRef', 'α', 'δ')]), toks(α), listed([toks(self.rlfts)] + rown), toks(self.rlfts),
             listed([toks(β), reft('MutRef', 'β', 'δ'), own[self.over]]), toks(β), W, left('w', 'δ'), W, listed(ends), AT, kebab(self.rules[0]), kebab(self.rules[1]), self.passedv('rs'), self.after[0], AT, self.over)
-        fn = '(shape %s %s)' % (self.syms(), self.tynames())
+        fn = '(shape %s τs-set %s)' % (self.syms(), self.tynames())
         o += '    walk : ent 𝓤 (⋆ 𝓤 H A (%s)) (WpFn 𝓤 H C Λ %s (%s) Post)\n    walk =\n' % (listed(item[x] for x in ctx), fn, listed(vals))
         w = Walk(ctx)
         w.emit('qed W (%s) ∵ enter ! C Λ %s (%s) _ $' % (listed(item[x] for x in ctx), fn, listed(vals)))
@@ -249,7 +259,7 @@ module _ (Rec Set Sta Sm Seen Out Ans$ROWS : RattleType) (set : Set .Denot → V
         w.note()
 
         def field(s):
-            return ('fullShare', 1, 'τ-sta', 'away', 'o', 'ofList (set (settings h) ∷ sta (stash h) ∷ sm %s ∷ [])' % s)
+            return ('fullShare', 1, 'τ-sta', 'away', 'o', 'ofList (%s ∷ sta (stash h) ∷ sm %s ∷ [])' % (SETV % 'h', s))
 
         def call(tag, X, names, ts, refs, hyps, v, opds, den, row, known=None):
             """the callee is given what it asks, and its result r is had, of which e is known"""
@@ -271,11 +281,12 @@ module _ (Rec Set Sta Sm Seen Out Ans$ROWS : RattleType) (set : Set .Denot → V
             k = w.i('L%d' % dest)
             w.emit('land ! (from ! (stop !)) (init ! %d refl %s) $' % (k, typed) + (' rewrite ! %d (λ (u : Val). ‵ (fat fullShare %s l%d 0 u)) (ap only (%s r%s _ is%s)) refl $' % (k, atom(mir), dest, tells, s, s) if tells else ''))
 
-        # what is seen of the stash
+        # what is seen of the stash, of the settings' capacity
+        w.opd(self.SET, w.behind(1, 'record', 0), ASET.typed('settings h', 'set-is h _ g'))
         w.addr(self.REF, 1, field=True)
         w.takes_out(*field('(state h)'), 'record', 'stash', 'the way back', 'sta (stash h)')
         w.lends(ASTA, LIES, 'stash', 'shr', '(stash h)', 'sta-is h _ g', 'α', 'δ', AT, lambda δ: 'lent ' + δ)
-        call('see', 'S', 'α δ', ['tokα'], ['the reference'], [], 'vptr b %s ∷ vint w8 8 ∷ []' % AT, [L(self.REF), LIT], 'Seen .Denot', 'Seen')
+        call('see', 'S', 'α δ', ['tokα'], ['the reference'], ['set-is h _ g'], 'vptr b %s ∷ %s ∷ []' % (AT, self.capv), [L(self.REF), self.cap(self.SET)], 'Seen .Denot', 'Seen')
         w.emit('use1 W (raw (fact 𝓤 (SaysS rs))) (said-see α δ rs) $ heard ! (SaysS rs) (λ es.')
         w.top(1, 'result')
         landed('see', ['tokα'], 'Seen', self.SEEN, '(seen-typed rs vs iss)', 'τ-seen', 'seen-tells')
@@ -283,7 +294,6 @@ module _ (Rec Set Sta Sm Seen Out Ans$ROWS : RattleType) (set : Set .Denot → V
         w.puts_back(*field('(state h)'), 'stash', 'the way back', 'record', REC, 'sta (stash h)', 'rec')
         w.note()
         # the rules
-        w.opd(self.SET, w.behind(1, 'record', 0), ASET.typed('settings h', 'set-is h _ g'))
         w.opd(self.STATE, w.behind(1, 'record', 2), ASM.typed('state h', 'sm-is h _ g'))
         if self.input:
             xs = self.input[1]
@@ -309,7 +319,7 @@ module _ (Rec Set Sta Sm Seen Out Ans$ROWS : RattleType) (set : Set .Denot → V
             w.twice(self.over, self.types[self.over])
         w.takes_out(*field('(next rr)'), 'record', 'stash', 'the way back', 'sta (stash h)')
         w.lends(ASTA, LIES, 'stash', 'mut', '(stash h)', 'sta-is h _ g', 'β', 'δ₂', AT, lambda δ: 'lent ' + δ)
-        call('after', 'A', 'β δ₂ rr', ['tokβ', self.alft[2]], ['the reference', self.over if self.lent else self.over + ' again'], ['_', 'isr'], 'vptr b %s ∷ vint w8 8 ∷ vbool (flag rr) ∷ slice-val %s ∷ []' % (AT, self.over), [L(self.MUT), LIT, L(self.OUT, 2), L(self.given())], more['$R'], more['$OWN'])
+        call('after', 'A', 'β δ₂ rr', ['tokβ', self.alft[2]], ['the reference', self.over if self.lent else self.over + ' again'], ['_', 'set-is h _ g', 'isr'], 'vptr b %s ∷ %s ∷ vbool (flag rr) ∷ slice-val %s ∷ []' % (AT, self.capv, self.over), [L(self.MUT), self.cap(self.SET), L(self.OUT, 2), L(self.given())], more['$R'], more['$OWN'])
         w.emit('use1 W (some (λ (w : %s). given (SaysA rr%s w) (%s))) (said-after β δ₂ rr ra) $ pick ! (λ w. learn ! (λ ea. %s' % (W, ' ra' if self.gives else '', left('w', 'δ₂'), 'split ! $' if self.lent else ''))
         w.top(1, *(['resδ₂', 'last'] if self.lent else ['resδ₂']), 'result')
         if self.gives:
@@ -351,7 +361,7 @@ module _ (Rec Set Sta Sm Seen Out Ans$ROWS : RattleType) (set : Set .Denot → V
             return Arg('stash-ref ' + de, 'vptr b (o + dist)', item='the reference', own=o, fin='ref' if kind == 'mut' else None, last='res' + de)
 
         see = Callee('see', 'lent_stash', 'see', [('α', 'ℕ'), ('δ', 'GName')],
-                     lambda α, δ: dict(lfts=[(α + ' ∷ []', 'fullShare', 'tok' + α)], args=[stash('shr', α, δ), value(U8, '8', 'c-is')], says=lambda r, ws: '%s ≡ seenOf 8 (h .stash)' % r), SEEN)
+                     lambda α, δ: dict(lfts=[(α + ' ∷ []', 'fullShare', 'tok' + α)], args=[stash('shr', α, δ), value(U8, 'h .settings .capacity', 'c-is')], says=lambda r, ws: '%s ≡ seenOf (h .settings .capacity) (h .stash)' % r), SEEN)
         others = [value(inp, 'input', 'i-is')] if self.input else [shared(p, t) if isinstance(t, Slice) else value(t, p, p + '-is′') for p, t in self.params]
         if self.lent:
             others.append(value(USIZE, 'length (%s .now)' % self.over, 'n-is'))
@@ -359,17 +369,20 @@ module _ (Rec Set Sta Sm Seen Out Ans$ROWS : RattleType) (set : Set .Denot → V
                       lambda rs: dict(lfts=self.rlfts, args=[value(SET, 'h .settings', 's-is'), value(STATE, 'h .state', 'm-is'), value(SEEN, rs, 'r-is')] + others, says=lambda r, ws: self.rules[2](r, rs)), out)
         over = buffer(self.over, sl) if self.lent else shared(self.over, sl)
         after = Callee('after', 'lent_stash', self.after[0], [('β', 'ℕ'), ('δ', 'GName'), ('rd', self.out)],
-                       lambda β, δ, rd: dict(lfts=[(β + ' ∷ []', 'fullShare', 'tok' + β), self.alft], args=[stash('mut', β, δ), value(U8, '8', 'c-is'), value(BOOL, '%s .%s' % (rd, self.flag), 'f-is'), over],
+                       lambda β, δ, rd: dict(lfts=[(β + ' ∷ []', 'fullShare', 'tok' + β), self.alft], args=[stash('mut', β, δ), value(U8, 'h .settings .capacity', 'c-is'), value(BOOL, '%s .%s' % (rd, self.flag), 'f-is'), over],
                                              says=lambda r, ws: self.after[1](rd, '%s .0' % ws, r if self.gives else '%s .1 .1 .1 .0' % ws)), drop if self.gives else UNIT, ['CookieStash', 'Unit {0}', 'Unit {0}', 'List ℕ' if self.lent else 'Unit {0}'])
         f = Fn(self.crate, self.fn, 'mut', rec, 'Rec', self.params, res, self.says, [see, rule, after],
-               'The borrow is opened; the stash, where it lies, is lent to `see`; settings and state are copied and passed to `%s` with what was seen; its state is stored where the old one lay; the stash, where it lies, is lent to `%s`; the borrow is closed.' % (self.rules[1], self.after[0]),
-               self.uses + 'use Rattle.lent_stash.proofs.Elements.{map-same}\nuse Rattle.lent_stash.proofs.Lends.{lies-in, lies-out, lies-told, field-out, FieldBack, field-back}\n', structs)
+               'The borrow is opened; the settings are copied; the stash, where it lies, is lent to `see`; the state is copied, and both are passed to `%s` with what was seen; its state is stored where the old one lay; the stash, where it lies, is lent to `%s`; the borrow is closed.' % (self.rules[1], self.after[0]),
+               self.uses + 'use mathlib.Core.Option.{some}\nuse mir.Syntax.{Tys}\nuse mir.Val.{Vals}\nuse mir.Fields.{getV}\nuse prog.Memory.{fieldAt, fieldsOf}\nuse Rattle.lent_stash.proofs.Elements.{map-same}\nuse Rattle.lent_stash.proofs.Lends.{inside, lies-in, lies-out, lies-told, field-out, FieldBack, field-back}\n', structs)
         f.enums = [(self.answer, 'Ans', own)] if ans.lawful.startswith('EL.') else []
         owed = 'LL.owed Rec.the-type Rec′.the-laws y vs g'
         of = 'LL.owed Out.the-type Out′.the-laws y vs g'
         f.moredefs = ('''-- what whoever holds a record, or what the rules return, knows of its parts
 set-is : (y : $REC) (vs : List Val) → Is Rec.the-row y vs → Is Set.the-row (y .settings) (Set-val (y .settings) ∷ [])
 set-is y vs g = %s .0
+
+cap-is : (y : $SET) (vs : List Val) → Is Set.the-row y vs → Is u8 (y .capacity) (vint w8 (y .capacity) ∷ [])
+cap-is y vs g = LL.owed Set.the-type Set′.the-laws y vs g$CAPAT .0
 
 sta-is : (y : $REC) (vs : List Val) → Is Rec.the-row y vs → Is Sta.the-row (y .stash) (Sta-val (y .stash) ∷ [])
 sta-is y vs g = %s .1 .0
@@ -397,7 +410,7 @@ put-is y w s vs g j k = LL.owes Rec.the-type Rec′.the-laws (put y w s) (set-is
 abbrev dist : ℕ
 dist = up (align Sta′.mir) (up (align Set′.mir) zero + size Set′.mir)
 
-$GAVE''' % (owed, owed, owed, self.out, of, self.out, of, self.out, self.flag, self.flag, of)).replace('$REC', rec).replace('$ST', ss).replace('$GAVE', '' if not self.gives else '''-- the answer, with what fell out
+$GAVE''' % (owed, owed, owed, self.out, of, self.out, of, self.out, self.flag, self.flag, of)).replace('$REC', rec).replace('$ST', ss).replace('$SET', gs).replace('$CAPAT', ' .1' * self.field).replace('$GAVE', '' if not self.gives else '''-- the answer, with what fell out
 abbrev gave : %s → Dropped → %s
 gave y d = record { answer = y .answer; dropped = d }
 
@@ -462,17 +475,17 @@ gave-is y vs d g k = LL.owes Res.the-type Res′.the-laws (gave y d) (answer-is 
         room = ' (refl, %s-is .0 .1 .0)' % self.over if self.lent else ''
         w.emit(w.front(*ctx) + 'by ! (walkᵃ')
         drops = lambda t: t if self.gives else ''
-        args = ['Rec.the-row Set.the-row Sta.the-row Sm.the-row Seen·.the-row Out.the-row Ans.the-row' + drops(' Drop.the-row') + ' Set-val Sta-val Sm-val Seen·-val Ans-val' + drops(' Drop-val') + ' (λ y. y .settings) (λ y. y .stash) (λ y. y .state) put (λ y. y .answer) (λ y. y .state) (λ y. y .%s)' % self.flag,
-                '(%s) (%s)%s (tyNamed (%s, [])) (tyNamed (%s, [])) Set′.mir Sta′.mir Sm′.mir Seen·′.mir Ans′.mir%s%s%s refl refl' % (code(home + '::' + rec), code(own + '::' + self.out), drops(' (%s)' % code('%s::%s' % (self.crate, self.gives))), code(home + '::' + rec), code('cookiestash::CookieStash'), drops(' Drop′.mir'), ' In′.mir' if self.input else '', ''.join(' ' + atom(t.mir) for _, t in self.plain)),
+        args = ['Rec.the-row Set.the-row Sta.the-row Sm.the-row Seen·.the-row Out.the-row Ans.the-row' + drops(' Drop.the-row') + ' (λ y. fieldsOf (Set-val y)) Sta-val Sm-val Seen·-val Ans-val' + drops(' Drop-val') + ' (λ y. y .settings) (λ y. y .stash) (λ y. y .state) put (λ y. y .answer) (λ y. y .state) (λ y. y .%s)' % self.flag,
+                '(%s) (%s)%s (%s) (inside Set′.mir) (tyNamed (%s, [])) (tyNamed (%s, [])) Sta′.mir Sm′.mir Seen·′.mir Ans′.mir%s%s%s refl refl refl' % (code(home + '::' + rec), code(own + '::' + self.out), drops(' (%s)' % code('%s::%s' % (self.crate, self.gives))), code(home + '::' + gs), code(home + '::' + rec), code('cookiestash::CookieStash'), drops(' Drop′.mir'), ' In′.mir' if self.input else '', ''.join(' ' + atom(t.mir) for _, t in self.plain)),
                 '(LL.tells Rec.the-type Rec′.the-laws) (LL.tells Sta.the-type Sta′.the-laws) (LL.tells Seen·.the-type Seen·′.the-laws)' + drops(' (LL.tells Drop.the-type Drop′.the-laws)') + ' (LL.tells Out.the-type Out′.the-laws)',
                 '(λ y g. %s) (λ y g. %s) (λ y g. %s) (λ y v g. %s) (λ y v g. %s)' % (SET.typed('y', 'g'), STATE.typed('y', 'g'), ans.typed('y', 'g'), SEEN.typed('y', 'g'), out.typed('y', 'g')) + drops(' (λ y v g. %s) (λ y vs d g k. %s)' % (drop.typed('y', 'g'), res.typed('gave y d', 'gave-is y vs d g k'))),
                 'set-is sta-is sm-is answer-is next-is put-is 𝓤 H A W (LL.makes Rec.the-type Rec′.the-plain 𝓤 H A) (LL.makes Sta.the-type Sta′.the-plain 𝓤 H A)',
                 'κ%s q%s b o γ h %s' % (''.join(' ' + κ for κ, _, _ in self.lfts), ''.join(' ' + q for _, q, _ in self.lfts), ' '.join(p if isinstance(t, Slice) else atom(t.v(p)) for p, t in self.params)),
                 ' '.join(p + '-is' if isinstance(t, Slice) else t.typed(p, p + '-is') for p, t in self.params) + (' ' + inp.typed('input', 'input-is') if self.input else ''),
-                '(λ r. r ≡ seenOf 8 (h .stash)) (λ rs r. %s) (λ rd%s w. %s)' % (self.rules[2]('r', 'rs'), told_of, sa),
+                '(λ r. r ≡ seenOf (h .settings .capacity) (h .stash)) (λ rs r. %s) (λ rd%s w. %s)' % (self.rules[2]('r', 'rs'), told_of, sa),
                 '(λ α δ. C-see 𝓤 H A at-mem run .pre (to-see α δ)) (λ α δ. C-see 𝓤 H A at-mem run .post (to-see α δ)) E-see (λ rs. C-rule 𝓤 H A at-mem run .pre (to-rule rs)) (λ rs. C-rule 𝓤 H A at-mem run .post (to-rule rs)) E-rule',
                 '(λ β δ rd. C-after 𝓤 H A at-mem run .pre (to-after β δ rd)) (λ β δ rd. C-after 𝓤 H A at-mem run .post (to-after β δ rd)) E-after Post',
-                '(λ α δ. goes-see α δ %s) comes-see said-see (λ rs g₁ g₂ g₃. goes-rule rs g₁ g₂ g₃%s%s) comes-rule said-rule (λ β δ rd vs g. goes-after β δ rd %s (flag-is rd vs g)) comes-after said-after' % (CAPACITY, rest, room, CAPACITY),
+                '(λ α δ g. goes-see α δ (cap-is (h .settings) _ g)) comes-see said-see (λ rs g₁ g₂ g₃. goes-rule rs g₁ g₂ g₃%s%s) comes-rule said-rule (λ β δ rd vs s g. goes-after β δ rd (cap-is (h .settings) _ s) (flag-is rd vs g)) comes-after said-after' % (rest, room),
                 '(λ rs rd%s w vs g%s es ed ea. exits %s (put h %s (rd .state))%s %s%s (%s))' % (drops(' fell'), drops(' k'), '(gave rd fell)' if self.gives else '(rd .answer)', atom(w0), ' (w .1)' if self.lent else '', '(gave-is rd vs fell g k)' if self.gives else '(answer-is rd vs g)', ' (ea .0)' if self.lent else '', self.told),
                 'C Λ fm (λ α δ. known-see (to-see α δ)) (λ rs. known-rule (to-rule rs)) (λ β δ rd. known-after (to-after β δ rd)))']
         for a in args:
@@ -482,8 +495,8 @@ gave-is y vs d g k = LL.owes Res.the-type Res′.the-laws (gave y d) (answer-is 
 
 
 # what stores in the stash, and what it ensures
-TAKE = ('take', lambda rd, w, zs: '(%s ≡ cond (%s .takes) (getOf 8 (h .stash) .stash) (h .stash)) × (%s ≡ cond (%s .takes) (handedOf (getOf 8 (h .stash) .slot) (buffer .now)) (buffer .now))' % (w, rd, zs, rd))
-REFILL = ('refill', lambda rd, w, d: '(%s ≡ cond (%s .stores) (storeListOf 8 (h .stash) (list .now)) (h .stash)) × (%s ≡ cond (%s .stores) (droppedOf 8 (h .stash) (list .now)) noneDropped)' % (w, rd, d, rd))
+TAKE = ('take', lambda rd, w, zs: '(%s ≡ cond (%s .takes) (getOf (h .settings .capacity) (h .stash) .stash) (h .stash)) × (%s ≡ cond (%s .takes) (handedOf (getOf (h .settings .capacity) (h .stash) .slot) (buffer .now)) (buffer .now))' % (w, rd, zs, rd))
+REFILL = ('refill', lambda rd, w, d: '(%s ≡ cond (%s .stores) (storeListOf (h .settings .capacity) (h .stash) (list .now)) (h .stash)) × (%s ≡ cond (%s .stores) (droppedOf (h .settings .capacity) (h .stash) (list .now)) noneDropped)' % (w, rd, d, rd))
 
 
 def timer():
@@ -538,6 +551,7 @@ def reply_decoded():
 
 class Export(Thin):
     record, answer_is = ('embed_record', 'CAssociation', 'CSettings', 'CState'), struct
+    field = 5
 
 
 def reckonstile_timer():

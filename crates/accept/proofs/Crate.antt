@@ -38,7 +38,7 @@ module _ (a : Association) (stratum : ℕ) (local : List ℕ) (bloom : Bloom) wh
   -- where the new test does not hit, the answer is the crate's
   pub as-the-crate : served ≡ false → acceptOf a stratum local bloom ≡ crateAcceptOf a stratum local bloom
   unfolding acceptSeen crateAcceptOf wholeOf
-  as-the-crate h = ap (λ (l : Bool). acceptBy l (a .settings) (a .state) (seenOf 8 (a .stash)) stratum) (dropped ourself (isPresent bloom) h)
+  as-the-crate h = ap (λ (l : Bool). acceptBy l (a .settings) (a .state) (seenOf (a .settings .capacity) (a .stash)) stratum) (dropped ourself (isPresent bloom) h)
 
   -- so where the answer is not the crate's the new test hits, and the answer is 41
   pub differs : (acceptOf a stratum local bloom ≡ crateAcceptOf a stratum local bloom → ⊥) → (served ≡ true) × (acceptOf a stratum local bloom ≡ Loop)
@@ -77,3 +77,7 @@ module _ (a : Association) (stratum : ℕ) (local : List ℕ) (bloom : Bloom) wh
 pub neither : (a b : Association) (ours theirs : List ℕ) → ServedByUs a ours → ServedByUs b theirs → (stratum level : ℕ) (bloom filter : Bloom)
     → (acceptOf a stratum ours bloom ≡ Accepted → ⊥) × (acceptOf b level theirs filter ≡ Accepted → ⊥)
 neither a b ours theirs s t stratum level bloom filter = (never-accepted a stratum ours bloom s, never-accepted b level theirs filter t)
+
+-- with capacity 8 acceptance is what it was before there was a capacity (RULES, No. 12)
+pub accept-8 : (a : Association) → a .settings .capacity ≡ 8 → (stratum : ℕ) (local : List ℕ) (bloom : Bloom) → acceptOf a stratum local bloom ≡ acceptSeen (a .settings) (a .state) (seenOf 8 (a .stash)) stratum local bloom
+accept-8 a e stratum local bloom = ap (λ (c : ℕ). acceptSeen (a .settings) (a .state) (seenOf c (a .stash)) stratum local bloom) e

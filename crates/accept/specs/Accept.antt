@@ -59,7 +59,7 @@ unfoldable pub acceptSeen : Settings → State → Seen → ℕ → List ℕ →
 acceptSeen g s v stratum local bloom = acceptBy (loops (s .source .stratum) (g .source .0) (s .source .refid .0) local bloom) g s v stratum
 
 abbrev pub acceptOf : Association → ℕ → List ℕ → Bloom → AcceptAnswer
-acceptOf a stratum local bloom = acceptSeen (a .settings) (a .state) (seenOf 8 (a .stash)) stratum local bloom
+acceptOf a stratum local bloom = acceptSeen (a .settings) (a .state) (seenOf (a .settings .capacity) (a .stash)) stratum local bloom
 
 -- the crate's rule, which does not look at what the source reports; only theorems cite it (docs/DIFFERENCES.md)
 abbrev pub crateLoops : ℕ → ℕ → List ℕ → Bloom → Bool
@@ -67,4 +67,4 @@ crateLoops stratum id local bloom = isOurs stratum id local || isPresent bloom
 
 unfoldable pub crateAcceptOf : Association → ℕ → List ℕ → Bloom → AcceptAnswer
 crateAcceptOf a stratum local bloom =
-    acceptBy (crateLoops (a .state .source .stratum) (a .settings .source .0) local bloom) (a .settings) (a .state) (seenOf 8 (a .stash)) stratum
+    acceptBy (crateLoops (a .state .source .stratum) (a .settings .source .0) local bloom) (a .settings) (a .state) (seenOf (a .settings .capacity) (a .stash)) stratum

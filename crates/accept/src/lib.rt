@@ -4,7 +4,6 @@
 use association::Association;
 use association::Settings;
 use association::State;
-use cookiestash::CAPACITY;
 use cookiestash::Seen;
 ghost use mathlib.Core.Path.{_≡_};
 ghost use Rattle.accept.specs.Accept.{among, isPresent, isOurs, servedByUs, loops, numberOf, acceptSeen, acceptOf};
@@ -135,5 +134,12 @@ pub fn accept(a: Association, stratum: u8, local: &[u32], bloom: Bloom) -> Accep
     let settings = a.settings;
     let stash = a.stash;
     let state = a.state;
-    accept_seen(settings, state, stash.seen(CAPACITY), stratum, local, bloom)
+    accept_seen(
+        settings,
+        state,
+        stash.seen(settings.capacity),
+        stratum,
+        local,
+        bloom,
+    )
 }

@@ -30,7 +30,7 @@ whole-of a t e =
     let fourth = both _ _ (third .1) in
     record {
       settings = first .0;
-      stash = stash.whole-of 8 (a .stash) t (second .0);
+      stash = stash.whole-of (a .settings .capacity) (a .stash) t (second .0);
       counted = count-of (a .state .effort) (third .0);
       request = fourth .0;
       idle = fourth .1;
@@ -40,7 +40,7 @@ pub of-whole : (a : Association) → Whole a → wholeOf a ≡ true
 unfolding wholeOf wholeSeen
 of-whole a w =
     passes _ (w .settings)
-    ∙ passes _ (stash.of-whole 8 (a .stash) (w .stash))
+    ∙ passes _ (stash.of-whole (a .settings .capacity) (a .stash) (w .stash))
     ∙ passes _ (of-count (a .state .effort) (w .counted))
     ∙ passes _ (w .request)
     ∙ w .idle

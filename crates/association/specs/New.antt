@@ -27,11 +27,11 @@ out r a = record { answer = r; dropped = noneDropped; association = a }
 
 -- with NTS it takes a first cookie list
 unfoldable pub madeOf : Settings → List ℕ → Association
-madeOf s list = cond (s .nts) (withStash (freshOf s) (storeListOf 8 (freshOf s .stash) list)) (freshOf s)
+madeOf s list = cond (s .nts) (withStash (freshOf s) (storeListOf (s .capacity) (freshOf s .stash) list)) (freshOf s)
 
 -- and tells what of it fell out (RULES, No. 5)
 unfoldable pub firstDropped : Settings → List ℕ → Dropped
-firstDropped s list = cond (s .nts) (droppedOf 8 (freshOf s .stash) list) noneDropped
+firstDropped s list = cond (s .nts) (droppedOf (s .capacity) (freshOf s .stash) list) noneDropped
 
 abbrev pub newMade : Settings → List ℕ → NewOut
 newMade s list = record { answer = Made; dropped = firstDropped s list; association = madeOf s list }

@@ -1,4 +1,4 @@
--- The record: blank, new, and when it is whole (RULES, "Settings and a whole record").
+-- The record: blank, new, and when it is whole (RULES, "Settings and a whole record" and No. 12).
 -- Assumes nothing.
 use mathlib.Core.Bool.{Bool, false, not, cond, _&&_, _||_}
 use mathlib.Core.List.{List}
@@ -41,6 +41,7 @@ blankOf =
             start = version V4;
             nts = false;
             source = named 0;
+            capacity = 0;
           };
       stash = newOf;
       state =
@@ -88,8 +89,8 @@ pendingValid r = cond (r .present) (not (r .answered)) (eqb (r .id) 0 && (eqb (r
 unfoldable pub idleValid : Bool → ℕ → ℕ → List ℕ → Bool
 idleValid nts read held uid = nts || (eqb read 0 && (eqb held 0 && zeros uid))
 
--- a record is whole if its settings hold, its stash is whole (read < 8, held ≤ 8, free slots have length 0, bytes past a slot's stored bytes are zero), its unanswered polls are those of reach,
--- a pending request is unanswered, absent things are zero, and without NTS read, held and uid are zero
+-- a record is whole if its settings hold, its stash is whole (read < capacity, held ≤ capacity, free slots have length 0, those past the capacity too, bytes past a slot's stored bytes are zero),
+-- its unanswered polls are those of reach, a pending request is unanswered, absent things are zero, and without NTS read, held and uid are zero
 unfoldable pub wholeSeen : Settings → Seen → State → Bool
 wholeSeen s v q =
     settingsValid s
@@ -99,4 +100,4 @@ wholeSeen s v q =
     && idleValid (s .nts) (v .read) (v .held) (q .request .uid))))
 
 unfoldable pub wholeOf : Association → Bool
-wholeOf a = wholeSeen (a .settings) (seenOf 8 (a .stash)) (a .state)
+wholeOf a = wholeSeen (a .settings) (seenOf (a .settings .capacity) (a .stash)) (a .state)

@@ -10,7 +10,7 @@ use Rattle.association.specs.Record.{pendingValid, idleValid}
 
 pub record Whole (a : Association) : Type 0 where
   pub settings : settingsValid (a .settings) ≡ true
-  pub stash : stash.Whole 8 (a .stash)
+  pub stash : stash.Whole (a .settings .capacity) (a .stash)
   pub counted : a .state .effort .unanswered ≡ unansweredOf (a .state .effort .reach)
   pub request : pendingValid (a .state .request) ≡ true
   pub idle : idleValid (a .settings .nts) (a .stash .read) (a .stash .held) (a .state .request .uid) ≡ true

@@ -1,7 +1,6 @@
 // The association's settings and record, when a record is whole, and how a new one is made.
 // Promises: `new` gives 0 with a whole record, or 30 or 33 with the blank one, each exactly under its rule.
-// Rule: RULES, "Settings and a whole record" and No. 5; definitions in specs/Settings.antt, specs/Record.antt and specs/New.antt.
-use cookiestash::CAPACITY;
+// Rule: RULES, "Settings and a whole record", No. 5 and No. 12; definitions in specs/Settings.antt, specs/Record.antt and specs/New.antt.
 use cookiestash::CookieStash;
 use cookiestash::Dropped;
 use cookiestash::Seen;
@@ -35,6 +34,8 @@ pub struct Settings {
     pub nts: bool,
     // The source's own identifier.
     pub source: ReferenceId,
+    // How many cookies the stash holds at most.
+    pub capacity: u8,
 }
 
 // How the polls went: the reach register, and how many were sent.
@@ -116,7 +117,10 @@ impl Settings {
         if !between(1, self.startup as u64, 8) {
             return false;
         }
-        between(1, self.window, MAX_WINDOW)
+        if !between(1, self.window, MAX_WINDOW) {
+            return false;
+        }
+        between(1, self.capacity as u64, 8)
     }
 }
 
@@ -221,6 +225,7 @@ impl Association {
                 start: version,
                 nts: false,
                 source: ReferenceId(0),
+                capacity: 0,
             },
             stash,
             state: State {
@@ -251,7 +256,7 @@ impl Association {
         let settings = self.settings;
         let stash = self.stash;
         let state = self.state;
-        whole_seen(settings, stash.seen(CAPACITY), state)
+        whole_seen(settings, stash.seen(settings.capacity), state)
     }
 
     // A new association with its settings, before it has a cookie.
@@ -310,7 +315,7 @@ impl Association {
                 };
             }
             let empty = made.stash;
-            let stored = empty.store_list(CAPACITY, list);
+            let stored = empty.store_list(settings.capacity, list);
             let stash = stored.stash;
             made.stash = stash;
             let dropped = stored.dropped;

@@ -28,7 +28,7 @@ new-request : (s : Settings) (list : List ℕ) → newOf s list .association .st
 unfolding newOf madeOf freshOf blankOf
 new-request s list = by (settingsValid s) (listBroken (s .nts) list) (s .nts)
   where
-    kept : (n : Bool) → cond n (withStash (freshOf s) (storeListOf 8 (freshOf s .stash) list)) (freshOf s) .state .request ≡ noPending false
+    kept : (n : Bool) → cond n (withStash (freshOf s) (storeListOf (s .capacity) (freshOf s .stash) list)) (freshOf s) .state .request ≡ noPending false
     kept true = refl
     kept false = refl
 
@@ -36,7 +36,7 @@ new-request s list = by (settingsValid s) (listBroken (s .nts) list) (s .nts)
         cond {A = NewOut} h
         (cond b
         (out BrokenList blankOf)
-        (record { answer = Made; dropped = firstDropped s list; association = cond n (withStash (freshOf s) (storeListOf 8 (freshOf s .stash) list)) (freshOf s) }))
+        (record { answer = Made; dropped = firstDropped s list; association = cond n (withStash (freshOf s) (storeListOf (s .capacity) (freshOf s .stash) list)) (freshOf s) }))
         (out BadSettings blankOf) .association .state .request ≡ noPending false
     by true true n = refl
     by true false n = kept n

@@ -17,7 +17,7 @@ pub const SLOT_BYTES: usize = cookielist::MAX_COOKIE;
 // How many slots a stash has, and so the largest capacity.
 pub const MAX_COOKIES: usize = 8;
 
-// How many cookies a stash holds.
+// How many cookies the crate's stash holds: the capacity where none is chosen.
 pub const CAPACITY: u8 = 8;
 
 // The longest cookie that a slot's length can name.

@@ -41,6 +41,8 @@ pub mod new_key {
     pub const SOURCE: usize = 7;
 
     pub const LIST: usize = 8;
+
+    pub const CAPACITY: usize = 9;
 }
 
 mod accept_key {
@@ -85,6 +87,7 @@ pub fn settings_of(v: Values) -> Settings {
         start: version_of(v.number(new_key::START)),
         nts: v.number(new_key::NTS) == names::choice::YES,
         source: ReferenceId(v.unsigned32(new_key::SOURCE)),
+        capacity: v.unsigned8(new_key::CAPACITY),
     }
 }
 
@@ -93,7 +96,7 @@ pub fn new_values(line: &[u8], number: u64, out: &mut [u8]) -> Values {
     keys::read(
         line,
         number,
-        b"min:b max:b startup:u window:n mark:x start:v nts:y source:f list:h=-",
+        b"min:b max:b startup:u window:n mark:x start:v nts:y source:f list:h=- capacity:u=8",
         out,
     )
 }

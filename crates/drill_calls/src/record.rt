@@ -5,7 +5,6 @@ use association::Pending;
 use association::Settings;
 use association::Source;
 use association::State;
-use cookiestash::CAPACITY;
 use cookiestash::CookieStash;
 use cookiestash::MAX_COOKIES;
 use cookiestash::SLOT_BYTES;
@@ -70,6 +69,8 @@ mod field {
     pub const STARTUP: usize = 16;
 
     pub const WINDOW: usize = 17;
+
+    pub const CAPACITY: usize = 18;
 }
 
 fn put_version(out: &mut [u8], at: usize, version: Version) -> usize {
@@ -185,7 +186,9 @@ pub fn show(a: Association, line: &[u8], number: u64, out: &mut [u8]) -> Ran {
     let at = put_answers(out, at, state);
     let stash = a.stash;
     let at = put_stash(out, at, stash);
-    let end = put_since(out, at, state);
+    let at = put_since(out, at, state);
+    let settings = a.settings;
+    let end = print::number(out, at, b" capacity=", settings.capacity as u64);
     Ran {
         association: a,
         end,
@@ -199,13 +202,13 @@ fn put_cookie(out: &mut [u8], at: usize, slot: Slot) -> usize {
 }
 
 // The cookies of a stash, oldest first.
-fn put_cookies(out: &mut [u8], from: usize, stash: CookieStash) -> usize {
+fn put_cookies(out: &mut [u8], from: usize, stash: CookieStash, capacity: u8) -> usize {
     let mut rest = stash;
     let mut at = from;
     let mut separator = b' ';
     let mut i: usize = 0;
     while i < MAX_COOKIES {
-        let taken = rest.get(CAPACITY);
+        let taken = rest.get(capacity);
         if !taken.found {
             return at;
         }
@@ -237,7 +240,8 @@ pub fn cookies(a: Association, line: &[u8], number: u64, out: &mut [u8]) -> Ran 
     }
     let stash = a.stash;
     let at = print::number(out, 0, b"cookies ", stash.held as u64);
-    let end = put_cookies(out, at, stash);
+    let settings = a.settings;
+    let end = put_cookies(out, at, stash, settings.capacity);
     Ran {
         association: a,
         end,
@@ -384,6 +388,9 @@ fn poke_settings(settings: Settings, key: usize, n: u64) -> Settings {
         field::STARTUP => {
             next.startup = small;
         }
+        field::CAPACITY => {
+            next.capacity = small;
+        }
         _ => {
             next.window = n;
         }
@@ -449,7 +456,7 @@ fn poke_by(
     Ran { association, end }
 }
 
-// The keys of poke: reach, tries, unanswered, stratum and startup are unsigned 8-bit numbers, refid is 8 hexadecimal digits, last, remote, min
+// The keys of poke: reach, tries, unanswered, stratum, startup and capacity are unsigned 8-bit numbers, refid is 8 hexadecimal digits, last, remote, min
 // and max are signed 8-bit numbers, deadline, read, held and window unsigned 64-bit ones, id 16 digits, uid 32 bytes, answered 0 or 1, slotbyte a byte of a slot.
 pub fn poke(a: Association, line: &[u8], number: u64, out: &mut [u8]) -> Ran {
     let v = keys::read(line, number, b"key:t value:t", out);
@@ -463,7 +470,7 @@ pub fn poke(a: Association, line: &[u8], number: u64, out: &mut [u8]) -> Ran {
         a,
         v.text(poke_key::KEY, line),
         v.text(poke_key::VALUE, line),
-        b"reach:u tries:u unanswered:u stratum:u refid:f last:b remote:b id:x deadline:n uid:i answered:a read:n held:n slotbyte:p min:b max:b startup:u window:n",
+        b"reach:u tries:u unanswered:u stratum:u refid:f last:b remote:b id:x deadline:n uid:i answered:a read:n held:n slotbyte:p min:b max:b startup:u window:n capacity:u",
         number,
         out,
     )

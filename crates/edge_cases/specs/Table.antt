@@ -35,6 +35,8 @@ use Rattle.time_types.specs.Poll.{afterRate}
 pub data Case : Type 0 where
   -- any nine cookies stored: the second comes out first
   nine-stored : Case
+  -- and in a stash of four the sixth (RULES, No. 12)
+  nine-in-four : Case
   -- a reach register and its count of unanswered polls
   counts : (reach count : ℕ) → Case
   -- a reach register, polled
@@ -89,6 +91,11 @@ Right nine-stored =
     AllShort (a ∷ b ∷ c ∷ d ∷ e ∷ f ∷ g ∷ h ∷ i ∷ []) →
     (getOf 8 (storeAll 8 newOf (a ∷ b ∷ c ∷ d ∷ e ∷ f ∷ g ∷ h ∷ i ∷ [])) .found ≡ true)
     × (getOf 8 (storeAll 8 newOf (a ∷ b ∷ c ∷ d ∷ e ∷ f ∷ g ∷ h ∷ i ∷ [])) .slot ≡ slotOf b)
+Right nine-in-four =
+    (a b c d e f g h i : List ℕ) →
+    AllShort (a ∷ b ∷ c ∷ d ∷ e ∷ f ∷ g ∷ h ∷ i ∷ []) →
+    (getOf 4 (storeAll 4 newOf (a ∷ b ∷ c ∷ d ∷ e ∷ f ∷ g ∷ h ∷ i ∷ [])) .found ≡ true)
+    × (getOf 4 (storeAll 4 newOf (a ∷ b ∷ c ∷ d ∷ e ∷ f ∷ g ∷ h ∷ i ∷ [])) .slot ≡ slotOf f)
 Right (counts r n) = unansweredOf (record { 0 = r }) ≡ n
 Right (polled r n) = polledOf (record { 0 = r }) ≡ record { 0 = n }
 Right (asks gap len n k) =
@@ -114,6 +121,7 @@ All (c ∷ cs) = Right c × All cs
 abbrev pub table : List Case
 table =
     nine-stored
+    ∷ nine-in-four
     ∷ counts 0 8
     ∷ counts 128 7
     ∷ polled 128 0

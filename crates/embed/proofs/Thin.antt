@@ -58,8 +58,9 @@ module _ (a : CAssociation) where
     refused e = rw e
 
     -- what was seen, decided and left
-    pub timer-told : (rs : Seen) (d : CDecision) (w : CookieStash) (zs : List ℕ) → rs ≡ seenOf 8 (a .stash) → d ≡ decideOf (a .settings) (a .state) rs i (length ys)
-        → w ≡ cond (d .takes) (getOf 8 (a .stash) .stash) (a .stash) → zs ≡ cond (d .takes) (handedOf (getOf 8 (a .stash) .slot) ys) ys → Leaves d w zs
+    pub timer-told : (rs : Seen) (d : CDecision) (w : CookieStash) (zs : List ℕ) → rs ≡ seenOf (a .settings .capacity) (a .stash) → d ≡ decideOf (a .settings) (a .state) rs i (length ys)
+        → w ≡ cond (d .takes) (getOf (a .settings .capacity) (a .stash) .stash) (a .stash) → zs ≡ cond (d .takes) (handedOf (getOf (a .settings .capacity) (a .stash) .slot) ys) ys → Leaves d w zs
+    unfolding settingsIn
     timer-told rs d w zs es ed ew ez = by (ok a) refl
       where
         by : (b : Bool) → ok a ≡ b → Leaves d w zs
@@ -69,13 +70,13 @@ module _ (a : CAssociation) where
             (λ j. timerGave (k j .answer) (kept e w (k j .state) j) zs)
             ∙ (ap timerPacked
             (timer.told (unpack a) (inputIn i) ys rs r w zs es refl
-            (ew ∙ ap (λ (c : CDecision). cond (c .takes) (getOf 8 (a .stash) .stash) (a .stash)) k)
-            (ez ∙ ap (λ (c : CDecision). cond (c .takes) (handedOf (getOf 8 (a .stash) .slot) ys) ys) k))
+            (ew ∙ ap (λ (c : CDecision). cond (c .takes) (getOf (a .settings .capacity) (a .stash) .stash) (a .stash)) k)
+            (ez ∙ ap (λ (c : CDecision). cond (c .takes) (handedOf (getOf (a .settings .capacity) (a .stash) .slot) ys) ys) k))
             ∙ sym (calls e))
         by false e =
             let k = ed ∙ refuses e rs in
-            let l : w ≡ a .stash = ew ∙ ap (λ (c : CDecision). cond (c .takes) (getOf 8 (a .stash) .stash) (a .stash)) k in
-            let m : zs ≡ ys = ez ∙ ap (λ (c : CDecision). cond (c .takes) (handedOf (getOf 8 (a .stash) .slot) ys) ys) k in
+            let l : w ≡ a .stash = ew ∙ ap (λ (c : CDecision). cond (c .takes) (getOf (a .settings .capacity) (a .stash) .stash) (a .stash)) k in
+            let m : zs ≡ ys = ez ∙ ap (λ (c : CDecision). cond (c .takes) (handedOf (getOf (a .settings .capacity) (a .stash) .slot) ys) ys) k in
             (λ j. timerGave (k j .answer) (made (a .settings) (l j) (k j .state)) (m j)) ∙ sym (refused e)
 
   -- ---- the reply
@@ -96,8 +97,9 @@ module _ (a : CAssociation) where
     rejected e = rw e
 
     -- what was seen, judged, left and fell out
-    pub reply-told : (rs : Seen) (v : CVerdict) (w : CookieStash) (d : Dropped) → rs ≡ seenOf 8 (a .stash) → v ≡ judgeOf (a .settings) (a .state) rs read t
-        → w ≡ cond (v .stores) (storeListOf 8 (a .stash) (t .list)) (a .stash) → d ≡ cond (v .stores) (droppedOf 8 (a .stash) (t .list)) noneDropped → Replies v w d
+    pub reply-told : (rs : Seen) (v : CVerdict) (w : CookieStash) (d : Dropped) → rs ≡ seenOf (a .settings .capacity) (a .stash) → v ≡ judgeOf (a .settings) (a .state) rs read t
+        → w ≡ cond (v .stores) (storeListOf (a .settings .capacity) (a .stash) (t .list)) (a .stash) → d ≡ cond (v .stores) (droppedOf (a .settings .capacity) (a .stash) (t .list)) noneDropped → Replies v w d
+    unfolding settingsIn
     reply-told rs v w d es ev ew ed = by (ok a) refl
       where
         by : (b : Bool) → ok a ≡ b → Replies v w d
@@ -107,16 +109,16 @@ module _ (a : CAssociation) where
             (λ j. replyGave (withDropped (k j .answer) d) (kept e w (k j .state) j))
             ∙ (ap replyPacked
             (reply.told (unpack a) read t rs r w d es refl
-            (ew ∙ ap (λ (c : CVerdict). cond (c .stores) (storeListOf 8 (a .stash) (t .list)) (a .stash)) k)
-            (ed ∙ ap (λ (c : CVerdict). cond (c .stores) (droppedOf 8 (a .stash) (t .list)) noneDropped) k))
+            (ew ∙ ap (λ (c : CVerdict). cond (c .stores) (storeListOf (a .settings .capacity) (a .stash) (t .list)) (a .stash)) k)
+            (ed ∙ ap (λ (c : CVerdict). cond (c .stores) (droppedOf (a .settings .capacity) (a .stash) (t .list)) noneDropped) k))
             ∙ sym (answers e))
         by false e =
             let k = ev ∙ rejects e rs in
-            let l : w ≡ a .stash = ew ∙ ap (λ (c : CVerdict). cond (c .stores) (storeListOf 8 (a .stash) (t .list)) (a .stash)) k in
-            let m : d ≡ noneDropped = ed ∙ ap (λ (c : CVerdict). cond (c .stores) (droppedOf 8 (a .stash) (t .list)) noneDropped) k in
+            let l : w ≡ a .stash = ew ∙ ap (λ (c : CVerdict). cond (c .stores) (storeListOf (a .settings .capacity) (a .stash) (t .list)) (a .stash)) k in
+            let m : d ≡ noneDropped = ed ∙ ap (λ (c : CVerdict). cond (c .stores) (droppedOf (a .settings .capacity) (a .stash) (t .list)) noneDropped) k in
             (λ j. replyGave (withDropped (k j .answer) (m j)) (made (a .settings) (l j) (k j .state))) ∙ sym (rejected e)
 
   -- ---- accept
-  pub accept-told : (rs : Seen) (stratum : ℕ) (local : List ℕ) (bloom : ℕ) → rs ≡ seenOf 8 (a .stash) → acceptedOf (a .settings) (a .state) rs stratum local bloom ≡ acceptCall a stratum local bloom
-  unfolding acceptedOf acceptCall
+  pub accept-told : (rs : Seen) (stratum : ℕ) (local : List ℕ) (bloom : ℕ) → rs ≡ seenOf (a .settings .capacity) (a .stash) → acceptedOf (a .settings) (a .state) rs stratum local bloom ≡ acceptCall a stratum local bloom
+  unfolding acceptedOf acceptCall settingsIn
   accept-told rs stratum local bloom es = ap (λ (v : Seen). acceptedOf (a .settings) (a .state) v stratum local bloom) es

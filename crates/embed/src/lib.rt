@@ -3,7 +3,6 @@
 // Rule: RULES, parts 7 and 10 to 12, and No. 1, No. 5, No. 6, No. 9, No. 11 and No. 13; definitions in specs/Calls.antt and specs/Written.antt, of the
 // tools in embed_tools, of the hand-over file in embed_handover.
 use collector::Collected;
-use cookiestash::CAPACITY;
 use cookiestash::Dropped;
 use embed_record::CAssociation;
 use embed_record::CSettings;
@@ -107,8 +106,8 @@ pub extern "C" fn reckonstile_timer(
 ) -> CTimerAnswer
     ensures { λ r. ⌜ timerGave r (now (a .exit)) (now (buffer .exit)) ≡ timerCall (now (a .entry)) (input time desired id uid) (now (buffer .entry)) ⌝ }
 {
-    let seen = lent_stash::see(&a.stash, CAPACITY);
     let settings = a.settings;
+    let seen = lent_stash::see(&a.stash, settings.capacity);
     let state = a.state;
     let input = CInput {
         time,
@@ -118,7 +117,7 @@ pub extern "C" fn reckonstile_timer(
     };
     let decision = embed_rules::decide(settings, state, seen, input, buffer.len());
     a.state = decision.state;
-    lent_stash::take(&mut a.stash, CAPACITY, decision.takes, buffer);
+    lent_stash::take(&mut a.stash, settings.capacity, decision.takes, buffer);
     decision.answer
 }
 
@@ -143,8 +142,8 @@ pub extern "C" fn reckonstile_reply(
 ) -> CReplied
     ensures { λ r. ⌜ replyGave r (now (a .exit)) ≡ replyCall (now (a .entry)) (now (packet .entry)) end (now (decrypted .entry)) (arrival (now (list .entry)) t1 t4 time) ⌝ }
 {
-    let seen = lent_stash::see(&a.stash, CAPACITY);
     let settings = a.settings;
+    let seen = lent_stash::see(&a.stash, settings.capacity);
     let state = a.state;
     let verdict = embed_rules::judge_packet(
         settings,
@@ -159,7 +158,7 @@ pub extern "C" fn reckonstile_reply(
         time,
     );
     a.state = verdict.state;
-    let dropped = lent_stash::refill(&mut a.stash, CAPACITY, verdict.stores, list);
+    let dropped = lent_stash::refill(&mut a.stash, settings.capacity, verdict.stores, list);
     CReplied {
         answer: verdict.answer,
         dropped,
@@ -178,12 +177,12 @@ pub extern "C" fn reckonstile_reply_decoded(
 ) -> CReplied
     ensures { λ r. ⌜ replyGave r (now (a .exit)) ≡ decodedCall (now (a .entry)) d (arrival (now (list .entry)) t1 t4 time) ⌝ }
 {
-    let seen = lent_stash::see(&a.stash, CAPACITY);
     let settings = a.settings;
+    let seen = lent_stash::see(&a.stash, settings.capacity);
     let state = a.state;
     let verdict = embed_rules::judge_decoded(settings, state, seen, d, list, t1, t4, time);
     a.state = verdict.state;
-    let dropped = lent_stash::refill(&mut a.stash, CAPACITY, verdict.stores, list);
+    let dropped = lent_stash::refill(&mut a.stash, settings.capacity, verdict.stores, list);
     CReplied {
         answer: verdict.answer,
         dropped,
@@ -200,8 +199,8 @@ pub extern "C" fn reckonstile_accept(
 ) -> u32
     ensures { λ r. ⌜ r ≡ acceptCall (now (a .entry)) stratum (now (local .entry)) bloom ⌝ }
 {
-    let seen = lent_stash::see(&a.stash, CAPACITY);
     let settings = a.settings;
+    let seen = lent_stash::see(&a.stash, settings.capacity);
     let state = a.state;
     embed_rules::accept(settings, state, seen, stratum, local, bloom)
 }

@@ -87,7 +87,7 @@ pub settings-back : (s : Settings) → unpackSettings (packSettings s) ≡ recor
 unfolding packSettings settingsIn
 settings-back s =
     λ i. record {
-      ok = version-named (s .start .kind) i && truth-named (s .nts) i;
+      ok = version-named (s .start .kind) i && (truth-named (s .nts) i && true);
       settings =
           record {
             min = s .min;
@@ -98,19 +98,24 @@ settings-back s =
             start = record { kind = version-back (s .start .kind) i };
             nts = truth-back (s .nts) i;
             source = s .source;
+            capacity = s .capacity;
           };
     }
 
 pub csettings-back : (c : CSettings) → settingsOk c ≡ true → packSettings (settingsIn c) ≡ c
 unfolding packSettings settingsIn
 csettings-back c e =
-    let name = name-back (c .start) (c .left) (left-true _ (isBit (c .nts)) e) in
+    let kind = isKind (c .start) (c .left) in
+    let rest = right-true kind _ e in
+    let name = name-back (c .start) (c .left) (left-true kind _ e) in
     λ i. record {
       window = c .window;
       upgrademark = c .upgrademark;
       source = c .source;
       start = name .0 i;
-      nts = bit-back (c .nts) (right-true (isKind (c .start) (c .left)) _ e) i;
+      nts = bit-back (c .nts) (left-true _ (eqb (c .spare) 0) rest) i;
+      capacity = c .capacity;
+      spare = sym (eqb-true (c .spare) 0 (right-true (isBit (c .nts)) _ rest)) i;
       left = name .1 i;
       startup = c .startup;
       min = c .min;

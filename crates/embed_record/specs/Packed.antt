@@ -1,6 +1,7 @@
 -- The record that a caller from C or Rust holds, and the record of the rules.
 -- Assumes nothing.
 use mathlib.Core.Bool.{Bool, _&&_}
+use lib.Dec.{eqb}
 use Rattle.cookiestash.specs.declared.CookieStash.{CookieStash}
 use Rattle.association.specs.declared.Settings.{Settings}
 use Rattle.association.specs.declared.State.{State}
@@ -14,8 +15,9 @@ use Rattle.embed_record.specs.Codes.{isKind, versionIn, kindOut, leftOut
 
 -- ---- settings
 
+-- the spare byte is zero
 abbrev pub settingsOk : CSettings → Bool
-settingsOk c = isKind (c .start) (c .left) && isBit (c .nts)
+settingsOk c = isKind (c .start) (c .left) && (isBit (c .nts) && eqb (c .spare) 0)
 
 unfoldable pub settingsIn : CSettings → Settings
 settingsIn c =
@@ -28,6 +30,7 @@ settingsIn c =
       start = versionIn (c .start) (c .left);
       nts = truth (c .nts);
       source = c .source;
+      capacity = c .capacity;
     }
 
 abbrev pub unpackSettings : CSettings → UnpackedSettings
@@ -41,6 +44,8 @@ packSettings s =
       source = s .source;
       start = kindOut (s .start .kind);
       nts = bitOf (s .nts);
+      capacity = s .capacity;
+      spare = 0;
       left = leftOut (s .start .kind);
       startup = s .startup;
       min = s .min;

@@ -28,7 +28,11 @@ pub struct CSettings {
     // The version to start with: 0 V4, 1 upgrading, 2 upgraded, 3 V5.
     pub start: u32,
     // 0 or 1.
-    pub nts: u32,
+    pub nts: u16,
+    // How many cookies the stash holds at most.
+    pub capacity: u8,
+    // 0: so that nothing else lies between the fields.
+    pub spare: u8,
     // The tries that are left while upgrading; else 0.
     pub left: u8,
     pub startup: u8,
@@ -187,7 +191,9 @@ pub fn unpack_settings(c: CSettings) -> UnpackedSettings
 {
     let kind = is_kind(c.start, c.left);
     let flag = is_bit(c.nts as u64);
-    let ok = both(kind, flag);
+    let none = c.spare == 0;
+    let rest = both(flag, none);
+    let ok = both(kind, rest);
     let start = version_in(c.start, c.left);
     let nts = truth(c.nts as u64);
     let min = c.min;
@@ -202,6 +208,7 @@ pub fn unpack_settings(c: CSettings) -> UnpackedSettings
         start,
         nts,
         source,
+        capacity: c.capacity,
     };
     UnpackedSettings { ok, settings }
 }
@@ -221,7 +228,9 @@ pub fn pack_settings(s: Settings) -> CSettings
         upgrademark: s.upgrademark,
         source,
         start,
-        nts: nts as u32,
+        nts: nts as u16,
+        capacity: s.capacity,
+        spare: 0,
         left,
         startup: s.startup,
         min,

@@ -1,4 +1,4 @@
--- Where the bodies of a file lie that has its six records: all but the stash's have a fixed length, so the file's length says the rest.
+-- Where the bodies of a file lie that has its six records: the settings say how long they are, all behind the stash's body has a fixed length, so the file's length says the rest.
 -- Assumes nothing.
 use Prim.Native.Nat.{ℕ, _+_, _-_, _≤_}
 use mathlib.Core.Path.{_≡_, refl, sym, ap, _∙_}
@@ -11,9 +11,9 @@ use lib.Dec.{eqb}
 use lib.ListN.{length, drop, length-drop}
 use Rattle.words.specs.Bytes.{part}
 use Rattle.words.proofs.Bytes.{length-part}
-use Rattle.handover_file.specs.Sections.{Shape, Cut, bodies, misplaced, missized, before, cutAs}
+use Rattle.handover_file.specs.Sections.{Shape, bodyLength, Cut, bodies, misplaced, missized, before, cutAs}
 use Rattle.handover_file.specs.Cookies.{stashFits}
-use Rattle.handover_file.specs.File.{sized, shapes}
+use Rattle.handover_file.specs.File.{sized, settingsFits, shapes}
 use Rattle.handover_cut.specs.declared.Place as P
 use Rattle.handover_cut.specs.declared.Stop.the-variants.{Good}
 use Rattle.handover_cut.specs.Steps.{placeAt, lengthAt, stopOf}
@@ -49,6 +49,7 @@ stop-good missized e = let o : _≡_ {A = ℕ} 0 1 = cc in absurd (omega arith)
 
 record First (f : List ℕ) (at : ℕ) (s : Shape) (ss : List Shape) (bs : List (List ℕ)) : Type 0 where
   size : ℕ
+  said : size ≡ lengthAt f at
   others : List (List ℕ)
   inside : at + 4 + size ≤ length f
   is : bs ≡ part f (at + 4) size ∷ others
@@ -69,6 +70,7 @@ first f at s ss bs h e = go (placeAt f at (s .mark)) refl (view f at (s .mark))
         let g = cond-good (s .fits b) b c bs (sym (step f at h s ss _ q) ∙ e) in
         record {
           size = k;
+          said = refl;
           others = listOf c;
           inside = w;
           is = g .2 ∙ ap (λ (j : ℕ). part f (at + 4) j ∷ listOf c) d;
@@ -89,14 +91,14 @@ last f at bs e = go (eqb (length (drop at f)) 0) refl e
 
 -- ---- all six
 
--- the bodies of a file whose stash's body has n bytes
-abbrev pub partsAt : List ℕ → ℕ → List (List ℕ)
-partsAt f n = part f 4 26 ∷ part f 34 n ∷ part f (38 + n) 2 ∷ part f (44 + n) 2 ∷ part f (50 + n) 2 ∷ part f (56 + n) 6 ∷ []
+-- the bodies of a file whose settings have k bytes, and whose stash's body ends at an offset
+abbrev pub partsAt : List ℕ → ℕ → ℕ → List (List ℕ)
+partsAt f k e = part f 4 k ∷ part f (8 + k) (e - (8 + k)) ∷ part f (e + 4) 2 ∷ part f (e + 10) 2 ∷ part f (e + 16) 2 ∷ part f (e + 22) 6 ∷ []
 
 pub record Six (f : List ℕ) : Type 0 where
-  pub long : 62 ≤ length f
-  pub cuts : cutAs shapes f ≡ bodies (partsAt f (length f - 62))
-  pub stash : stashFits (part f 34 (length f - 62)) ≡ true
+  pub long : 36 + bodyLength f ≤ length f
+  pub cuts : cutAs shapes f ≡ bodies (partsAt f (bodyLength f) (length f - 28))
+  pub stash : stashFits (part f (8 + bodyLength f) (length f - 28 - (8 + bodyLength f))) ≡ true
 
 part-same : (f : List ℕ) {x y m n : ℕ} → x ≡ y → m ≡ n → part f x m ≡ part f y n
 part-same f p q = λ i. part f (p i) (q i)
@@ -120,10 +122,18 @@ from₂ = sized 0x5245 2 ∷ from₃
 abbrev stashed : Shape
 stashed = record { mark = 0x5354; fits = stashFits }
 
+abbrev settled : Shape
+settled = record { mark = 0x5345; fits = settingsFits }
+
+-- the length that stands first in a file
+said-first : (f : List ℕ) → lengthAt f 0 ≡ bodyLength f
+unfolding lengthAt bodyLength
+said-first f = refl
+
 pub six : (f : List ℕ) → stopOf (cutAs shapes f) ≡ Good → Six f
-six f e =
+six f g =
     let bs = listOf (cutAs shapes f) in
-    let r₀ : First f 0 (sized 0x5345 26) (stashed ∷ from₂) bs = first f 0 (sized 0x5345 26) (stashed ∷ from₂) bs (omega arith) (stop-good (cutAs shapes f) e) in
+    let r₀ : First f 0 settled (stashed ∷ from₂) bs = first f 0 settled (stashed ∷ from₂) bs (omega arith) (stop-good (cutAs shapes f) g) in
     let a₁ = 0 + 4 + r₀ .size in
     let r₁ : First f a₁ stashed from₂ (r₀ .others) = first f a₁ stashed from₂ (r₀ .others) (r₀ .inside) (r₀ .next) in
     let a₂ = a₁ + 4 + r₁ .size in
@@ -135,22 +145,24 @@ six f e =
     let a₅ = a₄ + 4 + r₄ .size in
     let r₅ : First f a₅ (sized 0x534F 6) [] (r₄ .others) = first f a₅ (sized 0x534F 6) [] (r₄ .others) (r₄ .inside) (r₄ .next) in
     let l = last f (a₅ + 4 + r₅ .size) (r₅ .others) (r₅ .next) in
-    let s₀ : r₀ .size ≡ 26 = size-is f 0 0x5345 26 (stashed ∷ from₂) bs r₀ in
+    let k = bodyLength f in
+    let e = length f - 28 in
+    let s₀ : r₀ .size ≡ k = r₀ .said ∙ said-first f in
     let s₂ : r₂ .size ≡ 2 = size-is f a₂ 0x5245 2 from₃ (r₁ .others) r₂ in
     let s₃ : r₃ .size ≡ 2 = size-is f a₃ 0x5645 2 from₄ (r₂ .others) r₃ in
     let s₄ : r₄ .size ≡ 2 = size-is f a₄ 0x504F 2 from₅ (r₃ .others) r₄ in
     let s₅ : r₅ .size ≡ 6 = size-is f a₅ 0x534F 6 [] (r₄ .others) r₅ in
     let in₅ : a₅ + 4 + r₅ .size ≤ length f = r₅ .inside in
     let out₅ : length f ≤ a₅ + 4 + r₅ .size = l .1 in
-    let n : r₁ .size ≡ length f - 62 = omega arith in
-    let b₀ : part f (0 + 4) (r₀ .size) ≡ part f 4 26 = part-same f (omega arith) s₀ in
-    let b₁ : part f (a₁ + 4) (r₁ .size) ≡ part f 34 (length f - 62) = part-same f (omega arith) n in
-    let b₂ : part f (a₂ + 4) (r₂ .size) ≡ part f (38 + (length f - 62)) 2 = part-same f (omega arith) s₂ in
-    let b₃ : part f (a₃ + 4) (r₃ .size) ≡ part f (44 + (length f - 62)) 2 = part-same f (omega arith) s₃ in
-    let b₄ : part f (a₄ + 4) (r₄ .size) ≡ part f (50 + (length f - 62)) 2 = part-same f (omega arith) s₄ in
-    let b₅ : part f (a₅ + 4) (r₅ .size) ≡ part f (56 + (length f - 62)) 6 = part-same f (omega arith) s₅ in
+    let n : r₁ .size ≡ e - (8 + k) = omega arith in
+    let b₀ : part f (0 + 4) (r₀ .size) ≡ part f 4 k = part-same f (omega arith) s₀ in
+    let b₁ : part f (a₁ + 4) (r₁ .size) ≡ part f (8 + k) (e - (8 + k)) = part-same f (omega arith) n in
+    let b₂ : part f (a₂ + 4) (r₂ .size) ≡ part f (e + 4) 2 = part-same f (omega arith) s₂ in
+    let b₃ : part f (a₃ + 4) (r₃ .size) ≡ part f (e + 10) 2 = part-same f (omega arith) s₃ in
+    let b₄ : part f (a₄ + 4) (r₄ .size) ≡ part f (e + 16) 2 = part-same f (omega arith) s₄ in
+    let b₅ : part f (a₅ + 4) (r₅ .size) ≡ part f (e + 22) 6 = part-same f (omega arith) s₅ in
     record {
       long = omega arith;
-      cuts = stop-good (cutAs shapes f) e ∙ ap bodies (linked (r₀ .is) b₀ (linked (r₁ .is) b₁ (linked (r₂ .is) b₂ (linked (r₃ .is) b₃ (linked (r₄ .is) b₄ (linked (r₅ .is) b₅ (l .0)))))));
+      cuts = stop-good (cutAs shapes f) g ∙ ap bodies (linked (r₀ .is) b₀ (linked (r₁ .is) b₁ (linked (r₂ .is) b₂ (linked (r₃ .is) b₃ (linked (r₄ .is) b₄ (linked (r₅ .is) b₅ (l .0)))))));
       stash = sym (ap stashFits b₁) ∙ r₁ .fits;
     }

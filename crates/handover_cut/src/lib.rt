@@ -1,8 +1,10 @@
 // The reader's way through the hand-over file: its records one by one, in their order, and the cookies in the stash's body.
 // Promises: of any bytes whether all six records are there and nothing else, or which of a wrong mark (61) and a wrong length (62) is the first in the file.
-// Rule: RULES, No. 6; the file is defined in `handover_file`, the steps at an offset in specs/Steps.antt.
+// Rule: RULES, No. 6 and No. 12; the file is defined in `handover_file`, the steps at an offset in specs/Steps.antt.
 ghost use mathlib.Core.Path.{_≡_};
+ghost use mathlib.Core.Bool.{_||_};
 ghost use Prim.Native.Nat.{_<_};
+ghost use lib.Dec.{eqb};
 ghost use Rattle.handover_file.specs.Sections.{cutAs};
 ghost use Rattle.handover_file.specs.Cookies.{stashFits};
 ghost use Rattle.handover_file.specs.File.{shapes};
@@ -20,6 +22,11 @@ const VERSION_MARK: u16 = 0x5645;
 const POLLS_MARK: u16 = 0x504F;
 
 const SOURCE_MARK: u16 = 0x534F;
+
+// How many bytes the settings have; those of a file of before, which has no capacity, have one less.
+const SETTINGS_LENGTH: usize = 27;
+
+const OLD_LENGTH: usize = 26;
 
 // How many records a file has.
 const RECORDS: usize = 6;
@@ -150,13 +157,23 @@ fn mark_of(i: usize) -> u16
     SOURCE_MARK
 }
 
+// Whether so many bytes are settings.
+fn settings_fit(n: usize) -> bool
+    ensures { λ r. ⌜ r ≡ (eqb n 27 || eqb n 26) ⌝ }
+{
+    if n == SETTINGS_LENGTH {
+        return true;
+    }
+    n == OLD_LENGTH
+}
+
 // Whether a body is one of that record.
 fn fits(i: usize, b: &[u8]) -> bool
     requires { ⌜ i < 6 ⌝ }
     ensures { λ r. ⌜ r ≡ shapeAt i .fits (now (b .entry)) ⌝ }
 {
     if i == 0 {
-        return b.len() == 26;
+        return settings_fit(b.len());
     }
     if i == 1 {
         return stash_fits(b);

@@ -8,7 +8,7 @@ use native.Mathlib.Decide.{ℕ-discrete}
 use native.Mathlib.Nat.{mod-eq-of-lt}
 use native.Mathlib.Omega.{arith}
 use borrow.Author.Tests.{le-ltb, lt-ltb, le-leb, lt-leb, eq-eqb, ne-eqb, leb-true, ltb-true, ltb-false, eqb-true}
-use lib.Dec.{ltb, eqb, eqb·suc-zero}
+use lib.Dec.{ltb, leb, eqb, eqb·suc-zero}
 use lib.ListN.{length, getD, drop, replicate, length-append, length-replicate, length-set, getD-replicate}
 use lib.Seq.{take-at, drop-at, drop-drop, drop-cons, length-take-le, getD-drop}
 use Rattle.words.specs.Bytes.{be, part, toBe}
@@ -150,122 +150,129 @@ cookies-keep cap s w = all-keep (queue cap s) (walk-whole cap (s .slots) (w .eac
 
 -- ---- the stash, laid cookie by cookie
 
--- t is s with the cookies behind its newest
-pub record Laid (s t : CookieStash) (cs : List Cookie) : Type 0 where
-  pub whole : Whole 8 t
+-- t is s, of a capacity, with the cookies behind its newest
+pub record Laid (cap : ℕ) (s t : CookieStash) (cs : List Cookie) : Type 0 where
+  pub whole : Whole cap t
   pub eight : length (t .slots) ≡ 8
   pub reads : t .read ≡ s .read
-  pub holds : cookies 8 t ≡ cookies 8 s ++ cs
-
-pub put-held : (s : CookieStash) (x : Slot) → s .held < 8 → (putOf 8 s x .read ≡ s .read) × (putOf 8 s x .held ≡ s .held + 1) × (length (putOf 8 s x .slots) ≡ length (s .slots))
-unfolding putOf full
-put-held s x l = (rw (lt-leb 8 (s .held) l), rw (lt-leb 8 (s .held) l), length-set (s .slots) (wrap 8 (s .read + s .held)) x)
+  pub holds : cookies cap t ≡ cookies cap s ++ cs
 
 map-append : (xs : List Slot) (x : Slot) → map seen (xs ++ (x ∷ [])) ≡ map seen xs ++ (seen x ∷ [])
 map-append [] x = refl
 map-append (y ∷ xs) x = ap (λ (l : List Cookie). seen y ∷ l) (map-append xs x)
 
-put-holds : (s : CookieStash) (w : Whole 8 s) (c : Cookie) → Keeps c → s .held < 8 → cookies 8 (putOf 8 s (slotFor c)) ≡ cookies 8 s ++ (c ∷ [])
-unfolding cookies
-put-holds s w c k l =
-    ap (map seen) (put-room 8 s (w .reads) (w .room) (slotFor c) l)
-    ∙ map-append (queue 8 s) (slotFor c)
-    ∙ ap (λ (d : Cookie). map seen (queue 8 s) ++ (d ∷ [])) (seen-slot c k)
+module _ (cap : ℕ) where
+  pub put-held : (s : CookieStash) (x : Slot) → s .held < cap → (putOf cap s x .read ≡ s .read) × (putOf cap s x .held ≡ s .held + 1) × (length (putOf cap s x .slots) ≡ length (s .slots))
+  unfolding putOf full
+  put-held s x l = (rw (lt-leb cap (s .held) l), rw (lt-leb cap (s .held) l), length-set (s .slots) (wrap cap (s .read + s .held)) x)
 
-pub laid : (cs : List Cookie) → AllKeep cs → (s : CookieStash) → Whole 8 s → length (s .slots) ≡ 8 → s .held + length cs ≤ 8 → Laid s (laidIn s cs) cs
-laid [] a s w n h = record { whole = w; eight = n; reads = refl; holds = sym (append-nil (cookies 8 s)) }
-laid (c ∷ cs) a s w n h =
-    let l : s .held < 8 = omega arith in
-    let p = put-held s (slotFor c) l in
-    let later = laid cs (a .1) (putOf 8 s (slotFor c)) (put-whole 8 s w (slotFor c) (slot-whole c (a .0))) (p .2 ∙ n) (omega (arith, p .1)) in
+  put-holds : (s : CookieStash) (w : Whole cap s) (c : Cookie) → Keeps c → s .held < cap → cookies cap (putOf cap s (slotFor c)) ≡ cookies cap s ++ (c ∷ [])
+  unfolding cookies
+  put-holds s w c k l =
+      ap (map seen) (put-room cap s (w .reads) (w .room) (slotFor c) l)
+      ∙ map-append (queue cap s) (slotFor c)
+      ∙ ap (λ (d : Cookie). map seen (queue cap s) ++ (d ∷ [])) (seen-slot c k)
+
+pub laid : (cap : ℕ) (cs : List Cookie) → AllKeep cs → (s : CookieStash) → Whole cap s → length (s .slots) ≡ 8 → s .held + length cs ≤ cap → Laid cap s (laidIn cap s cs) cs
+laid cap [] a s w n h = record { whole = w; eight = n; reads = refl; holds = sym (append-nil (cookies cap s)) }
+laid cap (c ∷ cs) a s w n h =
+    let l : s .held < cap = omega arith in
+    let p = put-held cap s (slotFor c) l in
+    let later = laid cap cs (a .1) (putOf cap s (slotFor c)) (put-whole cap s w (slotFor c) (slot-whole c (a .0))) (p .2 ∙ n) (omega (arith, p .1)) in
     record {
       whole = later .whole;
       eight = later .eight;
       reads = later .reads ∙ p .0;
-      holds = later .holds ∙ ap (λ (q : List Cookie). q ++ cs) (put-holds s w c (a .0) l) ∙ append-assoc (cookies 8 s) (c ∷ []) cs;
+      holds = later .holds ∙ ap (λ (q : List Cookie). q ++ cs) (put-holds cap s w c (a .0) l) ∙ append-assoc (cookies cap s) (c ∷ []) cs;
     }
 
-pub empty-at-whole : (r : ℕ) → r < 8 → Whole 8 (emptyAt r)
+pub empty-at-whole : (cap r : ℕ) → r < cap → cap ≤ 8 → Whole cap (emptyAt r)
 unfolding emptyAt
-empty-at-whole r h =
+empty-at-whole cap r h m =
     let at : (k : ℕ) → k < 8 → slotAt (replicate 8 emptySlot) k ≡ emptySlot = λ k h. getD-replicate 8 k emptySlot _ h in
     record {
       reads = h;
       counts = omega arith;
-      most = omega arith;
-      room = omega arith;
+      most = m;
+      room = m;
       each = λ k l. rw (at k l) empty-whole;
-      free = λ k l m. at (wrap 8 (r + k)) (wrap-lt 8 (r + k) (omega arith));
-      past = λ k l m. absurd (omega arith);
+      free = λ k l u. at (wrap cap (r + k)) (omega (arith, wrap-lt cap (r + k) (omega arith)));
+      past = λ k l u. at k u;
     }
 
 -- ---- the body
 
--- an empty stash at a place of the round, with at most eight cookies laid in it
-module _ (r : ℕ) (h : r < 8) (cs : List Cookie) (k : AllKeep cs) (few : length cs ≤ 8) where
-  none : cookies 8 (emptyAt r) ++ cs ≡ cs
+-- an empty stash at a place of the round, with at most as many cookies laid in it as its capacity
+module _ (cap r : ℕ) (h : r < cap) (most : cap ≤ 8) (cs : List Cookie) (k : AllKeep cs) (few : length cs ≤ cap) where
+  none : cookies cap (emptyAt r) ++ cs ≡ cs
   unfolding cookies queue emptyAt
   none = refl
 
-  pub laid-empty : Laid (emptyAt r) (laidIn (emptyAt r) cs) cs
+  pub laid-empty : Laid cap (emptyAt r) (laidIn cap (emptyAt r) cs) cs
   unfolding emptyAt
-  laid-empty = laid cs k (emptyAt r) (empty-at-whole r h) refl (omega arith)
+  laid-empty = laid cap cs k (emptyAt r) (empty-at-whole cap r h most) refl (omega arith)
 
-  pub laid-reads : laidIn (emptyAt r) cs .read ≡ r
+  pub laid-reads : laidIn cap (emptyAt r) cs .read ≡ r
   unfolding emptyAt
   laid-reads = laid-empty .reads
 
-  pub laid-holds : cookies 8 (laidIn (emptyAt r) cs) ≡ cs
+  pub laid-holds : cookies cap (laidIn cap (emptyAt r) cs) ≡ cs
   laid-holds = laid-empty .holds ∙ none
 
-module _ (s : CookieStash) (w : Whole 8 s) (n : length (s .slots) ≡ 8) where
-  few : length (cookies 8 s) ≤ 8
-  few = omega (arith, length-cookies 8 s, w .counts)
+module _ (cap : ℕ) (s : CookieStash) (w : Whole cap s) (n : length (s .slots) ≡ 8) where
+  few : length (cookies cap s) ≤ cap
+  few = omega (arith, length-cookies cap s, w .counts)
 
-  made-same : laidIn (emptyAt (s .read)) (cookies 8 s) ≡ s
+  made-same : laidIn cap (emptyAt (s .read)) (cookies cap s) ≡ s
   made-same =
-      let k = cookies-keep 8 s w in
-      let l = laid-empty (s .read) (w .reads) (cookies 8 s) k few in
-      stash-same 8 (laidIn (emptyAt (s .read)) (cookies 8 s)) s (l .whole) w (l .eight ∙ sym n) (laid-reads (s .read) (w .reads) (cookies 8 s) k few) (laid-holds (s .read) (w .reads) (cookies 8 s) k few)
+      let k = cookies-keep cap s w in
+      let l = laid-empty cap (s .read) (w .reads) (w .most) (cookies cap s) k few in
+      stash-same cap (laidIn cap (emptyAt (s .read)) (cookies cap s)) s (l .whole) w (l .eight ∙ sym n)
+      (laid-reads cap (s .read) (w .reads) (w .most) (cookies cap s) k few)
+      (laid-holds cap (s .read) (w .reads) (w .most) (cookies cap s) k few)
 
-  run-body : runOf (drop 1 (stashBytes s)) ≡ whole (cookies 8 s)
+  run-body : runOf (drop 1 (stashBytes cap s)) ≡ whole (cookies cap s)
   unfolding stashBytes
-  run-body = run-cookies (cookies 8 s) (cookies-keep 8 s w)
+  run-body = run-cookies (cookies cap s) (cookies-keep cap s w)
 
   -- the cookies of the body are those that the stash holds
-  pub held-body : heldIn (stashBytes s) ≡ cookies 8 s
+  pub held-body : heldIn (stashBytes cap s) ≡ cookies cap s
   unfolding heldIn
   held-body = ap cookiesOf run-body
 
-  place : laidIn (emptyAt (getD (stashBytes s) 0 0)) (cookies 8 s) ≡ laidIn (emptyAt (s .read)) (cookies 8 s)
+  place : laidIn cap (emptyAt (getD (stashBytes cap s) 0 0)) (cookies cap s) ≡ laidIn cap (emptyAt (s .read)) (cookies cap s)
   unfolding stashBytes
   place = refl
 
-  pub stash-back : stashOf (stashBytes s) ≡ s
+  pub stash-back : stashOf cap (stashBytes cap s) ≡ s
   unfolding stashOf
-  stash-back = ap (laidIn (emptyAt (getD (stashBytes s) 0 0))) held-body ∙ place ∙ made-same
+  stash-back = ap (laidIn cap (emptyAt (getD (stashBytes cap s) 0 0))) held-body ∙ place ∙ made-same
 
-  reads-body : getD (stashBytes s) 0 0 ≡ s .read
+  reads-body : getD (stashBytes cap s) 0 0 ≡ s .read
   unfolding stashBytes
   reads-body = refl
 
-  pub stash-known : stashKnown (stashBytes s) ≡ true
+  pub stash-known : stashKnown cap (stashBytes cap s) ≡ true
   unfolding stashKnown
   stash-known =
-      passes _ (lt-ltb (getD (stashBytes s) 0 0) 8 (omega (arith, reads-body, w .reads)))
-      ∙ le-leb (length (heldIn (stashBytes s))) 8 (omega (arith, ap length held-body, length-cookies 8 s, w .counts))
+      passes _ (le-leb cap 8 (w .most))
+      ∙ passes _ (lt-ltb (getD (stashBytes cap s) 0 0) cap (omega (arith, reads-body, w .reads)))
+      ∙ le-leb (length (heldIn (stashBytes cap s))) cap (omega (arith, ap length held-body, length-cookies cap s, w .counts))
 
-  some : stashFits (stashBytes s) ≡ isRun (runOf (drop 1 (stashBytes s)))
+  some : stashFits (stashBytes cap s) ≡ isRun (runOf (drop 1 (stashBytes cap s)))
   unfolding stashFits stashBytes
   some = rw eqb·suc-zero
 
-  pub stash-fits : stashFits (stashBytes s) ≡ true
+  pub stash-fits : stashFits (stashBytes cap s) ≡ true
   stash-fits = some ∙ ap isRun run-body
 
-  -- the reading place, and for each of at most eight cookies its length and at most 724 bytes
-  pub stash-long : length (stashBytes s) ≤ 5809
+  -- the reading place, and for each of at most as many cookies as the capacity its length and at most 724 bytes
+  pub stash-most : length (stashBytes cap s) ≤ 1 + 726 * cap
   unfolding stashBytes
-  stash-long = omega (arith, bytes-bounds (cookies 8 s) (cookies-keep 8 s w), length-cookies 8 s, w .counts)
+  stash-most = omega (arith, bytes-bounds (cookies cap s) (cookies-keep cap s w), length-cookies cap s, w .counts)
+
+  pub stash-long : length (stashBytes cap s) ≤ 5809
+  stash-long = omega (arith, stash-most, w .most)
 
 -- ---- the longest
 
@@ -281,9 +288,9 @@ bytes-filled (c ∷ cs) k f =
     let l = long c (k .0) (cookiesBytes cs) in
     omega (arith, f .0)
 
-pub stash-longest : (s : CookieStash) → Whole 8 s → s .held ≡ 8 → AllFill (cookies 8 s) → length (stashBytes s) ≡ 5809
+pub stash-longest : (cap : ℕ) (s : CookieStash) → Whole cap s → s .held ≡ cap → AllFill (cookies cap s) → length (stashBytes cap s) ≡ 1 + 726 * cap
 unfolding stashBytes
-stash-longest s w h f = omega (arith, bytes-filled (cookies 8 s) (cookies-keep 8 s w) f, length-cookies 8 s)
+stash-longest cap s w h f = omega (arith, bytes-filled (cookies cap s) (cookies-keep cap s w) f, length-cookies cap s)
 
 clash : {A : Type 0} → _≡_ {A = Bool} false true → A
 clash e = let z : _≡_ {A = ℕ} 0 1 = ap (λ (t : Bool). cond t 1 0) e in absurd (omega arith)
@@ -357,7 +364,7 @@ unfolding runOf
 again-run l y (whole cs) e t = subst (AgainIf l) e (again-n (length l) l y)
 again-run l y broken e t = let z : _≡_ {A = ℕ} 0 1 = cc in absurd (omega arith)
 
-module _ (b : List ℕ) (y : Bytes b) (f : stashFits b ≡ true) (k : stashKnown b ≡ true) where
+module _ (cap : ℕ) (b : List ℕ) (y : Bytes b) (f : stashFits b ≡ true) (k : stashKnown cap b ≡ true) where
   place-first : (0 < length b) × (isRun (runOf (drop 1 b)) ≡ true)
   unfolding stashFits
   place-first =
@@ -370,20 +377,24 @@ module _ (b : List ℕ) (y : Bytes b) (f : stashFits b ≡ true) (k : stashKnown
   unfolding heldIn
   held-again = again-run (drop 1 b) (bytes-drop 1 b y) (runOf (drop 1 b)) refl (place-first .1)
 
-  known-both : (getD b 0 0 < 8) × (length (heldIn b) ≤ 8)
+  known-all : (cap ≤ 8) × (getD b 0 0 < cap) × (length (heldIn b) ≤ cap)
   unfolding stashKnown
-  known-both = let e = both _ _ k in (ltb-true (getD b 0 0) 8 (e .0), leb-true (length (heldIn b)) 8 (e .1))
+  known-all =
+      let e = both (leb cap 8) _ k in
+      let g = both (ltb (getD b 0 0) cap) _ (e .1) in
+      (leb-true cap 8 (e .0), ltb-true (getD b 0 0) cap (g .0), leb-true (length (heldIn b)) cap (g .1))
 
   -- a stash that is read is whole
-  pub read-laid : Laid (emptyAt (getD b 0 0)) (stashOf b) (heldIn b)
+  pub read-laid : Laid cap (emptyAt (getD b 0 0)) (stashOf cap b) (heldIn b)
   unfolding stashOf
-  read-laid = laid-empty (getD b 0 0) (known-both .0) (heldIn b) (held-again .keep) (known-both .1)
+  read-laid = laid-empty cap (getD b 0 0) (known-all .1) (known-all .0) (heldIn b) (held-again .keep) (known-all .2)
 
   -- and is written as it was
-  pub stash-again : stashBytes (stashOf b) ≡ b
+  pub stash-again : stashBytes cap (stashOf cap b) ≡ b
   unfolding stashOf stashBytes
   stash-again =
       let k = held-again .keep in
-      (λ i. laid-reads (getD b 0 0) (known-both .0) (heldIn b) k (known-both .1) i ∷ cookiesBytes (laid-holds (getD b 0 0) (known-both .0) (heldIn b) k (known-both .1) i))
+      let q = known-all in
+      (λ i. laid-reads cap (getD b 0 0) (q .1) (q .0) (heldIn b) k (q .2) i ∷ cookiesBytes (laid-holds cap (getD b 0 0) (q .1) (q .0) (heldIn b) k (q .2) i))
       ∙ ap (λ (l : List ℕ). getD b 0 0 ∷ l) (held-again .same)
       ∙ sym (drop-cons b 0 0 (place-first .0))

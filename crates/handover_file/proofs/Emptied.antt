@@ -31,7 +31,7 @@ unfolding emptied emptyAt
 emptied-whole a w =
     record {
       settings = w .settings;
-      stash = empty-at-whole (a .stash .read) (w .stash .reads);
+      stash = empty-at-whole (a .settings .capacity) (a .stash .read) (w .stash .reads) (w .stash .most);
       counted = w .counted;
       request = w .request;
       idle = idle-emptied (a .settings .nts) (a .stash .read) (a .stash .held) (a .state .request .uid) (w .idle);
@@ -39,11 +39,11 @@ emptied-whole a w =
 
 -- its cookies are gone, and nothing else: the reading place, the settings and the state are as they were
 pub emptied-holds : (a : Association) →
-    (cookies 8 (emptied a .stash) ≡ []) × (emptied a .stash .read ≡ a .stash .read) × (emptied a .settings ≡ a .settings) × (emptied a .state ≡ a .state)
+    (cookies (a .settings .capacity) (emptied a .stash) ≡ []) × (emptied a .stash .read ≡ a .stash .read) × (emptied a .settings ≡ a .settings) × (emptied a .state ≡ a .state)
 unfolding cookies queue emptied emptyAt
 emptied-holds a = (refl, refl, refl, refl)
 
 -- what is loaded from the file has exactly the cookies that the association had, and what is handed back has none: a cookie has one owner
-pub cookies-go : (a : Association) → Whole a → Fit a → (cookies 8 (loadOf (fileOf a) .association .stash) ≡ cookies 8 (a .stash)) × (cookies 8 (emptied a .stash) ≡ [])
+pub cookies-go : (a : Association) → Whole a → Fit a → let cap = a .settings .capacity in (cookies cap (loadOf (fileOf a) .association .stash) ≡ cookies cap (a .stash)) × (cookies cap (emptied a .stash) ≡ [])
 unfolding unsent
-cookies-go a w f = (ap (λ (o : LoadOut). cookies 8 (o .association .stash)) (read-file a w f), emptied-holds a .0)
+cookies-go a w f = (ap (λ (o : LoadOut). cookies (a .settings .capacity) (o .association .stash)) (read-file a w f), emptied-holds a .0)

@@ -1,6 +1,6 @@
 -- A written file is read as its record with nothing sent; apart from the pending request two whole records are equal exactly when their files are; and how long a file may be.
 -- Assumes nothing.
-use Prim.Native.Nat.{ℕ, _+_, _^_, _≤_, _<_}
+use Prim.Native.Nat.{ℕ, _+_, _*_, _^_, _≤_, _<_}
 use mathlib.Core.Path.{_≡_, refl, sym, ap, _∙_}
 use mathlib.Core.Bool.{Bool, true, false, _&&_}
 use mathlib.Core.List.{List}
@@ -14,19 +14,21 @@ use Rattle.words.proofs.Tests.{passes, both}
 use Rattle.words.proofs.Zeros.{of-zeros}
 use Rattle.cookiestash.specs.Queue.{cookies}
 use Rattle.association.specs.declared.Association.{Association}
+use Rattle.association.specs.declared.Settings.{Settings}
 use Rattle.association.specs.Record.{noPending, pendingValid, idleValid}
 use Rattle.association.specs.Whole.{Whole}
 use Rattle.association.proofs.Whole.{of-whole}
+use Rattle.handover_groups.specs.Settings.{settingsBytes, settingsOf}
 use Rattle.handover_groups.proofs.OfSettings.{SettingsFit, settings-back, settings-known, settings-long}
 use Rattle.handover_groups.proofs.OfState.{PollsFit, effort-back, effort-long, version-back, version-known, version-long, polls-back, polls-long, source-back, source-known, source-long}
 use Rattle.handover_file.specs.declared.LoadAnswer.the-variants.{Loaded}
 use Rattle.handover_file.specs.declared.LoadOut.{LoadOut}
 use Rattle.handover_file.specs.Sections.{Fitting}
-use Rattle.handover_file.specs.Cookies.{stashBytes}
-use Rattle.handover_file.specs.File.{shapes, partsOf, fileOf, unsent, known, recordIn}
+use Rattle.handover_file.specs.Cookies.{stashBytes, stashKnown, stashOf}
+use Rattle.handover_file.specs.File.{settingsFits, shapes, partsOf, fileOf, unsent, known, recordIn}
 use Rattle.handover_file.specs.Answers as answers
 use Rattle.handover_file.proofs.Sections.{length-record, cut-joined}
-use Rattle.handover_file.proofs.Cookies.{AllFill, stash-back, stash-known, stash-fits, stash-long, stash-longest}
+use Rattle.handover_file.proofs.Cookies.{AllFill, stash-back, stash-known, stash-fits, stash-most, stash-long, stash-longest}
 
 -- what the types say of a record
 pub record Fit (a : Association) : Type 0 where
@@ -58,7 +60,7 @@ unsent-whole a w =
       idle = idle-unsent (a .settings .nts) (a .stash .read) (a .stash .held) (a .state .request .uid) (w .idle);
     }
 
-pub file-length : (a : Association) → length (fileOf a) ≡ 62 + length (stashBytes (a .stash))
+pub file-length : (a : Association) → length (fileOf a) ≡ 63 + length (stashBytes (a .settings .capacity) (a .stash))
 unfolding fileOf
 file-length a =
     simp (
@@ -71,22 +73,26 @@ file-length a =
     )
     (omega arith)
 
+-- 27 bytes are settings by their length
+pub fits-new : (b : List ℕ) → length b ≡ 27 → settingsFits b ≡ true
+fits-new b n = rw (eq-eqb (length b) 27 n)
+
 module _ (a : Association) (w : Whole a) (f : Fit a) where
   fitting : Fitting shapes (partsOf a)
   fitting =
       let se = settings-long (a .settings) in
-      let st = stash-long (a .stash) (w .stash) (f .eight) in
+      let st = stash-long (a .settings .capacity) (a .stash) (w .stash) (f .eight) in
       let re = effort-long (a .state .effort) in
       let ve = version-long (a .state .version) in
       let po = polls-long (a .state .polls) in
       let so = source-long (a .state .source) in (
         lit< tt,
         omega arith,
-        eq-eqb _ 26 se,
+        fits-new (settingsBytes (a .settings)) se,
         (
           lit< tt,
           omega arith,
-          stash-fits (a .stash) (w .stash) (f .eight),
+          stash-fits (a .settings .capacity) (a .stash) (w .stash) (f .eight),
           (
             lit< tt,
             omega arith,
@@ -111,11 +117,16 @@ module _ (a : Association) (w : Whole a) (f : Fit a) where
         ),
       )
 
+  -- the capacity is read back, and the stash over it
+  capacity-back : settingsOf (settingsBytes (a .settings)) .capacity ≡ a .settings .capacity
+  capacity-back = ap (λ (s : Settings). s .capacity) (settings-back (a .settings) (f .settings))
+
   record-back : recordIn (partsOf a) ≡ unsent a
   unfolding recordIn unsent
   record-back =
       let se = settings-back (a .settings) (f .settings) in
-      let st = stash-back (a .stash) (w .stash) (f .eight) in
+      let body = stashBytes (a .settings .capacity) (a .stash) in
+      let st = ap (λ (c : ℕ). stashOf c body) capacity-back ∙ stash-back (a .settings .capacity) (a .stash) (w .stash) (f .eight) in
       let re = effort-back (a .state .effort) (w .counted) in
       let ve = version-back (a .state .version) in
       let po = polls-back (a .state .polls) (f .polls) in
@@ -125,7 +136,9 @@ module _ (a : Association) (w : Whole a) (f : Fit a) where
   known-back : known (partsOf a) ≡ true
   unfolding known
   known-back =
-      passes _ (settings-known (a .settings)) ∙ passes _ (stash-known (a .stash) (w .stash) (f .eight)) ∙ passes _ (version-known (a .state .version)) ∙ source-known (a .state .source)
+      let body = stashBytes (a .settings .capacity) (a .stash) in
+      let st = ap (λ (c : ℕ). stashKnown c body) capacity-back ∙ stash-known (a .settings .capacity) (a .stash) (w .stash) (f .eight) in
+      passes _ (settings-known (a .settings)) ∙ passes _ st ∙ passes _ (version-known (a .state .version)) ∙ source-known (a .state .source)
 
   loaded : answers.loadIn (partsOf a) ≡ answers.loaded Loaded (unsent a)
   unfolding answers.loadIn
@@ -136,13 +149,16 @@ module _ (a : Association) (w : Whole a) (f : Fit a) where
   unfolding answers.loadOf fileOf
   read-file = ap answers.onCut (cut-joined shapes (partsOf a) fitting) ∙ loaded
 
-  -- no file is longer
-  pub file-longest : length (fileOf a) ≤ 5871
-  file-longest = omega (arith, file-length a, stash-long (a .stash) (w .stash) (f .eight))
+  -- no file is longer: over the capacity, and for any
+  pub file-most : length (fileOf a) ≤ 64 + 726 * a .settings .capacity
+  file-most = omega (arith, file-length a, stash-most (a .settings .capacity) (a .stash) (w .stash) (f .eight))
 
--- and one is as long: that of eight cookies that fill their slots
-pub file-as-long : (a : Association) → Whole a → a .stash .held ≡ 8 → AllFill (cookies 8 (a .stash)) → length (fileOf a) ≡ 5871
-file-as-long a w h f = omega (arith, file-length a, stash-longest (a .stash) (w .stash) h f)
+  pub file-longest : length (fileOf a) ≤ 5872
+  file-longest = omega (arith, file-most, w .stash .most)
+
+-- and one is as long: that of as many cookies as the capacity that fill their slots
+pub file-as-long : (a : Association) → Whole a → a .stash .held ≡ a .settings .capacity → AllFill (cookies (a .settings .capacity) (a .stash)) → length (fileOf a) ≡ 64 + 726 * a .settings .capacity
+file-as-long a w h f = omega (arith, file-length a, stash-longest (a .settings .capacity) (a .stash) (w .stash) h f)
 
 same-record : (a b : Association) → Whole a → Fit a → Whole b → Fit b → fileOf a ≡ fileOf b → unsent a ≡ unsent b
 same-record a b v f w g e = ap (λ (o : LoadOut). o .association) (sym (read-file a v f) ∙ ap answers.loadOf e ∙ read-file b w g)

@@ -1,4 +1,4 @@
--- One whole record has a file of 5,871 bytes: eight cookies that fill their slots.
+-- One whole record has a file of 5,872 bytes: eight cookies that fill their slots.
 -- Assumes nothing.
 use mathlib.Core.Path.{_≡_, refl, sym}
 use mathlib.Core.Bool.{true}
@@ -43,6 +43,7 @@ nts-settings =
       start = version V4;
       nts = true;
       source = named 0;
+      capacity = 8;
     }
 
 longest : Association
@@ -69,13 +70,17 @@ longest-whole : Whole longest
 unfolding longest full-stash freshOf nts-settings settingsValid idleValid
 longest-whole = record { settings = refl; stash = stash-whole; counted = sym never-unanswered; request = none-valid; idle = refl }
 
-all-filled : AllFill (cookies 8 (longest .stash))
-unfolding longest full-stash full-slot cookies queue seen stored wrap
+all-filled : AllFill (cookies (longest .settings .capacity) (longest .stash))
+unfolding longest freshOf nts-settings full-stash full-slot cookies queue seen stored wrap
 all-filled = (refl, (refl, (refl, (refl, (refl, (refl, (refl, (refl, tt))))))))
 
-eight-held : longest .stash .held ≡ 8
-unfolding longest full-stash
+eight-held : longest .stash .held ≡ longest .settings .capacity
+unfolding longest freshOf nts-settings full-stash
 eight-held = refl
 
-pub longest-there : (a : Association) × Whole a × (length (fileOf a) ≡ 5871)
-longest-there = (longest, longest-whole, file-as-long longest longest-whole eight-held all-filled)
+its-length : length (fileOf longest) ≡ 5872
+unfolding longest freshOf nts-settings
+its-length = file-as-long longest longest-whole eight-held all-filled
+
+pub longest-there : (a : Association) × Whole a × (length (fileOf a) ≡ 5872)
+longest-there = (longest, longest-whole, its-length)

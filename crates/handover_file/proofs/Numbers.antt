@@ -56,8 +56,8 @@ module _ (a : Association) (room : ℕ) where
     (λ (o, g). ap (λ (x : SaveOut). saveNumber (x .answer)) (save-only g) ∙ save-numbered g),
   )
 
--- with a buffer of 5,871 bytes 60 is never given
-pub room-enough : (a : Association) → Fit a → (room : ℕ) → 5871 ≤ room → Whole a → saveNumber (saveOf a room .answer) ≡ 60 → ⊥
+-- with a buffer of 5,872 bytes 60 is never given
+pub room-enough : (a : Association) → Fit a → (room : ℕ) → 5872 ≤ room → Whole a → saveNumber (saveOf a room .answer) ≡ 60 → ⊥
 room-enough a f room h w e = go (save-number a room 60 .0 e .1)
   where
     go : {o : SaveOut} → SaveGiven a room 60 o → ⊥

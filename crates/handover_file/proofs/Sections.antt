@@ -24,7 +24,7 @@ module _ (m : ℕ) (b rest : List ℕ) (h : m < 65536) (k : length b ≤ 65535) 
   unfolding recordOf part
   mark-read = be-toBe 2 m ∙ mod-eq-of-lt (omega arith)
 
-  length-read : bodyLength (recordOf m b ++ rest) ≡ length b
+  pub length-read : bodyLength (recordOf m b ++ rest) ≡ length b
   unfolding recordOf part bodyLength
   length-read = be-toBe 2 (length b) ∙ mod-eq-of-lt (omega arith)
 

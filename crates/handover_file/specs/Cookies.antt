@@ -1,14 +1,14 @@
--- The stash's record of the hand-over file (RULES, No. 6): the reading place, then the cookies held, oldest first, each its length (two bytes) and its stored bytes.
+-- The stash's record of the hand-over file (RULES, No. 6 and No. 12), of a stash of a capacity: the reading place, then the cookies held, oldest first, each its length (two bytes) and its stored bytes.
 -- Assumes nothing.
 use Prim.Native.Nat.{ℕ, zero, suc, _+_, _-_}
-use mathlib.Core.Bool.{Bool, true, false, _&&_, cond}
+use mathlib.Core.Bool.{Bool, true, false, cond}
 use mathlib.Core.List.{List, [], _∷_, _++_}
-use lib.Dec.{ltb, leb, eqb}
+use lib.Dec.{ltb, eqb}
 use lib.ListN.{length, getD, drop, replicate}
 use Rattle.words.specs.Bytes.{be, part, toBe}
 use Rattle.cookiestash.specs.declared.Slot.{Slot}
 use Rattle.cookiestash.specs.declared.CookieStash.{CookieStash}
-use Rattle.cookiestash.specs.Stash.{stored, emptySlot, putOf}
+use Rattle.cookiestash.specs.Stash.{stored, emptySlot, rangeOf, putOf}
 use Rattle.cookiestash.specs.Queue.{Cookie, cookies}
 
 -- ---- the writer
@@ -20,8 +20,8 @@ abbrev pub cookiesBytes : List Cookie → List ℕ
 cookiesBytes [] = []
 cookiesBytes (c ∷ cs) = cookieBytes c ++ cookiesBytes cs
 
-unfoldable pub stashBytes : CookieStash → List ℕ
-stashBytes s = s .read ∷ cookiesBytes (cookies 8 s)
+unfoldable pub stashBytes : ℕ → CookieStash → List ℕ
+stashBytes cap s = s .read ∷ cookiesBytes (cookies cap s)
 
 -- ---- the reader
 
@@ -74,9 +74,9 @@ stashFits b = cond (eqb (length b) 0) false (isRun (runOf (drop 1 b)))
 unfoldable pub heldIn : List ℕ → List Cookie
 heldIn b = cookiesOf (runOf (drop 1 b))
 
--- a reading place over 7, and more than eight cookies, are those of no stash
-unfoldable pub stashKnown : List ℕ → Bool
-stashKnown b = ltb (getD b 0 0) 8 && leb (length (heldIn b)) 8
+-- a reading place that is not below the capacity, more cookies than it, and a capacity over eight are those of no stash
+unfoldable pub stashKnown : ℕ → List ℕ → Bool
+stashKnown cap b = rangeOf cap (getD b 0 0) (length (heldIn b))
 
 -- the slot that holds a cookie as it was kept
 unfoldable pub slotFor : Cookie → Slot
@@ -87,9 +87,9 @@ unfoldable pub emptyAt : ℕ → CookieStash
 emptyAt read = record { slots = replicate 8 emptySlot; read = read; held = 0 }
 
 -- the cookies behind the newest, one by one
-abbrev pub laidIn : CookieStash → List Cookie → CookieStash
-laidIn s [] = s
-laidIn s (c ∷ cs) = laidIn (putOf 8 s (slotFor c)) cs
+abbrev pub laidIn : ℕ → CookieStash → List Cookie → CookieStash
+laidIn cap s [] = s
+laidIn cap s (c ∷ cs) = laidIn cap (putOf cap s (slotFor c)) cs
 
-unfoldable pub stashOf : List ℕ → CookieStash
-stashOf b = laidIn (emptyAt (getD b 0 0)) (heldIn b)
+unfoldable pub stashOf : ℕ → List ℕ → CookieStash
+stashOf cap b = laidIn cap (emptyAt (getD b 0 0)) (heldIn b)

@@ -1,7 +1,7 @@
--- The hand-over file (RULES, No. 6): six records in one fixed order, written of a record, and read as one. The pending request is not written.
+-- The hand-over file (RULES, No. 6 and No. 12): six records in one fixed order, written of a record, and read as one. The pending request is not written.
 -- Assumes nothing.
 use Prim.Native.Nat.{ℕ}
-use mathlib.Core.Bool.{Bool, _&&_, false}
+use mathlib.Core.Bool.{Bool, _&&_, _||_, false}
 use mathlib.Core.List.{List, [], _∷_}
 use lib.Dec.{eqb}
 use lib.ListN.{length, getD}
@@ -17,10 +17,14 @@ use Rattle.handover_file.specs.Cookies.{stashBytes, stashFits, stashKnow
 abbrev pub sized : ℕ → ℕ → Shape
 sized m n = record { mark = m; fits = λ b. eqb (length b) n }
 
+-- the settings have 27 bytes; those of a file of before, which has no capacity, have 26
+abbrev pub settingsFits : List ℕ → Bool
+settingsFits b = eqb (length b) 27 || eqb (length b) 26
+
 -- the marks S E, S T, R E, V E, P O, S O, and what each record's body is tested for
 abbrev pub shapes : List Shape
 shapes =
-    sized 0x5345 26
+    record { mark = 0x5345; fits = settingsFits }
     ∷ record { mark = 0x5354; fits = stashFits }
     ∷ sized 0x5245 2
     ∷ sized 0x5645 2
@@ -33,7 +37,7 @@ shapes =
 abbrev pub partsOf : Association → List (List ℕ)
 partsOf a =
     settingsBytes (a .settings)
-    ∷ stashBytes (a .stash)
+    ∷ stashBytes (a .settings .capacity) (a .stash)
     ∷ effortBytes (a .state .effort)
     ∷ versionBytes (a .state .version)
     ∷ pollsBytes (a .state .polls)
@@ -65,10 +69,10 @@ unsent a =
           };
     }
 
--- of six bodies: codes of a kind, and a stash
+-- of six bodies: codes of a kind, and a stash of the settings' capacity
 unfoldable pub known : List (List ℕ) → Bool
 known bs =
-    settingsKnown (getD bs 0 []) && (stashKnown (getD bs 1 []) && (versionKnown (getD bs 3 []) && sourceKnown (getD bs 5 [])))
+    settingsKnown (getD bs 0 []) && (stashKnown (settingsOf (getD bs 0 []) .capacity) (getD bs 1 []) && (versionKnown (getD bs 3 []) && sourceKnown (getD bs 5 [])))
 
 -- the state that four bodies are: nothing is pending
 abbrev pub stateIn : List ℕ → List ℕ → List ℕ → List ℕ → State
@@ -85,6 +89,6 @@ unfoldable pub recordIn : List (List ℕ) → Association
 recordIn bs =
     record {
       settings = settingsOf (getD bs 0 []);
-      stash = stashOf (getD bs 1 []);
+      stash = stashOf (settingsOf (getD bs 0 []) .capacity) (getD bs 1 []);
       state = stateIn (getD bs 2 []) (getD bs 3 []) (getD bs 4 []) (getD bs 5 []);
     }

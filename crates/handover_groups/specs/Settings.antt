@@ -1,8 +1,9 @@
--- The settings' record of the hand-over file (RULES, No. 6): 26 bytes, each field at its offset; numbers big-endian, signed ones in two's complement.
+-- The settings' record of the hand-over file (RULES, No. 6 and No. 12): 27 bytes, each field at its offset; numbers big-endian, signed ones in two's complement.
+-- A file of before has 26, without the capacity, and reads as capacity 8.
 -- Assumes nothing.
 use Prim.Native.Nat.{ℕ, _^_}
 use mathlib.Core.Bool.{Bool, _&&_}
-use mathlib.Core.List.{List, _∷_, _++_}
+use mathlib.Core.List.{List, [], _∷_, _++_}
 use lib.ListN.{getD}
 use Rattle.words.specs.Bytes.{be, part, toBe}
 use Rattle.words.specs.Signed.{signed, unsigned}
@@ -12,7 +13,7 @@ use Rattle.version.specs.Upgrade.{version}
 use Rattle.association.specs.declared.Settings.{Settings}
 use Rattle.handover_groups.specs.Codes.{yesCode, yesOf, yesKnown, kindCode, triesCode, kindOf, kindKnown}
 
--- min 1, max 1, startup 1, window 8, upgrade mark 8, start version 2 (kind, tries), nts 1, source identifier 4
+-- min 1, max 1, startup 1, window 8, upgrade mark 8, start version 2 (kind, tries), nts 1, source identifier 4, capacity 1
 unfoldable pub settingsBytes : Settings → List ℕ
 settingsBytes s =
     unsigned (2 ^ 7) (s .min .0)
@@ -23,7 +24,8 @@ settingsBytes s =
     ++ (kindCode (s .start .kind)
     ∷ triesCode (s .start .kind)
     ∷ yesCode (s .nts)
-    ∷ toBe 4 (s .source .0))))
+    ∷ (toBe 4 (s .source .0)
+    ++ (s .capacity ∷ [])))))
 
 unfoldable pub settingsOf : List ℕ → Settings
 settingsOf b =
@@ -36,6 +38,7 @@ settingsOf b =
       start = version (kindOf (getD b 19 0) (getD b 20 0));
       nts = yesOf (getD b 21 0);
       source = named (be (part b 22 4));
+      capacity = getD b 26 8;
     }
 
 unfoldable pub settingsKnown : List ℕ → Bool

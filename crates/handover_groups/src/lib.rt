@@ -1,10 +1,11 @@
 // The small records of the hand-over file, each to bytes and back: settings, effort, version, polls, source.
 // Promises: what is written is read back; what is read, and whose codes are of a kind, is written as it was; readers are defined over any bytes.
-// Rule: RULES, No. 6; definitions in specs/Codes.antt, specs/Settings.antt and specs/State.antt.
+// Rule: RULES, No. 6 and No. 12; definitions in specs/Codes.antt, specs/Settings.antt and specs/State.antt.
 use association::Effort;
 use association::Polls;
 use association::Settings;
 use association::Source;
+use cookiestash::CAPACITY;
 use identifiers::ReferenceId;
 use reach::Reach;
 use time_types::PollInterval;
@@ -21,6 +22,13 @@ fn byte_at(b: &[u8], i: usize) -> u8
     ensures { λ r. ⌜ r ≡ getD (now (b .entry)) i 0 ⌝ }
 {
     if i < b.len() { b[i] } else { 0 }
+}
+
+// The capacity, which is the last byte of the settings; a file of before has none, and its stash eight places.
+fn capacity_at(b: &[u8]) -> u8
+    ensures { λ r. ⌜ r ≡ getD (now (b .entry)) 26 8 ⌝ }
+{
+    if 26 < b.len() { b[26] } else { CAPACITY }
 }
 
 fn yes_code(b: bool) -> u8
@@ -85,8 +93,8 @@ fn kind_known(code: u8, tries: u8) -> bool
     tries == 0
 }
 
-// The 26 bytes of the settings.
-pub fn settings_bytes(s: Settings) -> [u8; 26]
+// The 27 bytes of the settings.
+pub fn settings_bytes(s: Settings) -> [u8; 27]
     ensures { λ r. ⌜ r ≡ settingsBytes s ⌝ }
 {
     let start = s.start;
@@ -126,6 +134,7 @@ pub fn settings_bytes(s: Settings) -> [u8; 26]
         i[1],
         i[2],
         i[3],
+        s.capacity,
     ]
 }
 
@@ -140,6 +149,7 @@ pub fn settings_of(b: &[u8]) -> Settings
     let kind = kind_of(byte_at(b, 19), byte_at(b, 20));
     let nts = byte_at(b, 21) == 1;
     let source = ReferenceId(words::be32_at(b, 22));
+    let capacity = capacity_at(b);
     Settings {
         min,
         max,
@@ -149,6 +159,7 @@ pub fn settings_of(b: &[u8]) -> Settings
         start: Version { kind },
         nts,
         source,
+        capacity,
     }
 }
 

@@ -6,7 +6,7 @@ use mathlib.Core.Bool.{Bool, true, false, cond}
 use mathlib.Core.List.{List, [], _∷_}
 use native.Mathlib.Omega.{arith}
 use lib.ListN.{length}
-use Rattle.words.specs.Bytes.{part}
+use Rattle.words.specs.Bytes.{be, part}
 use Rattle.words.proofs.Tests.{passes, fails, when, unless}
 use Rattle.cookiestash.specs.declared.CookieStash.{CookieStash}
 use Rattle.cookiestash.specs.Stash.{newOf}
@@ -16,7 +16,7 @@ use Rattle.association.specs.Record.{wholeOf}
 use Rattle.handover_groups.specs.Settings.{settingsOf, settingsKnown}
 use Rattle.handover_groups.specs.State.{versionKnown, sourceKnown}
 use Rattle.handover_file.specs.declared.LoadAnswer.the-variants.{Loaded, WrongMark, WrongLength, NoAssociation}
-use Rattle.handover_file.specs.Sections.{Cut, bodies, misplaced, missized, cutAs}
+use Rattle.handover_file.specs.Sections.{bodyLength, Cut, bodies, misplaced, missized, cutAs}
 use Rattle.handover_file.specs.Cookies.{stashKnown, stashOf}
 use Rattle.handover_file.specs.File.{shapes, stateIn, known, recordIn}
 use Rattle.handover_file.specs.Answers.{loaded, refused, loadIn, onCut, loadOf}
@@ -28,20 +28,20 @@ use Rattle.handover_cut.proofs.Six.{partsAt, Six}
 
 -- ---- the stash that was read
 
-known-is : (b : List ℕ) → stashedOf b .known ≡ stashKnown b
+known-is : (cap : ℕ) (b : List ℕ) → stashedOf cap b .known ≡ stashKnown cap b
 unfolding stashedOf
-known-is b = go (stashKnown b)
+known-is cap b = go (stashKnown cap b)
   where
-    go : (t : Bool) → cond {A = Stashed} t (record { known = true; stash = stashOf b }) (record { known = false; stash = newOf }) .known ≡ t
+    go : (t : Bool) → cond {A = Stashed} t (record { known = true; stash = stashOf cap b }) (record { known = false; stash = newOf }) .known ≡ t
     go true = refl
     go false = refl
 
-pub known-by : (b : List ℕ) (r : Stashed) {t : Bool} → r ≡ stashedOf b → r .known ≡ t → stashKnown b ≡ t
-known-by b r e k = sym (known-is b) ∙ sym (ap (λ (s : Stashed). s .known) e) ∙ k
+pub known-by : (cap : ℕ) (b : List ℕ) (r : Stashed) {t : Bool} → r ≡ stashedOf cap b → r .known ≡ t → stashKnown cap b ≡ t
+known-by cap b r e k = sym (known-is cap b) ∙ sym (ap (λ (s : Stashed). s .known) e) ∙ k
 
-pub kept-by : (b : List ℕ) (r : Stashed) → r ≡ stashedOf b → stashKnown b ≡ true → r .stash ≡ stashOf b
+pub kept-by : (cap : ℕ) (b : List ℕ) (r : Stashed) → r ≡ stashedOf cap b → stashKnown cap b ≡ true → r .stash ≡ stashOf cap b
 unfolding stashedOf
-kept-by b r e k = ap (λ (s : Stashed). s .stash) (e ∙ when _ _ k)
+kept-by cap b r e k = ap (λ (s : Stashed). s .stash) (e ∙ when _ _ k)
 
 -- ---- six bodies
 
@@ -58,11 +58,11 @@ module _ (se st re ve po so : List ℕ) where
   by-settings a = none (fails _ a)
 
   module _ (a : settingsKnown se ≡ true) where
-    pub by-stash : stashKnown st ≡ false → loadIn six ≡ refused NoAssociation
+    pub by-stash : stashKnown (settingsOf se .capacity) st ≡ false → loadIn six ≡ refused NoAssociation
     unfolding known
     by-stash b = none (passes _ a ∙ fails _ b)
 
-    module _ (b : stashKnown st ≡ true) where
+    module _ (b : stashKnown (settingsOf se .capacity) st ≡ true) where
       pub by-version : versionKnown ve ≡ false → loadIn six ≡ refused NoAssociation
       unfolding known
       by-version c = none (passes _ a ∙ passes _ b ∙ fails _ c)
@@ -72,7 +72,7 @@ module _ (se st re ve po so : List ℕ) where
         unfolding known
         by-source d = none (passes _ a ∙ passes _ b ∙ passes _ c ∙ d)
 
-        module _ (d : sourceKnown so ≡ true) {s : Settings} {k : CookieStash} {m : State} (es : s ≡ settingsOf se) (ek : k ≡ stashOf st) (em : m ≡ stateIn re ve po so) where
+        module _ (d : sourceKnown so ≡ true) {s : Settings} {k : CookieStash} {m : State} (es : s ≡ settingsOf se) (ek : k ≡ stashOf (settingsOf se .capacity) st) (em : m ≡ stateIn re ve po so) where
           all-known : known six ≡ true
           unfolding known
           all-known = passes _ a ∙ passes _ b ∙ passes _ c ∙ d
@@ -92,20 +92,25 @@ module _ (se st re ve po so : List ℕ) where
 -- ---- a file
 
 -- the parts that the code cuts out
-pub slices : (f : List ℕ) (n : ℕ) →
-    loadIn (part f 4 26 ∷ part f 34 (34 + n - 34) ∷ part f (38 + n) (40 + n - (38 + n)) ∷ part f (44 + n) (46 + n - (44 + n)) ∷ part f (50 + n) (52 + n - (50 + n)) ∷ part f (56 + n) (62 + n - (56 + n)) ∷ [])
-    ≡ loadIn (partsAt f n)
-slices f n =
-    let e₁ : 34 + n - 34 ≡ n = omega arith in
-    let e₂ : 40 + n - (38 + n) ≡ 2 = omega arith in
-    let e₃ : 46 + n - (44 + n) ≡ 2 = omega arith in
-    let e₄ : 52 + n - (50 + n) ≡ 2 = omega arith in
-    let e₅ : 62 + n - (56 + n) ≡ 6 = omega arith in
-    λ i. loadIn (part f 4 26 ∷ part f 34 (e₁ i) ∷ part f (38 + n) (e₂ i) ∷ part f (44 + n) (e₃ i) ∷ part f (50 + n) (e₄ i) ∷ part f (56 + n) (e₅ i) ∷ [])
+pub slices : (f : List ℕ) (k e : ℕ) →
+    loadIn (part f 4 (4 + k - 4) ∷ part f (8 + k) (e - (8 + k)) ∷ part f (e + 4) (e + 6 - (e + 4)) ∷ part f (e + 10) (e + 12 - (e + 10)) ∷ part f (e + 16) (e + 18 - (e + 16)) ∷ part f (e + 22) (e + 28 - (e + 22)) ∷ [])
+    ≡ loadIn (partsAt f k e)
+slices f k e =
+    let e₀ : 4 + k - 4 ≡ k = omega arith in
+    let e₂ : e + 6 - (e + 4) ≡ 2 = omega arith in
+    let e₃ : e + 12 - (e + 10) ≡ 2 = omega arith in
+    let e₄ : e + 18 - (e + 16) ≡ 2 = omega arith in
+    let e₅ : e + 28 - (e + 22) ≡ 6 = omega arith in
+    λ i. loadIn (part f 4 (e₀ i) ∷ part f (8 + k) (e - (8 + k)) ∷ part f (e + 4) (e₂ i) ∷ part f (e + 10) (e₃ i) ∷ part f (e + 16) (e₄ i) ∷ part f (e + 22) (e₅ i) ∷ [])
 
-pub loads : (f : List ℕ) → Six f → loadOf f ≡ loadIn (partsAt f (length f - 62))
+-- the length that the settings say
+pub said : (f : List ℕ) (k : ℕ) → k ≡ be (part f 2 2) → k ≡ bodyLength f
+unfolding bodyLength
+said f k e = e
+
+pub loads : (f : List ℕ) → Six f → (k : ℕ) → k ≡ bodyLength f → loadOf f ≡ loadIn (partsAt f k (length f - 28))
 unfolding loadOf
-loads f s = ap onCut (s .cuts)
+loads f s k e = ap onCut (s .cuts) ∙ ap (λ (j : ℕ). loadIn (partsAt f j (length f - 28))) (sym e)
 
 mark-by : (c : Cut) → stopOf c ≡ Misplaced → c ≡ misplaced
 mark-by (bodies bs) e = let z : _≡_ {A = ℕ} 0 1 = cc in absurd (omega arith)

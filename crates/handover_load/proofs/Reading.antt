@@ -2,16 +2,17 @@
 -- Assumes nothing.
 use Prim.Native.Nat.{ℕ, zero, suc, _+_, _-_, _≤_, _<_}
 use mathlib.Core.Path.{_≡_, refl, sym, ap, subst, _∙_}
-use mathlib.Core.Bool.{Bool, true, false, cond}
+use mathlib.Core.Bool.{Bool, true, false, cond, _&&_}
 use mathlib.Core.List.{List, [], _∷_, _++_}
 use native.Mathlib.Omega.{arith}
-use borrow.Author.Tests.{lt-ltb, le-ltb, le-leb, lt-leb, eq-eqb, ne-eqb}
+use borrow.Author.Tests.{lt-ltb, le-leb, lt-leb, eq-eqb, ne-eqb, ltb-true, leb-true}
+use lib.Dec.{ltb, leb}
 use lib.ListN.{length, getD, take, drop, replicate}
 use lib.Seq.{take-all}
 use Rattle.words.specs.Bytes.{part}
-use Rattle.words.proofs.Tests.{passes, fails}
+use Rattle.words.proofs.Tests.{passes, both}
 use Rattle.cookiestash.specs.declared.CookieStash.{CookieStash}
-use Rattle.cookiestash.specs.Stash.{stored, slotOf, newOf, putOf}
+use Rattle.cookiestash.specs.Stash.{stored, slotOf, newOf, rangeOf, putOf}
 use Rattle.cookiestash.specs.Queue.{Cookie}
 use Rattle.cookiestash.proofs.Stored.{stored-bounds}
 use Rattle.handover_file.specs.Cookies.{Run, whole, broken, ahead, runOf, isRun, cookiesOf, stashFits, heldIn, stashKnown, slotFor, emptyAt, laidIn, stashOf}
@@ -36,14 +37,15 @@ abbrev pub restOf : List ℕ → ℕ → List Cookie
 restOf b at = cookiesOf (runOf (drop at b))
 
 -- s is the stash of the cookies before the offset
-pub record Reading (b : List ℕ) (at : ℕ) (s : CookieStash) : Type 0 where
+pub record Reading (cap : ℕ) (b : List ℕ) (at : ℕ) (s : CookieStash) : Type 0 where
+  pub most : cap ≤ 8
   pub inside : at ≤ length b
   pub runs : isRun (runOf (drop at b)) ≡ true
-  pub reads : s .read < 8
-  pub place : getD b 0 0 < 8
-  pub counts : s .held ≤ 8
+  pub reads : s .read < cap
+  pub place : getD b 0 0 < cap
+  pub counts : s .held ≤ cap
   pub holds : s .held + length (restOf b at) ≡ length (heldIn b)
-  pub makes : laidIn s (restOf b at) ≡ stashOf b
+  pub makes : laidIn cap s (restOf b at) ≡ stashOf cap b
 
 rest-ahead : (c : Cookie) (r : Run) → isRun r ≡ true → cookiesOf (ahead c r) ≡ c ∷ cookiesOf r
 rest-ahead c (whole cs) e = refl
@@ -61,10 +63,11 @@ module _ (b : List ℕ) (f : stashFits b ≡ true) where
       some zero e = not-both (stashFits b) f (ap (λ (t : Bool). cond t false (isRun (runOf (drop 1 b)))) (eq-eqb (length b) 0 e))
       some (suc n) e = omega arith
 
-  pub starts : getD b 0 0 < 8 → Reading b 1 (emptyAt (getD b 0 0))
+  pub starts : (cap : ℕ) → cap ≤ 8 → getD b 0 0 < cap → Reading cap b 1 (emptyAt (getD b 0 0))
   unfolding stashFits heldIn stashOf emptyAt
-  starts h =
+  starts cap m h =
       record {
+        most = m;
         inside = has-place;
         runs = sym (ap (λ (t : Bool). cond t false (isRun (runOf (drop 1 b)))) (ne-eqb (length b) 0 (λ e. omega (arith, has-place)))) ∙ f;
         reads = h;
@@ -75,18 +78,28 @@ module _ (b : List ℕ) (f : stashFits b ≡ true) where
       }
 
 -- an empty stash with its place set
-pub begun : (b : List ℕ) → stashFits b ≡ true → (n : CookieStash) (r : ℕ) → n ≡ newOf → r ≡ getD b 0 0 → r < 8 → Reading b 1 (record { slots = n .slots; read = r; held = n .held })
+pub begun : (cap : ℕ) (b : List ℕ) → stashFits b ≡ true → (n : CookieStash) (r : ℕ) → n ≡ newOf → r ≡ getD b 0 0 → rangeOf cap r 0 ≡ true → Reading cap b 1 (record { slots = n .slots; read = r; held = n .held })
 unfolding newOf emptyAt
-begun b f n r e p h =
-    let s = starts b f (omega arith) in
-    subst (λ (m : CookieStash). Reading b 1 (record { slots = m .slots; read = r; held = m .held })) (sym e)
-    (subst (λ (k : ℕ). Reading b 1 (record { slots = newOf .slots; read = k; held = 0 })) (sym p) s)
+begun cap b f n r e p h =
+    let q = both (leb cap 8) _ h in
+    let l : r < cap = ltb-true r cap (both (ltb r cap) _ (q .1) .0) in
+    let s = starts b f cap (leb-true cap 8 (q .0)) (omega arith) in
+    subst (λ (m : CookieStash). Reading cap b 1 (record { slots = m .slots; read = r; held = m .held })) (sym e)
+    (subst (λ (k : ℕ). Reading cap b 1 (record { slots = newOf .slots; read = k; held = 0 })) (sym p) s)
 
-pub no-place : (b : List ℕ) → 8 ≤ getD b 0 0 → stashKnown b ≡ false
+-- where a stash that holds nothing is out of range, so is one that holds more
+out-of-range : (c r h : Bool) → c && (r && true) ≡ false → c && (r && h) ≡ false
+out-of-range true true h e = absurd (not-both true refl e)
+out-of-range true false h e = refl
+out-of-range false r h e = refl
+
+pub no-place : (cap : ℕ) (b : List ℕ) (r : ℕ) → r ≡ getD b 0 0 → rangeOf cap r 0 ≡ false → stashKnown cap b ≡ false
 unfolding stashKnown
-no-place b h = fails _ (le-ltb (getD b 0 0) 8 h)
+no-place cap b r p e =
+    let none : rangeOf cap r 0 ≡ leb cap 8 && (ltb r cap && true) = ap (λ (t : Bool). leb cap 8 && (ltb r cap && t)) (le-leb 0 cap (omega arith)) in
+    rw (← p) (out-of-range (leb cap 8) (ltb r cap) (leb (length (heldIn b)) cap) (sym none ∙ e))
 
-module _ (b : List ℕ) (at : ℕ) (s : CookieStash) (r : Reading b at s) where
+module _ (cap : ℕ) (b : List ℕ) (at : ℕ) (s : CookieStash) (r : Reading cap b at s) where
   module _ (len start end : ℕ) (e : heldAt b at ≡ One len start end) where
     abbrev found : Cookie
     found = cookie len (part b start (end - start))
@@ -100,29 +113,30 @@ module _ (b : List ℕ) (at : ℕ) (s : CookieStash) (r : Reading b at s) where
     rest-one : restOf b at ≡ found ∷ restOf b end
     rest-one = ap cookiesOf run-one ∙ rest-ahead found (runOf (drop end b)) runs-on
 
-    pub reads-one : s .held < 8 → Reading b end (putOf 8 s (slotFor found))
+    pub reads-one : s .held < cap → Reading cap b end (putOf cap s (slotFor found))
     reads-one h =
-        let p = put-held s (slotFor found) h in
+        let p = put-held cap s (slotFor found) h in
         record {
+          most = r .most;
           inside = one-within b at len start end e .3;
           runs = runs-on;
           reads = omega (arith, p .0, r .reads);
           place = r .place;
           counts = omega (arith, p .1);
           holds = omega (arith, p .1, ap length rest-one, r .holds);
-          makes = sym (ap (laidIn s) rest-one) ∙ r .makes;
+          makes = sym (ap (laidIn cap s) rest-one) ∙ r .makes;
         }
 
-    pub too-many : s .held ≡ 8 → stashKnown b ≡ false
+    pub too-many : s .held ≡ cap → stashKnown cap b ≡ false
     unfolding stashKnown
-    too-many h = passes _ (lt-ltb (getD b 0 0) 8 (r .place)) ∙ lt-leb (length (heldIn b)) 8 (omega (arith, ap length rest-one, r .holds))
+    too-many h = passes _ (le-leb cap 8 (r .most)) ∙ passes _ (lt-ltb (getD b 0 0) cap (r .place)) ∙ lt-leb (length (heldIn b)) cap (omega (arith, ap length rest-one, r .holds))
 
-  pub reads-end : heldAt b at ≡ End → (stashKnown b ≡ true) × (s ≡ stashOf b)
+  pub reads-end : heldAt b at ≡ End → (stashKnown cap b ≡ true) × (s ≡ stashOf cap b)
   unfolding stashKnown
   reads-end e =
       let rest : restOf b at ≡ [] = ap cookiesOf (run-at b at (r .inside) ∙ ap (onHeld b) e) in (
-        passes _ (lt-ltb (getD b 0 0) 8 (r .place)) ∙ le-leb (length (heldIn b)) 8 (omega (arith, ap length rest, r .holds, r .counts)),
-        sym (ap (laidIn s) rest) ∙ r .makes,
+        passes _ (le-leb cap 8 (r .most)) ∙ passes _ (lt-ltb (getD b 0 0) cap (r .place)) ∙ le-leb (length (heldIn b)) cap (omega (arith, ap length rest, r .holds, r .counts)),
+        sym (ap (laidIn cap s) rest) ∙ r .makes,
       )
 
   pub never-broken : {A : Type 0} → heldAt b at ≡ Broken → A

@@ -1,11 +1,10 @@
 // The reader of the hand-over file: a box that is swapped in starts with the association of the one before it.
 // Promises: of any bytes the answer that the file's definition gives; the first fault of the file decides between 61 and 62; the blank record where it is refused.
-// Rule: RULES, No. 6; the file is defined in `handover_file`, its records are found by `handover_cut`, and specs/Read.antt has the stash that is read.
+// Rule: RULES, No. 6 and No. 12; the file is defined in `handover_file`, its records are found by `handover_cut`, and specs/Read.antt has the stash that is read.
 use association::Association;
 use association::Pending;
 use association::State;
 use cookiestash::CookieStash;
-use cookiestash::MAX_COOKIES;
 use cookiestash::Slot;
 use handover_cut::Held;
 use handover_cut::Stop;
@@ -14,7 +13,7 @@ use handover_file::LoadOut;
 ghost use mathlib.Core.Path.{_≡_};
 ghost use mathlib.Core.Bool.{true};
 ghost use mathlib.Core.List.{[], _∷_};
-ghost use Prim.Native.Nat.{_<_};
+ghost use Prim.Native.Nat.{_≤_, _<_};
 ghost use lib.ListN.{length, getD};
 ghost use Rattle.cookiestash.specs.Stash.{stored, putOf};
 ghost use Rattle.handover_file.specs.Cookies.{stashFits, slotFor};
@@ -23,8 +22,8 @@ ghost use Rattle.handover_file.specs.Answers.{refused, loadIn, loadOf};
 ghost use Rattle.handover_cut.specs.Steps.{cookie};
 ghost use Rattle.handover_load.specs.Read.{noStash, stashedOf};
 
-// How many bytes a file has besides the stash's body.
-const BESIDES: usize = 62;
+// How many bytes a file has behind the stash's body.
+const BEHIND: usize = 28;
 
 // A stash that was read: whether it is one, and if not an empty one.
 struct Stashed {
@@ -33,13 +32,13 @@ struct Stashed {
 }
 
 // A cookie goes behind the newest, as its length and its stored bytes.
-fn laid(mut s: CookieStash, len: u16, bytes: &[u8]) -> CookieStash
-    requires { ⌜ (s .read < 8) × (s .held < 8) × (length (now bytes) ≡ stored len) ⌝ }
-    ensures { λ r. ⌜ r ≡ putOf 8 s (slotFor (cookie len (now (bytes .entry)))) ⌝ }
+fn laid(mut s: CookieStash, len: u16, bytes: &[u8], capacity: u8) -> CookieStash
+    requires { ⌜ (s .read < capacity) × (s .held < capacity) × (length (now bytes) ≡ stored len) × (capacity ≤ 8) ⌝ }
+    ensures { λ r. ⌜ r ≡ putOf capacity s (slotFor (cookie len (now (bytes .entry)))) ⌝ }
 {
     let kept = cookiestash::kept_bytes(bytes);
     let held = s.held;
-    let place = cookiestash::wrapped(MAX_COOKIES, s.read + held);
+    let place = cookiestash::wrapped(capacity as usize, s.read + held);
     s.slots[place] = Slot { bytes: kept, len };
     s.held = held + 1;
     s
@@ -63,14 +62,14 @@ fn place_of(b: &[u8]) -> u8
     b[0]
 }
 
-// The stash that a body is.
-fn stash_in(b: &[u8]) -> Stashed
+// The stash of a capacity that a body is.
+fn stash_in(b: &[u8], capacity: u8) -> Stashed
     requires { ⌜ stashFits (now b) ≡ true ⌝ }
-    ensures { λ r. ⌜ r ≡ stashedOf (now (b .entry)) ⌝ }
+    ensures { λ r. ⌜ r ≡ stashedOf capacity (now (b .entry)) ⌝ }
 {
     let mut s = CookieStash::new();
     let read = place_of(b) as usize;
-    if MAX_COOKIES <= read {
+    if !cookiestash::in_range(capacity as usize, read, 0) {
         return no_stash();
     }
     s.read = read;
@@ -78,10 +77,10 @@ fn stash_in(b: &[u8]) -> Stashed
     loop {
         match handover_cut::held_at(b, at) {
             Held::One { len, start, end } => {
-                if s.held == MAX_COOKIES {
+                if s.held == capacity as usize {
                     return no_stash();
                 }
-                s = laid(s, len, &b[start..end]);
+                s = laid(s, len, &b[start..end], capacity);
                 at = end;
             }
             Held::End => {
@@ -140,7 +139,8 @@ fn association_in(
     if !handover_groups::settings_known(settings) {
         return refused(LoadAnswer::NoAssociation);
     }
-    let stashed = stash_in(stash);
+    let given = handover_groups::settings_of(settings);
+    let stashed = stash_in(stash, given.capacity);
     if !stashed.known {
         return refused(LoadAnswer::NoAssociation);
     }
@@ -153,7 +153,7 @@ fn association_in(
     let kept = stashed.stash;
     let state = state_in(effort, version, polls, source);
     let association = Association {
-        settings: handover_groups::settings_of(settings),
+        settings: given,
         stash: kept,
         state,
     };
@@ -166,20 +166,21 @@ fn association_in(
     }
 }
 
-// Reads a file. A loaded association has sent nothing yet.
+// Reads a file: the settings say how long they are. A loaded association has sent nothing yet.
 pub fn load(file: &[u8]) -> LoadOut
     ensures { λ r. ⌜ r ≡ loadOf (now (file .entry)) ⌝ }
 {
     match handover_cut::cut(file) {
         Stop::Good => {
-            let n = file.len() - BESIDES;
+            let k = words::be16_at(file, 2) as usize;
+            let end = file.len() - BEHIND;
             association_in(
-                &file[4..30],
-                &file[34..34 + n],
-                &file[38 + n..40 + n],
-                &file[44 + n..46 + n],
-                &file[50 + n..52 + n],
-                &file[56 + n..62 + n],
+                &file[4..4 + k],
+                &file[8 + k..end],
+                &file[end + 4..end + 6],
+                &file[end + 10..end + 12],
+                &file[end + 16..end + 18],
+                &file[end + 22..end + 28],
             )
         }
         Stop::Misplaced => refused(LoadAnswer::WrongMark),

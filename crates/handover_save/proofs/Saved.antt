@@ -30,7 +30,7 @@ groups-file a =
     let e : last ≡ last ++ [] = sym (append-nil last) in
     λ i.
     recordOf 0x5345 (settingsBytes (a .settings))
-    ++ (recordOf 0x5354 (stashBytes (a .stash))
+    ++ (recordOf 0x5354 (stashBytes (a .settings .capacity) (a .stash))
     ++ (recordOf 0x5245 (effortBytes (s .effort)) ++ (recordOf 0x5645 (versionBytes (s .version)) ++ (recordOf 0x504F (pollsBytes (s .polls)) ++ e i))))
 
 module _ (a : Association) (buffer : List ℕ) where
@@ -38,16 +38,16 @@ module _ (a : Association) (buffer : List ℕ) where
   unfolding saveOf bufferOf
   not-whole-by w = rw w
 
-  module _ (w : wholeOf a ≡ true) (n : ℕ) (e : n ≡ length (stashBytes (a .stash))) where
-    long : 62 + n ≡ length (fileOf a)
-    long = ap (λ (k : ℕ). 62 + k) e ∙ sym (file-length a)
+  module _ (w : wholeOf a ≡ true) (n : ℕ) (e : n ≡ length (stashBytes (a .settings .capacity) (a .stash))) where
+    long : 63 + n ≡ length (fileOf a)
+    long = ap (λ (k : ℕ). 63 + k) e ∙ sym (file-length a)
 
-    pub short-by : length buffer < 62 + n → handed (saved ShortBuffer a) buffer ≡ handedOf a buffer
+    pub short-by : length buffer < 63 + n → handed (saved ShortBuffer a) buffer ≡ handedOf a buffer
     unfolding saveOf bufferOf
     short-by h = rw (w, lt-ltb (length buffer) (length (fileOf a)) (omega (arith, long)))
 
-    pub saved-by : 62 + n ≤ length buffer → (left : List ℕ) (r : ℕ) → Put buffer 0 (groupsFile (a .settings) (a .stash) (a .state)) r left → (s : CookieStash) → s ≡ emptyAt (a .stash .read) →
-        handed (saved (Saved (62 + n)) (record { settings = a .settings; stash = s; state = a .state })) left ≡ handedOf a buffer
+    pub saved-by : 63 + n ≤ length buffer → (left : List ℕ) (r : ℕ) → Put buffer 0 (groupsFile (a .settings) (a .stash) (a .state)) r left → (s : CookieStash) → s ≡ emptyAt (a .stash .read) →
+        handed (saved (Saved (63 + n)) (record { settings = a .settings; stash = s; state = a .state })) left ≡ handedOf a buffer
     unfolding saveOf bufferOf emptied
     saved-by h left r p s es =
         let l : left ≡ over (fileOf a) buffer = p .leaves ∙ laid-over buffer (groupsFile (a .settings) (a .stash) (a .state)) ∙ ap (λ (f : List ℕ). over f buffer) (groups-file a) in

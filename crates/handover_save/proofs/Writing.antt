@@ -54,95 +54,99 @@ record-put {out = out} {p = p} {q = q} {at = at} {r = r} {s = s} m n body eh en 
 -- ---- the cookies that are still to come
 
 -- the bytes of the n cookies from a place on
-abbrev pub ahead : CookieStash → ℕ → ℕ → List ℕ
-ahead s place n = cookiesBytes (map seen (walk 8 (s .slots) place n))
+abbrev pub ahead : ℕ → CookieStash → ℕ → ℕ → List ℕ
+ahead cap s place n = cookiesBytes (map seen (walk cap (s .slots) place n))
 
-ahead-all : (s : CookieStash) → ahead s (s .read) (s .held) ≡ cookiesBytes (cookies 8 s)
+ahead-all : (cap : ℕ) (s : CookieStash) → ahead cap s (s .read) (s .held) ≡ cookiesBytes (cookies cap s)
 unfolding cookies queue
-ahead-all s = refl
+ahead-all cap s = refl
 
-ahead-next : (s : CookieStash) (place n : ℕ) → 0 < n → ahead s place n ≡ cookieBytes (seen (slotAt (s .slots) place)) ++ ahead s (wrap 8 (place + 1)) (n - 1)
-ahead-next s place zero h = absurd (omega arith)
-ahead-next s place (suc n) h =
+ahead-next : (cap : ℕ) (s : CookieStash) (place n : ℕ) → 0 < n → ahead cap s place n ≡ cookieBytes (seen (slotAt (s .slots) place)) ++ ahead cap s (wrap cap (place + 1)) (n - 1)
+ahead-next cap s place zero h = absurd (omega arith)
+ahead-next cap s place (suc n) h =
     let e : n ≡ suc n - 1 = omega arith in
-    ap (λ (k : ℕ). cookieBytes (seen (slotAt (s .slots) place)) ++ ahead s (wrap 8 (place + 1)) k) e
+    ap (λ (k : ℕ). cookieBytes (seen (slotAt (s .slots) place)) ++ ahead cap s (wrap cap (place + 1)) k) e
 
-ahead-none : (s : CookieStash) (place n : ℕ) → n ≡ 0 → ahead s place n ≡ []
-ahead-none s place n e = ap (ahead s place) e
+ahead-none : (cap : ℕ) (s : CookieStash) (place n : ℕ) → n ≡ 0 → ahead cap s place n ≡ []
+ahead-none cap s place n e = ap (ahead cap s place) e
 
 -- ---- the loop that writes them
 
-pub record Writing (out₀ : List ℕ) (at : ℕ) (s : CookieStash) (out : List ℕ) (to place n : ℕ) : Type 0 where
+pub record Writing (cap : ℕ) (out₀ : List ℕ) (at : ℕ) (s : CookieStash) (out : List ℕ) (to place n : ℕ) : Type 0 where
+  pub most : cap ≤ 8
   pub long : length out ≡ length out₀
-  pub places : place < 8
-  pub ends : to + length (ahead s place n) ≡ at + length (cookiesBytes (cookies 8 s))
-  pub same : laidAt out to (ahead s place n) ≡ laidAt out₀ at (cookiesBytes (cookies 8 s))
+  pub places : place < cap
+  pub ends : to + length (ahead cap s place n) ≡ at + length (cookiesBytes (cookies cap s))
+  pub same : laidAt out to (ahead cap s place n) ≡ laidAt out₀ at (cookiesBytes (cookies cap s))
 
-pub begins : (out : List ℕ) (at : ℕ) (s : CookieStash) → s .read < 8 → Writing out at s out at (s .read) (s .held)
-begins out at s h = record { long = refl; places = h; ends = ap (λ (l : List ℕ). at + length l) (ahead-all s); same = ap (laidAt out at) (ahead-all s) }
+pub begins : (cap : ℕ) (out : List ℕ) (at : ℕ) (s : CookieStash) → Whole cap s → Writing cap out at s out at (s .read) (s .held)
+begins cap out at s v = record { most = v .most; long = refl; places = v .reads; ends = ap (λ (l : List ℕ). at + length l) (ahead-all cap s); same = ap (laidAt out at) (ahead-all cap s) }
 
-module _ (out₀ : List ℕ) (at : ℕ) (s : CookieStash) (room : at + length (cookiesBytes (cookies 8 s)) ≤ length out₀) (out : List ℕ) (to place n : ℕ) (w : Writing out₀ at s out to place n) where
+module _ (cap : ℕ) (out₀ : List ℕ) (at : ℕ) (s : CookieStash) (room : at + length (cookiesBytes (cookies cap s)) ≤ length out₀) (out : List ℕ) (to place n : ℕ) (w : Writing cap out₀ at s out to place n) where
   module _ (h : 0 < n) where
-    next-long : length (ahead s place n) ≡ length (cookieBytes (seen (slotAt (s .slots) place))) + length (ahead s (wrap 8 (place + 1)) (n - 1))
-    next-long = ap length (ahead-next s place n h) ∙ length-append (cookieBytes (seen (slotAt (s .slots) place))) (ahead s (wrap 8 (place + 1)) (n - 1))
+    next-long : length (ahead cap s place n) ≡ length (cookieBytes (seen (slotAt (s .slots) place))) + length (ahead cap s (wrap cap (place + 1)) (n - 1))
+    next-long = ap length (ahead-next cap s place n h) ∙ length-append (cookieBytes (seen (slotAt (s .slots) place))) (ahead cap s (wrap cap (place + 1)) (n - 1))
 
     pub fits-next : to + length (cookieBytes (seen (slotAt (s .slots) place))) ≤ length out
     fits-next = omega (arith, next-long, w .ends, w .long)
 
-    writes : (r : ℕ) (p : List ℕ) → Put out to (cookieBytes (seen (slotAt (s .slots) place))) r p → Writing out₀ at s p r (wrap 8 (place + 1)) (n - 1)
+    writes : (r : ℕ) (p : List ℕ) → Put out to (cookieBytes (seen (slotAt (s .slots) place))) r p → Writing cap out₀ at s p r (wrap cap (place + 1)) (n - 1)
     writes r p a =
         let c = cookieBytes (seen (slotAt (s .slots) place)) in
-        let rest = ahead s (wrap 8 (place + 1)) (n - 1) in
+        let rest = ahead cap s (wrap cap (place + 1)) (n - 1) in
         record {
+          most = w .most;
           long = put-long c a fits-next ∙ w .long;
-          places = next-lt 8 place (w .places);
+          places = next-lt cap place (w .places);
           ends = omega (arith, next-long, w .ends, a .ends);
-          same = (λ i. laidAt (a .leaves i) (a .ends i) rest) ∙ laid-on out to c fits-next rest ∙ sym (ap (laidAt out to) (ahead-next s place n h)) ∙ w .same;
+          same = (λ i. laidAt (a .leaves i) (a .ends i) rest) ∙ laid-on out to c fits-next rest ∙ sym (ap (laidAt out to) (ahead-next cap s place n h)) ∙ w .same;
         }
 
-    pub writes-next : (r j : ℕ) (p : List ℕ) → Put out to (cookieBytes (seen (slotAt (s .slots) place))) r p → j ≡ wrap 8 (place + 1) → Writing out₀ at s p r j (n - 1)
-    writes-next r j p a e = subst (λ (k : ℕ). Writing out₀ at s p r k (n - 1)) (sym e) (writes r p a)
+    pub writes-next : (r j : ℕ) (p : List ℕ) → Put out to (cookieBytes (seen (slotAt (s .slots) place))) r p → j ≡ wrap cap (place + 1) → Writing cap out₀ at s p r j (n - 1)
+    writes-next r j p a e = subst (λ (k : ℕ). Writing cap out₀ at s p r k (n - 1)) (sym e) (writes r p a)
 
-  pub written : n ≡ 0 → Put out₀ at (cookiesBytes (cookies 8 s)) to out
+  pub written : n ≡ 0 → Put out₀ at (cookiesBytes (cookies cap s)) to out
   written z =
-      let e = ahead-none s place n z in
+      let e = ahead-none cap s place n z in
       record { ends = omega (arith, w .ends, ap length e); leaves = sym (laid-none out to) ∙ sym (ap (laidAt out to) e) ∙ w .same }
 
 -- ---- the loop that adds up their lengths
 
-pub record Summing (s : CookieStash) (sum place n : ℕ) : Type 0 where
-  pub places : place < 8
+pub record Summing (cap : ℕ) (s : CookieStash) (sum place n : ℕ) : Type 0 where
+  pub places : place < cap
+  pub most : cap ≤ 8
   pub few : n ≤ 8
   pub small : sum ≤ 1 + 726 * (8 - n)
-  pub total : sum + length (ahead s place n) ≡ length (stashBytes s)
+  pub total : sum + length (ahead cap s place n) ≡ length (stashBytes cap s)
 
-pub sum-begins : (s : CookieStash) → Whole 8 s → Summing s 1 (s .read) (s .held)
+pub sum-begins : (cap : ℕ) (s : CookieStash) → Whole cap s → Summing cap s 1 (s .read) (s .held)
 unfolding stashBytes
-sum-begins s w = record { places = w .reads; few = w .counts; small = omega arith; total = omega (arith, ap length (ahead-all s)) }
+sum-begins cap s w = record { places = w .reads; most = w .most; few = omega (arith, w .counts, w .most); small = omega arith; total = omega (arith, ap length (ahead-all cap s)) }
 
-module _ (s : CookieStash) (v : Whole 8 s) (sum place n : ℕ) (w : Summing s sum place n) where
+module _ (cap : ℕ) (s : CookieStash) (v : Whole cap s) (sum place n : ℕ) (w : Summing cap s sum place n) where
   slot-whole : WholeSlot (slotAt (s .slots) place)
   slot-whole = v .each place (omega (arith, w .places, v .room))
 
-  sums : 0 < n → Summing s (sum + 2 + stored (slotAt (s .slots) place .len)) (wrap 8 (place + 1)) (n - 1)
+  sums : 0 < n → Summing cap s (sum + 2 + stored (slotAt (s .slots) place .len)) (wrap cap (place + 1)) (n - 1)
   sums h =
       let x = slotAt (s .slots) place in
-      let l : length (ahead s place n) ≡ length (cookieBytes (seen x)) + length (ahead s (wrap 8 (place + 1)) (n - 1))
-      = ap length (ahead-next s place n h) ∙ length-append (cookieBytes (seen x)) (ahead s (wrap 8 (place + 1)) (n - 1)) in
+      let l : length (ahead cap s place n) ≡ length (cookieBytes (seen x)) + length (ahead cap s (wrap cap (place + 1)) (n - 1))
+      = ap length (ahead-next cap s place n h) ∙ length-append (cookieBytes (seen x)) (ahead cap s (wrap cap (place + 1)) (n - 1)) in
       let b = stored-bounds (x .len) in
       record {
-        places = next-lt 8 place (w .places);
+        places = next-lt cap place (w .places);
+        most = w .most;
         few = omega (arith, w .few);
         small = omega (arith, w .small, w .few);
         total = omega (arith, w .total, cookie-long x slot-whole);
       }
 
-  pub sum-next : 0 < n → (k j : ℕ) → k ≡ stored (slotAt (s .slots) place .len) → j ≡ wrap 8 (place + 1) → Summing s (sum + 2 + k) j (n - 1)
+  pub sum-next : 0 < n → (k j : ℕ) → k ≡ stored (slotAt (s .slots) place .len) → j ≡ wrap cap (place + 1) → Summing cap s (sum + 2 + k) j (n - 1)
   sum-next h k j ek ej =
-      subst (λ (i : ℕ). Summing s (sum + 2 + i) j (n - 1)) (sym ek) (subst (λ (i : ℕ). Summing s (sum + 2 + stored (slotAt (s .slots) place .len)) i (n - 1)) (sym ej) (sums h))
+      subst (λ (i : ℕ). Summing cap s (sum + 2 + i) j (n - 1)) (sym ek) (subst (λ (i : ℕ). Summing cap s (sum + 2 + stored (slotAt (s .slots) place .len)) i (n - 1)) (sym ej) (sums h))
 
-  pub summed : n ≡ 0 → sum ≡ length (stashBytes s)
-  summed z = omega (arith, w .total, ap length (ahead-none s place n z))
+  pub summed : n ≡ 0 → sum ≡ length (stashBytes cap s)
+  summed z = omega (arith, w .total, ap length (ahead-none cap s place n z))
 
 -- ---- the records, one behind the other
 
@@ -150,20 +154,20 @@ pub record-long : (m : ℕ) (b : List ℕ) → length (recordOf m b) ≡ 4 + len
 unfolding recordOf
 record-long m b = simp length-append (omega arith)
 
-pub stash-long : (s : CookieStash) → length (stashBytes s) ≡ 1 + length (cookiesBytes (cookies 8 s))
+pub stash-long : (cap : ℕ) (s : CookieStash) → length (stashBytes cap s) ≡ 1 + length (cookiesBytes (cookies cap s))
 unfolding stashBytes
-stash-long s = omega arith
+stash-long cap s = omega arith
 
 -- the stash's: its head, the reading place, the cookies
-pub stash-put : {out p q z : List ℕ} {at r t u n : ℕ} {h b : List ℕ} (s : CookieStash) → h ≡ headOf 0x5354 n → n ≡ length (stashBytes s) → b ≡ s .read ∷ [] →
-    Put out at h r p → Put p r b t q → Put q t (cookiesBytes (cookies 8 s)) u z → at + 5 ≤ length out → Put out at (recordOf 0x5354 (stashBytes s)) u z
+pub stash-put : {out p q z : List ℕ} {at r t u n : ℕ} {h b : List ℕ} (cap : ℕ) (s : CookieStash) → h ≡ headOf 0x5354 n → n ≡ length (stashBytes cap s) → b ≡ s .read ∷ [] →
+    Put out at h r p → Put p r b t q → Put q t (cookiesBytes (cookies cap s)) u z → at + 5 ≤ length out → Put out at (recordOf 0x5354 (stashBytes cap s)) u z
 unfolding recordOf stashBytes
-stash-put {out = out} {p = p} {q = q} {z = z} {at = at} {r = r} {t = t} {u = u} {n = n} s eh en eb a b c k =
+stash-put {out = out} {p = p} {q = q} {z = z} {at = at} {r = r} {t = t} {u = u} {n = n} cap s eh en eb a b c k =
     let first : Put out at (headOf 0x5354 n) r p = subst (λ (w : List ℕ). Put out at w r p) eh a in
     let place : Put p r (s .read ∷ []) t q = subst (λ (w : List ℕ). Put p r w t q) eb b in
     let both : Put out at (headOf 0x5354 n ++ (s .read ∷ [])) t q = put-put (headOf 0x5354 n) (s .read ∷ []) first place (omega arith) in
-    let all : Put out at ((headOf 0x5354 n ++ (s .read ∷ [])) ++ cookiesBytes (cookies 8 s)) u z = put-put (headOf 0x5354 n ++ (s .read ∷ [])) (cookiesBytes (cookies 8 s)) both c (omega arith) in
-    subst (λ (j : ℕ). Put out at (toBe 2 0x5354 ++ (toBe 2 j ++ (s .read ∷ cookiesBytes (cookies 8 s)))) u z) en all
+    let all : Put out at ((headOf 0x5354 n ++ (s .read ∷ [])) ++ cookiesBytes (cookies cap s)) u z = put-put (headOf 0x5354 n ++ (s .read ∷ [])) (cookiesBytes (cookies cap s)) both c (omega arith) in
+    subst (λ (j : ℕ). Put out at (toBe 2 0x5354 ++ (toBe 2 j ++ (s .read ∷ cookiesBytes (cookies cap s)))) u z) en all
 
 module _ (state : State) {e v p s : List ℕ} (ee : e ≡ effortBytes (state .effort)) (ev : v ≡ versionBytes (state .version)) (ep : p ≡ pollsBytes (state .polls)) (es : s ≡ sourceBytes (state .source)) where
   records-are : recordOf 0x5245 e ++ (recordOf 0x5645 v ++ (recordOf 0x504F p ++ recordOf 0x534F s)) ≡ stateRecords state
@@ -190,15 +194,15 @@ module _ (state : State) {e v p s : List ℕ} (ee : e ≡ effortBytes (state .ef
 
 -- all of them
 pub file-put : (settings : Settings) (s : CookieStash) (state : State) {f : List ℕ} → f ≡ settingsBytes settings → {o o₁ o₂ o₃ : List ℕ} {r₁ r₂ r₃ : ℕ} →
-    Put o 0 (recordOf 0x5345 f) r₁ o₁ → Put o₁ r₁ (recordOf 0x5354 (stashBytes s)) r₂ o₂ → Put o₂ r₂ (stateRecords state) r₃ o₃ → 62 + length (stashBytes s) ≤ length o →
+    Put o 0 (recordOf 0x5345 f) r₁ o₁ → Put o₁ r₁ (recordOf 0x5354 (stashBytes (settings .capacity) s)) r₂ o₂ → Put o₂ r₂ (stateRecords state) r₃ o₃ → 63 + length (stashBytes (settings .capacity) s) ≤ length o →
     Put o 0 (groupsFile settings s state) r₃ o₃
 unfolding groupsFile
 file-put settings s state {f = f} e {o = o} {o₁ = o₁} {o₃ = o₃} {r₁ = r₁} {r₃ = r₃} a b c k =
-    let n : length f ≡ 26 = ap length e ∙ settings-long settings in
-    let l₁ : length (recordOf 0x5345 f) ≡ 30 = record-long 0x5345 f ∙ ap (λ (j : ℕ). 4 + j) n in
-    let l₂ = record-long 0x5354 (stashBytes s) in
+    let n : length f ≡ 27 = ap length e ∙ settings-long settings in
+    let l₁ : length (recordOf 0x5345 f) ≡ 31 = record-long 0x5345 f ∙ ap (λ (j : ℕ). 4 + j) n in
+    let l₂ = record-long 0x5354 (stashBytes (settings .capacity) s) in
     let k₁ : 0 + length (recordOf 0x5345 f) ≤ length o = omega arith in
     let m₁ : length o₁ ≡ length o = put-long (recordOf 0x5345 f) a k₁ in
-    let k₂ : r₁ + length (recordOf 0x5354 (stashBytes s)) ≤ length o₁ = omega (arith, a .ends) in
-    subst (λ (w : List ℕ). Put o 0 (recordOf 0x5345 w ++ (recordOf 0x5354 (stashBytes s) ++ stateRecords state)) r₃ o₃) e
-    (put-put (recordOf 0x5345 f) (recordOf 0x5354 (stashBytes s) ++ stateRecords state) a (put-put (recordOf 0x5354 (stashBytes s)) (stateRecords state) b c k₂) k₁)
+    let k₂ : r₁ + length (recordOf 0x5354 (stashBytes (settings .capacity) s)) ≤ length o₁ = omega (arith, a .ends) in
+    subst (λ (w : List ℕ). Put o 0 (recordOf 0x5345 w ++ (recordOf 0x5354 (stashBytes (settings .capacity) s) ++ stateRecords state)) r₃ o₃) e
+    (put-put (recordOf 0x5345 f) (recordOf 0x5354 (stashBytes (settings .capacity) s) ++ stateRecords state) a (put-put (recordOf 0x5354 (stashBytes (settings .capacity) s)) (stateRecords state) b c k₂) k₁)

@@ -34,4 +34,4 @@ stateRecords s =
     ++ recordOf 0x534F (sourceBytes (s .source))))
 
 unfoldable pub groupsFile : Settings → CookieStash → State → List ℕ
-groupsFile settings s state = recordOf 0x5345 (settingsBytes settings) ++ (recordOf 0x5354 (stashBytes s) ++ stateRecords state)
+groupsFile settings s state = recordOf 0x5345 (settingsBytes settings) ++ (recordOf 0x5354 (stashBytes (settings .capacity) s) ++ stateRecords state)

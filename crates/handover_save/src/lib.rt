@@ -1,11 +1,10 @@
 // The writer of the hand-over file: at power-down the association goes into a file, and its cookies with it.
 // Promises: the file byte by byte, and nothing past it; after a refusal nothing is written; the association handed back has no cookie, and all else as before.
-// Rule: RULES, No. 6; the file is defined in `handover_file`, how bytes are put into the buffer in specs/Put.antt.
+// Rule: RULES, No. 6 and No. 12; the file is defined in `handover_file`, how bytes are put into the buffer in specs/Put.antt.
 use association::Association;
 use association::Settings;
 use association::State;
 use cookiestash::CookieStash;
-use cookiestash::MAX_COOKIES;
 use cookiestash::Slot;
 use handover_file::SaveAnswer;
 use handover_file::SaveOut;
@@ -35,7 +34,7 @@ const POLLS_MARK: u16 = 0x504F;
 const SOURCE_MARK: u16 = 0x534F;
 
 // How many bytes a file has besides the stash's body.
-const BESIDES: usize = 62;
+const BESIDES: usize = 63;
 
 // Copies bytes to an offset of the buffer, and gives the offset behind them.
 fn put(out: &mut [u8], at: usize, piece: &[u8]) -> usize
@@ -78,10 +77,10 @@ fn put_cookie(out: &mut [u8], at: usize, slot: Slot) -> usize
     put(out, to, &bytes[0..n])
 }
 
-// The cookies, oldest first.
-fn put_cookies(out: &mut [u8], at: usize, s: CookieStash) -> usize
-    requires { ⌜ (Whole 8 s) × (at + length (cookiesBytes (cookies 8 s)) ≤ length (now out)) ⌝ }
-    ensures { λ r. ⌜ Put (now (out .entry)) at (cookiesBytes (cookies 8 s)) r (now (out .exit)) ⌝ }
+// The cookies, oldest first, of a stash of a capacity.
+fn put_cookies(out: &mut [u8], at: usize, s: CookieStash, capacity: u8) -> usize
+    requires { ⌜ (Whole capacity s) × (at + length (cookiesBytes (cookies capacity s)) ≤ length (now out)) ⌝ }
+    ensures { λ r. ⌜ Put (now (out .entry)) at (cookiesBytes (cookies capacity s)) r (now (out .exit)) ⌝ }
 {
     let mut to = at;
     let mut place = s.read;
@@ -89,16 +88,16 @@ fn put_cookies(out: &mut [u8], at: usize, s: CookieStash) -> usize
     while 0 < n {
         let slot = s.slots[place];
         to = put_cookie(out, to, slot);
-        place = cookiestash::wrapped(MAX_COOKIES, place + 1);
+        place = cookiestash::wrapped(capacity as usize, place + 1);
         n = n - 1;
     }
     to
 }
 
 // How long the stash's body is: the reading place, and two bytes and the stored ones for each cookie.
-fn stash_length(s: CookieStash) -> usize
-    requires { ⌜ Whole 8 s ⌝ }
-    ensures { λ r. ⌜ r ≡ length (stashBytes s) ⌝ }
+fn stash_length(s: CookieStash, capacity: u8) -> usize
+    requires { ⌜ Whole capacity s ⌝ }
+    ensures { λ r. ⌜ r ≡ length (stashBytes capacity s) ⌝ }
 {
     let mut sum: usize = 1;
     let mut place = s.read;
@@ -106,22 +105,22 @@ fn stash_length(s: CookieStash) -> usize
     while 0 < n {
         let slot = s.slots[place];
         sum = sum + 2 + cookiestash::stored_bytes(slot.len as usize);
-        place = cookiestash::wrapped(MAX_COOKIES, place + 1);
+        place = cookiestash::wrapped(capacity as usize, place + 1);
         n = n - 1;
     }
     sum
 }
 
 // The stash's record: the reading place, then the cookies.
-fn put_stash(out: &mut [u8], at: usize, s: CookieStash, len: usize) -> usize
-    requires { ⌜ (Whole 8 s) × (len ≡ length (stashBytes s)) × (len ≤ 65535) × (at + (4 + len) ≤ length (now out)) ⌝ }
-    ensures { λ r. ⌜ (r ≡ at + (4 + len)) × (Put (now (out .entry)) at (recordOf 0x5354 (stashBytes s)) r (now (out .exit))) ⌝ }
+fn put_stash(out: &mut [u8], at: usize, s: CookieStash, capacity: u8, len: usize) -> usize
+    requires { ⌜ (Whole capacity s) × (len ≡ length (stashBytes capacity s)) × (len ≤ 65535) × (at + (4 + len) ≤ length (now out)) ⌝ }
+    ensures { λ r. ⌜ (r ≡ at + (4 + len)) × (Put (now (out .entry)) at (recordOf 0x5354 (stashBytes capacity s)) r (now (out .exit))) ⌝ }
 {
     let h = head(STASH_MARK, len as u16);
     let to = put(out, at, &h);
     let read = [s.read as u8];
     let to = put(out, to, &read);
-    put_cookies(out, to, s)
+    put_cookies(out, to, s, capacity)
 }
 
 // The records of the state; the pending request is not written.
@@ -141,12 +140,12 @@ fn put_state(out: &mut [u8], at: usize, state: State) -> usize
 
 // The whole file, from the start of the buffer.
 fn put_file(out: &mut [u8], settings: Settings, s: CookieStash, state: State, len: usize) -> usize
-    requires { ⌜ (Whole 8 s) × (len ≡ length (stashBytes s)) × (len ≤ 65535) × (62 + len ≤ length (now out)) ⌝ }
+    requires { ⌜ (Whole (settings .capacity) s) × (len ≡ length (stashBytes (settings .capacity) s)) × (len ≤ 65535) × (63 + len ≤ length (now out)) ⌝ }
     ensures { λ r. ⌜ Put (now (out .entry)) 0 (groupsFile settings s state) r (now (out .exit)) ⌝ }
 {
     let first = handover_groups::settings_bytes(settings);
     let to = put_record(out, 0, SETTINGS_MARK, &first);
-    let to = put_stash(out, to, s, len);
+    let to = put_stash(out, to, s, settings.capacity, len);
     put_state(out, to, state)
 }
 
@@ -172,7 +171,7 @@ pub fn save_owned(a: Association, buffer: &mut [u8]) -> SaveOut
     let settings = a.settings;
     let stash = a.stash;
     let state = a.state;
-    let n = stash_length(stash);
+    let n = stash_length(stash, settings.capacity);
     let len = BESIDES + n;
     if buffer.len() < len {
         return SaveOut {

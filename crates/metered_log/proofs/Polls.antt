@@ -122,7 +122,7 @@ made-polls : (s : Settings) (list : List ℕ) → new.madeOf s list .state .poll
 unfolding new.madeOf freshOf
 made-polls s list = by (s .nts)
   where
-    by : (n : Bool) → cond n (withStash (freshOf s) (storeListOf 8 (freshOf s .stash) list)) (freshOf s) .state .polls ≡ record { last = s .min; remote = s .min }
+    by : (n : Bool) → cond n (withStash (freshOf s) (storeListOf (s .capacity) (freshOf s .stash) list)) (freshOf s) .state .polls ≡ record { last = s .min; remote = s .min }
     by true = refl
     by false = refl
 

@@ -23,12 +23,12 @@ use Rattle.reply.specs.Numbers.{Given, not-whole, undecodable, broken-li
 use Rattle.reply.proofs.Numbers.{given}
 
 -- with NTS the cookies are stored, and without it read and held stay zero
-module _ (s : CookieStash) (list : List ℕ) where
+module _ (cap : ℕ) (s : CookieStash) (list : List ℕ) where
   abbrev stored : Bool → CookieStash
-  stored nts = cond nts (storeListOf 8 s list) s
+  stored nts = cond nts (storeListOf cap s list) s
 
-  stored-whole : (nts : Bool) → stash.Whole 8 s → stash.Whole 8 (stored nts)
-  stored-whole true w = store-list-whole 8 s w list
+  stored-whole : (nts : Bool) → stash.Whole cap s → stash.Whole cap (stored nts)
+  stored-whole true w = store-list-whole cap s w list
   stored-whole false w = w
 
   stored-idle : (nts : Bool) (uid : List ℕ) → idleValid nts (s .read) (s .held) uid ≡ true → idleValid nts (stored nts .read) (stored nts .held) (noPending true .uid) ≡ true
@@ -60,10 +60,10 @@ module _ (a : Association) (read : ReplyRead) (t : Arrival) (w : Whole a) where
   given-whole (measured s e) =
       record {
         settings = w .settings;
-        stash = stored-whole (a .stash) (t .list) (a .settings .nts) (w .stash);
+        stash = stored-whole (a .settings .capacity) (a .stash) (t .list) (a .settings .nts) (w .stash);
         counted = sym (answered-unanswered (a .state .effort .reach));
         request = of-zeros 32;
-        idle = stored-idle (a .stash) (t .list) (a .settings .nts) (a .state .request .uid) (w .idle);
+        idle = stored-idle (a .settings .capacity) (a .stash) (t .list) (a .settings .nts) (a .state .request .uid) (w .idle);
       }
 
   pub reply-whole : Whole (repliedOf a read t .association)

@@ -4,4 +4,5 @@ pub mod Why
 pub mod After
 pub mod Kept
 pub mod Thin
+pub mod Eight
 pub mod Determined

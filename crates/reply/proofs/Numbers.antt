@@ -35,7 +35,7 @@ module _ (a : Association) (read : ReplyRead) (t : Arrival) where
   Told v = Given (numberOf (v .answer)) (judged a (t .list) v)
 
   abbrev verdict : Verdict
-  verdict = verdictOf (a .settings) (a .state) (seenOf 8 (a .stash)) read t
+  verdict = verdictOf (a .settings) (a .state) (seenOf (a .settings .capacity) (a .stash)) read t
 
   matched-told : (r : Reply) → N.Matching a read t r → Told (matchedOf (a .settings) (stepped (a .state) (r .upgrade)) r (t .t1) (t .t4) (t .time))
   unfolding matchedOf

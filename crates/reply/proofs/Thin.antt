@@ -17,8 +17,8 @@ use Rattle.reply.specs.Reply as R
 use Rattle.reply.specs.Reply.{judged, repliedOf}
 
 -- what was seen, judged, left and fell out
-pub told : (a : Association) (read : ReplyRead) (t : Arrival) (rs : Seen) (v : Verdict) (w : CookieStash) (d : Dropped) → rs ≡ seenOf 8 (a .stash) → v ≡ verdictOf (a .settings) (a .state) rs read t
-    → w ≡ cond (v .stores) (storeListOf 8 (a .stash) (t .list)) (a .stash) → d ≡ cond (v .stores) (droppedOf 8 (a .stash) (t .list)) noneDropped
+pub told : (a : Association) (read : ReplyRead) (t : Arrival) (rs : Seen) (v : Verdict) (w : CookieStash) (d : Dropped) → rs ≡ seenOf (a .settings .capacity) (a .stash) → v ≡ verdictOf (a .settings) (a .state) rs read t
+    → w ≡ cond (v .stores) (storeListOf (a .settings .capacity) (a .stash) (t .list)) (a .stash) → d ≡ cond (v .stores) (droppedOf (a .settings .capacity) (a .stash) (t .list)) noneDropped
     → R.told (v .answer) d (record { settings = a .settings; stash = w; state = v .state }) ≡ repliedOf a read t
 unfolding repliedOf
 told a read t rs v w d es ev ew ed =

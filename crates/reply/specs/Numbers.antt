@@ -102,4 +102,4 @@ module _ (a : Association) (read : ReplyRead) (t : Arrival) where
     not-server : {r : Reply} → Ranked r → r .server ≡ false → Given 11 (out NotServer (withState a (stepped (a .state) (r .upgrade))))
     -- with NTS the cookies are stored in order, and what fell out is told
     measured : {r : Reply} → Ranked r → r .server ≡ true →
-        Given 0 (told (Measured (measurementOf r (t .t1) (t .t4) (t .time))) (cond (a .settings .nts) (droppedOf 8 (a .stash) (t .list)) noneDropped) (withStash (withState a (afterMeasured (stepped (a .state) (r .upgrade)) r)) (cond (a .settings .nts) (storeListOf 8 (a .stash) (t .list)) (a .stash))))
+        Given 0 (told (Measured (measurementOf r (t .t1) (t .t4) (t .time))) (cond (a .settings .nts) (droppedOf (a .settings .capacity) (a .stash) (t .list)) noneDropped) (withStash (withState a (afterMeasured (stepped (a .state) (r .upgrade)) r)) (cond (a .settings .nts) (storeListOf (a .settings .capacity) (a .stash) (t .list)) (a .stash))))

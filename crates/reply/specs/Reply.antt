@@ -29,12 +29,12 @@ out r a = told r noneDropped a
 -- the record after a verdict: the settings, the stash, with the list's cookies stored in order where they are, and the next state
 abbrev pub judged : Association → List ℕ → Verdict → ReplyOut
 judged a list v =
-    told (v .answer) (cond (v .stores) (droppedOf 8 (a .stash) list) noneDropped)
-    (record { settings = a .settings; stash = cond (v .stores) (storeListOf 8 (a .stash) list) (a .stash); state = v .state })
+    told (v .answer) (cond (v .stores) (droppedOf (a .settings .capacity) (a .stash) list) noneDropped)
+    (record { settings = a .settings; stash = cond (v .stores) (storeListOf (a .settings .capacity) (a .stash) list) (a .stash); state = v .state })
 
 -- what either form gives, of what was read
 unfoldable pub repliedOf : Association → ReplyRead → Arrival → ReplyOut
-repliedOf a read t = judged a (t .list) (verdictOf (a .settings) (a .state) (seenOf 8 (a .stash)) read t)
+repliedOf a read t = judged a (t .list) (verdictOf (a .settings) (a .state) (seenOf (a .settings .capacity) (a .stash)) read t)
 
 -- the byte form (V3, V4)
 abbrev pub replyOf : Association → List ℕ → ℕ → List ℕ → Arrival → ReplyOut

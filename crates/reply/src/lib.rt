@@ -2,7 +2,6 @@
 // Promises: each number exactly under its rule, and the next record; a whole record stays whole, and a refusal leaves it as it was.
 // Rule: RULES, part 11 and No. 5; definitions in specs/Reply.antt, number by number in specs/Numbers.antt.
 use association::Association;
-use cookiestash::CAPACITY;
 use cookiestash::Dropped;
 use incoming::DecodedReply;
 use reply_rules::ReplyAnswer;
@@ -36,8 +35,8 @@ pub fn reply(
 ) -> Replied
     ensures { λ r. ⌜ (r ≡ replyOf (now (a .entry)) (now (packet .entry)) end (now (decrypted .entry)) (arrival (now (list .entry)) t1 t4 time) .replied) × (now (a .exit) ≡ replyOf (now (a .entry)) (now (packet .entry)) end (now (decrypted .entry)) (arrival (now (list .entry)) t1 t4 time) .association) ⌝ }
 {
-    let seen = lent_stash::see(&a.stash, CAPACITY);
     let settings = a.settings;
+    let seen = lent_stash::see(&a.stash, settings.capacity);
     let state = a.state;
     let verdict = reply_rules::judge_packet(
         settings,
@@ -52,7 +51,7 @@ pub fn reply(
         time,
     );
     a.state = verdict.state;
-    let dropped = lent_stash::refill(&mut a.stash, CAPACITY, verdict.stores, list);
+    let dropped = lent_stash::refill(&mut a.stash, settings.capacity, verdict.stores, list);
     Replied {
         answer: verdict.answer,
         dropped,
@@ -70,12 +69,12 @@ pub fn reply_decoded(
 ) -> Replied
     ensures { λ r. ⌜ (r ≡ replyDecodedOf (now (a .entry)) d (arrival (now (list .entry)) t1 t4 time) .replied) × (now (a .exit) ≡ replyDecodedOf (now (a .entry)) d (arrival (now (list .entry)) t1 t4 time) .association) ⌝ }
 {
-    let seen = lent_stash::see(&a.stash, CAPACITY);
     let settings = a.settings;
+    let seen = lent_stash::see(&a.stash, settings.capacity);
     let state = a.state;
     let verdict = reply_rules::judge_decoded(settings, state, seen, d, list, t1, t4, time);
     a.state = verdict.state;
-    let dropped = lent_stash::refill(&mut a.stash, CAPACITY, verdict.stores, list);
+    let dropped = lent_stash::refill(&mut a.stash, settings.capacity, verdict.stores, list);
     Replied {
         answer: verdict.answer,
         dropped,

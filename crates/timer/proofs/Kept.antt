@@ -30,8 +30,8 @@ busy : (nts : Bool) (read held : ℕ) (uid : List ℕ) → nts ≡ true → idle
 unfolding idleValid
 busy nts read held uid e = rw e
 
-taken-whole : (a : Association) → Whole a → a .settings .nts ≡ true → Whole (withStash a (getOf 8 (a .stash) .stash))
-taken-whole a w n = record { settings = w .settings; stash = get-whole 8 (a .stash) (w .stash); counted = w .counted; request = w .request; idle = busy _ _ _ _ n }
+taken-whole : (a : Association) → Whole a → a .settings .nts ≡ true → Whole (withStash a (getOf (a .settings .capacity) (a .stash) .stash))
+taken-whole a w n = record { settings = w .settings; stash = get-whole (a .settings .capacity) (a .stash) (w .stash); counted = w .counted; request = w .request; idle = busy _ _ _ _ n }
 
 no-uid : zeros (replicate 32 0) ≡ true
 unfolding zeros
@@ -52,7 +52,7 @@ sent-whole a w i = record { settings = w .settings; stash = w .stash; counted = 
 
 module _ (a : Association) (w : Whole a) (i : TimerInput) (room : ℕ) where
   -- the tried record, without its oldest cookie
-  left-whole : a .settings .nts ≡ true → Whole (withStash (withState a (triedOf (a .state))) (getOf 8 (a .stash) .stash))
+  left-whole : a .settings .nts ≡ true → Whole (withStash (withState a (triedOf (a .state))) (getOf (a .settings .capacity) (a .stash) .stash))
   left-whole n = taken-whole (withState a (triedOf (a .state))) (tried-whole a w) n
 
   kept : {n : ℕ} {o : TimerOut} → Given a i room n o → Whole (o .association)
@@ -63,7 +63,7 @@ module _ (a : Association) (w : Whole a) (i : TimerInput) (room : ℕ) where
   kept (no-cookie t n h) = tried-whole a w
   kept (too-large k z) = left-whole (k .nts)
   kept (sent t n) = sent-whole (withState a (triedOf (a .state))) (tried-whole a w) i
-  kept (sent-nts k z) = sent-whole (withStash (withState a (triedOf (a .state))) (getOf 8 (a .stash) .stash)) (left-whole (k .nts)) i
+  kept (sent-nts k z) = sent-whole (withStash (withState a (triedOf (a .state))) (getOf (a .settings .capacity) (a .stash) .stash)) (left-whole (k .nts)) i
 
   pub timer-whole : Whole (timerOf a i room .association)
   timer-whole = kept (given a i room)

@@ -3,4 +3,5 @@ pub mod Numbers
 pub mod After
 pub mod Kept
 pub mod Thin
+pub mod Eight
 pub mod Determined

@@ -30,15 +30,15 @@ found-by : (t : Bool) (x y : Taken) → x .found ≡ true → y .found ≡ false
 found-by true x y p q = p
 found-by false x y p q = q
 
-stash-whole : (a : Association) → wholeOf a ≡ true → stash.wholeOf 8 (a .stash) ≡ true
+stash-whole : (a : Association) → wholeOf a ≡ true → stash.wholeOf (a .settings .capacity) (a .stash) ≡ true
 unfolding wholeOf wholeSeen
-stash-whole a w = both (stash.wholeOf 8 (a .stash)) _ (both (settingsValid (a .settings)) _ w .1) .0
+stash-whole a w = both (stash.wholeOf (a .settings .capacity) (a .stash)) _ (both (settingsValid (a .settings)) _ w .1) .0
 
-in-range : (a : Association) → wholeOf a ≡ true → inRange 8 (a .stash) ≡ true
+in-range : (a : Association) → wholeOf a ≡ true → inRange (a .settings .capacity) (a .stash) ≡ true
 unfolding stash.wholeOf
-in-range a w = both (inRange 8 (a .stash)) _ (stash-whole a w) .0
+in-range a w = both (inRange (a .settings .capacity) (a .stash)) _ (stash-whole a w) .0
 
-found-is : (a : Association) → wholeOf a ≡ true → getOf 8 (a .stash) .found ≡ ltb 0 (a .stash .held)
+found-is : (a : Association) → wholeOf a ≡ true → getOf (a .settings .capacity) (a .stash) .found ≡ ltb 0 (a .stash .held)
 unfolding getOf
 found-is a w = rw (in-range a w) (found-by (ltb 0 (a .stash .held)) _ _ refl refl)
 
@@ -53,13 +53,13 @@ module _ (a : Association) (i : TimerInput) (room : ℕ) where
   abbrev Told : Decision → Type 0
   Told d = Given a i room (numberOf (d .answer)) (decided a d)
 
-  nts-told : N.Tried a i room → a .settings .nts ≡ true → Told (decideNts (a .settings) (triedOf (a .state)) (stash.seenOf 8 (a .stash)) i)
+  nts-told : N.Tried a i room → a .settings .nts ≡ true → Told (decideNts (a .settings) (triedOf (a .state)) (stash.seenOf (a .settings .capacity) (a .stash)) i)
   unfolding decideNts
   nts-told t n =
       let f = found-is a (t .accepted .whole) in
-      either Told (getOf 8 (a .stash) .found)
+      either Told (getOf (a .settings .capacity) (a .stash) .found)
       (λ e. let k : N.Taken a i room = record { tried = t; nts = n; some = ltb-true _ _ (sym f ∙ e) } in
-      either Told (eqb (askedWith (stash.seenOf 8 (a .stash))) 0) (λ z. too-large k (eqb-true _ _ z)) (λ z. sent-nts k (positive _ (eqb-false _ _ z))))
+      either Told (eqb (askedWith (stash.seenOf (a .settings .capacity) (a .stash))) 0) (λ z. too-large k (eqb-true _ _ z)) (λ z. sent-nts k (positive _ (eqb-false _ _ z))))
       (λ e. let l : a .stash .held ≤ 0 = ltb-false _ _ (sym f ∙ e) in no-cookie t n (omega arith))
 
   pub given : Given a i room (numberOf (timerOf a i room .answer)) (timerOf a i room)

@@ -36,18 +36,18 @@ not-both n e k = omega arith
 
 module _ (a : Association) (i : TimerInput) (ys : List ℕ) where
   abbrev seen : Seen
-  seen = seenOf 8 (a .stash)
+  seen = seenOf (a .settings .capacity) (a .stash)
 
   -- what a take leaves in the buffer is what the answer hands out
   abbrev Same : Decision → Type 0
-  Same d = cond (d .takes) (handedOf (getOf 8 (a .stash) .slot) ys) ys ≡ wrote (getOf 8 (a .stash) .slot .bytes) (handed (d .answer)) ys
+  Same d = cond (d .takes) (handedOf (getOf (a .settings .capacity) (a .stash) .slot) ys) ys ≡ wrote (getOf (a .settings .capacity) (a .stash) .slot .bytes) (handed (d .answer)) ys
 
   -- 24: since the take leaves room, the cookie is longer than 724 bytes, and none of them is stored
-  too-large : seen .found ≡ true → askedWith seen ≡ 0 → handedOf (getOf 8 (a .stash) .slot) ys ≡ ys
+  too-large : seen .found ≡ true → askedWith seen ≡ 0 → handedOf (getOf (a .settings .capacity) (a .stash) .slot) ys ≡ ys
   too-large f z =
       elim (decLe (seen .len) 724) [
-        | yes l ↦ absurd (not-both (askedWith seen) z (asked-some (min (seen .gap) 8) (seen .len) (omega (arith, found-gap 8 (a .stash) f)) l))
-        | no n ↦ handed-none (getOf 8 (a .stash) .slot) ys (none (seen .len) (omega arith))
+        | yes l ↦ absurd (not-both (askedWith seen) z (asked-some (min (seen .gap) 8) (seen .len) (omega (arith, found-gap (a .settings .capacity) (a .stash) f)) l))
+        | no n ↦ handed-none (getOf (a .settings .capacity) (a .stash) .slot) ys (none (seen .len) (omega arith))
       ]
 
   same : Same (decideOf (a .settings) (a .state) seen i (length ys))
@@ -62,19 +62,19 @@ module _ (a : Association) (i : TimerInput) (ys : List ℕ) where
       (λ z.
       let short = asked-short (min (seen .gap) 8) (seen .len) (eqb-false _ _ z) in
       let roomy = ltb-false (length ys) 724 (sym (passes _ n) ∙ b) in
-      handed-all (getOf 8 (a .stash) .slot) ys short (omega arith)))
+      handed-all (getOf (a .settings .capacity) (a .stash) .slot) ys short (omega arith)))
       (λ _. refl))
       (λ _. refl))))
       (λ _. refl)
 
   -- what was seen, decided and left
   pub told : (rs : Seen) (d : Decision) (w : CookieStash) (zs : List ℕ) → rs ≡ seen → d ≡ decideOf (a .settings) (a .state) rs i (length ys)
-      → w ≡ cond (d .takes) (getOf 8 (a .stash) .stash) (a .stash) → zs ≡ cond (d .takes) (handedOf (getOf 8 (a .stash) .slot) ys) ys
+      → w ≡ cond (d .takes) (getOf (a .settings .capacity) (a .stash) .stash) (a .stash) → zs ≡ cond (d .takes) (handedOf (getOf (a .settings .capacity) (a .stash) .slot) ys) ys
       → timed (out (d .answer) (record { settings = a .settings; stash = w; state = d .state })) zs ≡ timedOf a i ys
   unfolding timerOf bufferOf
   told rs d w zs es ed ew ez =
       let k : d ≡ decideOf (a .settings) (a .state) seen i (length ys) = ed ∙ ap (λ (v : Seen). decideOf (a .settings) (a .state) v i (length ys)) es in
       let o : out (d .answer) (record { settings = a .settings; stash = w; state = d .state }) ≡ decided a d = ap (λ (t : CookieStash). out (d .answer) (record { settings = a .settings; stash = t; state = d .state })) ew in
       (λ j. timed (o j) (ez j))
-      ∙ ap (λ (e : Decision). timed (decided a e) (cond (e .takes) (handedOf (getOf 8 (a .stash) .slot) ys) ys)) k
+      ∙ ap (λ (e : Decision). timed (decided a e) (cond (e .takes) (handedOf (getOf (a .settings .capacity) (a .stash) .slot) ys) ys)) k
       ∙ ap (timed (decided a (decideOf (a .settings) (a .state) seen i (length ys)))) same

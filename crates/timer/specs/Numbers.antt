@@ -45,8 +45,8 @@ module _ (a : Association) (i : TimerInput) (room : ℕ) where
     demobilize : Accepted → startupOver (a .settings) (a .state) ≡ true → a .state .source .denial ≡ true → Given 22 (out Demobilize a)
     reset : Accepted → startupOver (a .settings) (a .state) ≡ true → a .state .source .denial ≡ false → Given 21 (out Reset a)
     no-cookie : Tried → a .settings .nts ≡ true → a .stash .held ≡ 0 → Given 23 (out NoCookie (withState a (triedOf (a .state))))
-    too-large : Taken → askedWith (seenOf 8 (a .stash)) ≡ 0 →
-        Given 24 (out CookieTooLarge (withStash (withState a (triedOf (a .state))) (getOf 8 (a .stash) .stash)))
+    too-large : Taken → askedWith (seenOf (a .settings .capacity) (a .stash)) ≡ 0 →
+        Given 24 (out CookieTooLarge (withStash (withState a (triedOf (a .state))) (getOf (a .settings .capacity) (a .stash) .stash)))
     sent : Tried → a .settings .nts ≡ false → Given 20 (decided a (sendOf (a .settings) (triedOf (a .state)) i 0 0 false))
-    sent-nts : Taken → 0 < askedWith (seenOf 8 (a .stash)) →
-        Given 20 (decided a (sendOf (a .settings) (triedOf (a .state)) i (getOf 8 (a .stash) .slot .len) (askedWith (seenOf 8 (a .stash))) true))
+    sent-nts : Taken → 0 < askedWith (seenOf (a .settings .capacity) (a .stash)) →
+        Given 20 (decided a (sendOf (a .settings) (triedOf (a .state)) i (getOf (a .settings .capacity) (a .stash) .slot .len) (askedWith (seenOf (a .settings .capacity) (a .stash))) true))

@@ -20,10 +20,10 @@ out r a = record { answer = r; association = a }
 
 -- the record after a decision: the settings, the stash without its oldest cookie where that is taken, and the next state
 abbrev pub decided : Association → Decision → TimerOut
-decided a d = out (d .answer) (record { settings = a .settings; stash = cond (d .takes) (getOf 8 (a .stash) .stash) (a .stash); state = d .state })
+decided a d = out (d .answer) (record { settings = a .settings; stash = cond (d .takes) (getOf (a .settings .capacity) (a .stash) .stash) (a .stash); state = d .state })
 
 unfoldable pub timerOf : Association → TimerInput → ℕ → TimerOut
-timerOf a i room = decided a (decideOf (a .settings) (a .state) (seenOf 8 (a .stash)) i room)
+timerOf a i room = decided a (decideOf (a .settings) (a .state) (seenOf (a .settings .capacity) (a .stash)) i room)
 
 -- how many bytes are handed out: the cookie's length, which is 0 without NTS
 abbrev pub handed : TimerAnswer → ℕ
@@ -37,7 +37,7 @@ handed NotWhole = 0
 
 -- only 20 with NTS writes to the buffer
 unfoldable pub bufferOf : Association → TimerInput → List ℕ → List ℕ
-bufferOf a i buffer = wrote (getOf 8 (a .stash) .slot .bytes) (handed (timerOf a i (length buffer) .answer)) buffer
+bufferOf a i buffer = wrote (getOf (a .settings .capacity) (a .stash) .slot .bytes) (handed (timerOf a i (length buffer) .answer)) buffer
 
 -- all that a call gives: its answer with the next record, and what is left in the buffer
 pub record Timed : Type 0 where

@@ -2,7 +2,6 @@
 // Promises: each number exactly under its rule, the next record and every byte of the buffer; a whole record stays whole.
 // Rule: RULES, part 10; definitions in specs/Timer.antt, number by number in specs/Numbers.antt.
 use association::Association;
-use cookiestash::CAPACITY;
 use time_types::PollInterval;
 use timer_rules::TimerAnswer;
 use timer_rules::TimerInput;
@@ -27,8 +26,8 @@ pub fn timer(
 ) -> TimerAnswer
     ensures { λ r. ⌜ timed (out r (now (a .exit))) (now (buffer .exit)) ≡ timedOf (now (a .entry)) (timerInput time desired id uid) (now (buffer .entry)) ⌝ }
 {
-    let seen = lent_stash::see(&a.stash, CAPACITY);
     let settings = a.settings;
+    let seen = lent_stash::see(&a.stash, settings.capacity);
     let state = a.state;
     let input = TimerInput {
         time,
@@ -38,7 +37,7 @@ pub fn timer(
     };
     let decision = timer_rules::decide(settings, state, seen, input, buffer.len());
     a.state = decision.state;
-    lent_stash::take(&mut a.stash, CAPACITY, decision.takes, buffer);
+    lent_stash::take(&mut a.stash, settings.capacity, decision.takes, buffer);
     decision.answer
 }
 

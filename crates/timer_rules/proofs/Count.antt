@@ -35,10 +35,15 @@ asked-formula v h = omega arith
 pub asked-larger : (v : Seen) → 8 ≤ v .gap → askedWith v ≡ askedOf 8 (v .len)
 asked-larger v h = omega arith
 
--- so of every stash it is the formula, of the gap after the take and the length of the oldest
-pub asked-seen : (s : CookieStash) → askedWith (seenOf 8 s) ≡ askedOf (gapOf 8 (getOf 8 s .stash)) (getOf 8 s .slot .len)
+-- so of every stash, whatever its capacity, it is the formula, of the gap after the take and the length of the oldest
+pub asked-seen : (cap : ℕ) (s : CookieStash) → cap ≤ 8 → askedWith (seenOf cap s) ≡ askedOf (gapOf cap (getOf cap s .stash)) (getOf cap s .slot .len)
 unfolding gapOf
-asked-seen s = asked-formula (seenOf 8 s) (omega arith)
+asked-seen cap s h = asked-formula (seenOf cap s) (omega arith)
+
+-- and never more than the capacity (RULES, No. 12)
+pub asked-capacity : (cap : ℕ) (s : CookieStash) → askedWith (seenOf cap s) ≤ cap
+unfolding gapOf
+asked-capacity cap s = omega arith
 
 pub asked-none : (gap len : ℕ) → 724 < len → askedOf gap len ≡ 0
 asked-none gap len h = omega (arith, fits-few (max len 1) 0 (omega arith) (omega arith))
@@ -54,11 +59,11 @@ asked-short gap len h =
     ]
 
 -- what makes a number 24: of a whole stash that holds a cookie nothing is asked for exactly where that cookie is longer than 724 bytes
-pub asked-zero : (s : CookieStash) → Whole 8 s → 0 < s .held → (askedWith (seenOf 8 s) ≡ 0) ↔ (724 < getOf 8 s .slot .len)
-asked-zero s w h =
-    let gap = gapOf 8 (getOf 8 s .stash) in
-    let len = getOf 8 s .slot .len in
-    let g : 0 < gap = omega (arith, gap-get 8 s w h) in (
+pub asked-zero : (cap : ℕ) (s : CookieStash) → Whole cap s → 0 < s .held → (askedWith (seenOf cap s) ≡ 0) ↔ (724 < getOf cap s .slot .len)
+asked-zero cap s w h =
+    let gap = gapOf cap (getOf cap s .stash) in
+    let len = getOf cap s .slot .len in
+    let g : 0 < gap = omega (arith, gap-get cap s w h) in (
       (λ z.
           elim (decLe len 724) [
             | yes l ↦ absurd (not-both _ z (asked-some (min gap 8) len (omega arith) l))

@@ -5,13 +5,14 @@ use crate::state::*;
 use ntp_proto::tls_utils::identifier_of;
 
 /// RULES over the crate, by the name that a log's reasons carry.
-pub const REASONS: [(&str, &str); 6] = [
+pub const REASONS: [(&str, &str); 7] = [
     ("field-under-16", "a V4 field of length 4, 8 or 12: broken by part 7 (RFC 7822), read by the crate"),
     ("placeholder-not-zero", "a 0304 field whose body is not all zero: part 7 looks at no body, the crate refuses it"),
     ("0404-decrypted", "a 0404 field among the decrypted ones: part 7 looks at no type, the crate refuses it"),
     ("rate-at-127", "RATE at the remote minimum 127: part 11's sum never wraps, the crate's wraps to -128"),
     ("served-by-us", "a source of stratum 2 or more that reports one of our identifiers: 41 by No. 2, no loop to the crate"),
     ("rate-falls", "RATE above the limit and the last poll: the remote minimum stays (No. 7), the crate's falls"),
+    ("smaller-stash", "a capacity below 8: full, gap and wrap follow it (No. 12), the crate's stash has eight slots"),
 ];
 
 pub struct Step {
@@ -41,8 +42,9 @@ impl Both {
         let before = self.rules.as_ref().map(|r| r.state.clone());
         let (answer, drawn) = self.exec.run(op);
         let of_crate = (answer, self.exec.state());
-        if let Op::New { nts, min, max, startup, window, start, source, cookies } = op {
-            self.rules = Some(Rules::new(*nts, *min, *max, *startup, *window, *start, identifier_of(*source), cookies));
+        if let Op::New { nts, min, max, startup, window, start, source, cookies, capacity } = op {
+            let source = identifier_of(*source);
+            self.rules = Some(Rules::new(*nts, *min, *max, *startup, *window, *start, source, cookies, *capacity));
         }
         let rules = self.rules.as_mut().unwrap();
         let mut left_out = false;
@@ -80,6 +82,7 @@ impl Both {
                 }
                 _ => None,
             });
+            step.reason = step.reason.or_else(|| listed_stash(self.exec.nts, &step));
             step.failed |= step.reason.is_none();
         }
         match step.reason {
@@ -143,6 +146,32 @@ fn listed_accept(stratum: u8, local: &[u32], bloom: Bloom, source: u32, step: &S
     (cause && effect && after_crate == before && after_rules == before).then_some(REASONS[4].0)
 }
 
+/// The same for a stash of a smaller capacity. The crate's, of eight slots, may hold more and ask for more; what it holds
+/// newest is what ours holds, what it holds beyond that fell out of ours, and all else is the same.
+fn listed_stash(nts: bool, step: &Step) -> Option<&'static str> {
+    let ((of_crate, after_crate), (of_rules, after_rules)) = (&step.of_crate, &step.of_rules);
+    let capacity = after_rules.capacity as usize;
+    let (theirs, ours) = (&after_crate.cookies, &after_rules.cookies);
+    let more = theirs.len().checked_sub(ours.len())?;
+    let cause = nts && capacity < 8;
+    let newest = theirs[more..] == ours[..] && (more == 0 || ours.len() == capacity);
+    let beyond: usize = theirs[..more].iter().map(|c| c.0).sum();
+    let dropped = of_crate.dropped.map(|(count, sum)| (count + more as u64, sum + beyond as u64)) == of_rules.dropped;
+    // Ours asks for what the crate would ask for, held at the gap.
+    let asked = match (&of_crate.sent, &of_rules.sent) {
+        (Some(c), Some(r)) => {
+            let asked = c.asked.min((capacity - ours.len()) as u8);
+            (Sent { asked, ..c.clone() }) == *r
+        }
+        (c, r) => c == r,
+    };
+    let rest = Answer { sent: None, dropped: None, ..of_crate.clone() }
+        == Answer { sent: None, dropped: None, ..of_rules.clone() }
+        && State { cookies: vec![], read: 0, ..after_crate.clone() }
+            == State { cookies: vec![], read: 0, ..after_rules.clone() };
+    (cause && newest && dropped && asked && rest).then_some(REASONS[6].0)
+}
+
 #[cfg(test)]
 mod tests {
     use super::*;
@@ -168,6 +197,7 @@ mod tests {
             start: Version::V4,
             source,
             cookies: vec![],
+            capacity: 8,
         });
         let [reach, unanswered] = super::reach(reach);
         both.step(&Op::Poke(vec![("stratum", stratum as i64), reach, unanswered]));
@@ -194,8 +224,17 @@ mod tests {
     fn one_event_of_the_crate_is_three_numbers() {
         let mut both = Both::new();
         let source = address(SOURCE);
-        let new =
-            Op::New { nts: false, min: 4, max: 10, startup: 3, window: 5000, start: Version::V4, source, cookies: vec![] };
+        let new = Op::New {
+            nts: false,
+            min: 4,
+            max: 10,
+            startup: 3,
+            window: 5000,
+            start: Version::V4,
+            source,
+            cookies: vec![],
+            capacity: 8,
+        };
         let timer = Op::Timer { now: 1000, desired: 6, id: 7, uid: [0; 32], room: None };
         let mut packet = vec![0; 48];
         packet[..2].copy_from_slice(&[0x24, 2]);
@@ -225,17 +264,54 @@ mod tests {
         for (nts, given, dropped) in [(true, 8, (0, 0)), (true, 9, (1, 1)), (true, 11, (3, 6)), (false, 9, (0, 0))] {
             let cookies = (1..=given).map(|n| vec![0; n]).collect();
             let source = address(SOURCE);
-            let new = Op::New { nts, min: 4, max: 10, startup: 3, window: 5000, start: Version::V4, source, cookies };
+            let new =
+                Op::New { nts, min: 4, max: 10, startup: 3, window: 5000, start: Version::V4, source, cookies, capacity: 8 };
             let step = Both::new().step(&new);
             assert!(!step.failed);
             assert_eq!((step.of_crate.0.dropped, step.of_rules.0.dropped), (Some(dropped), Some(dropped)));
         }
     }
 
+    /// With a smaller capacity the crate holds more and asks for more. Nothing else passes for that.
+    #[test]
+    fn a_smaller_stash_is_told_from_the_crates() {
+        let mut both = Both::new();
+        let (source, cookies) = (address(SOURCE), (1..=9).map(|n| vec![0; n]).collect());
+        let (start, capacity) = (Version::V4, 4);
+        let new = Op::New { nts: true, min: 4, max: 10, startup: 3, window: 5000, start, source, cookies, capacity };
+        let timer = Op::Timer { now: 1000, desired: 6, id: 7, uid: [1; 32], room: None };
+        let step = both.step(&new);
+        assert_eq!((step.of_crate.0.dropped, step.of_rules.0.dropped), (Some((1, 1)), Some((5, 15))));
+        assert_eq!(step.reason, Some("smaller-stash"));
+        let mut step = both.step(&timer);
+        let asked = |a: &(Answer, State)| a.0.sent.as_ref().unwrap().asked;
+        assert_eq!((asked(&step.of_crate), asked(&step.of_rules), step.reason), (5, 1, Some("smaller-stash")));
+        assert!(listed_stash(true, &step).is_some() && listed_stash(false, &step).is_none());
+        // Another number asked for, another cookie, another number of the record, and a capacity that is the crate's.
+        let right = step.of_rules.clone();
+        let wrong = |change: &dyn Fn(&mut (Answer, State))| {
+            let mut of_rules = right.clone();
+            change(&mut of_rules);
+            of_rules
+        };
+        for of_rules in [
+            wrong(&|r| r.0.sent.as_mut().unwrap().asked = 2),
+            wrong(&|r| r.0.sent.as_mut().unwrap().poll = 5),
+            wrong(&|r| r.0.number = 24),
+            wrong(&|r| r.0.dropped = Some((0, 0))),
+            wrong(&|r| r.1.cookies[2].1[0] = 1),
+            wrong(&|r| r.1.reach = 1),
+            wrong(&|r| r.1.capacity = 8),
+        ] {
+            step.of_rules = of_rules;
+            assert!(listed_stash(true, &step).is_none());
+        }
+    }
+
     /// Another cause, another effect and a changed record have no reason.
     #[test]
     fn nothing_else_passes_for_a_source_that_we_serve() {
-        let before = Rules::new(false, 4, 10, 3, 5000, Version::V4, SOURCE, &[]).state;
+        let before = Rules::new(false, 4, 10, 3, 5000, Version::V4, SOURCE, &[], 8).state;
         let listed = |stratum, local: &[u32], bloom, numbers: (u8, u8), after: &State| {
             let side = |number| (Answer { number, ..Answer::default() }, after.clone());
             let (of_crate, of_rules) = (side(numbers.0), side(numbers.1));

@@ -22,12 +22,13 @@ fn version(v: Version) -> String {
 /// The command of an operation; a poke has several, one for each number, and a V5 reply is given in decoded form.
 pub fn commands(op: &Op, step: &Step) -> Vec<String> {
     vec![match op {
-        Op::New { nts, min, max, startup, window, start, source, cookies } => format!(
-            "new min={min} max={max} startup={startup} window={window} mark={UPGRADE_MARK:016x} start={} nts={} source={:08x} list={}",
+        Op::New { nts, min, max, startup, window, start, source, cookies, capacity } => format!(
+            "new min={min} max={max} startup={startup} window={window} mark={UPGRADE_MARK:016x} start={} nts={} source={:08x} list={}{}",
             version(*start),
             if *nts { "yes" } else { "no" },
             identifier_of(*source),
-            held(&list(cookies))
+            held(&list(cookies)),
+            if *capacity == 8 { String::new() } else { format!(" capacity={capacity}") }
         ),
         Op::Timer { now, desired, id, uid, room } => format!(
             "timer now={now} desired={desired} id={id:016x} uid={}{}",
@@ -130,10 +131,10 @@ fn show(s: &State) -> String {
     };
     let mut lens = [0; 8];
     for (i, c) in s.cookies.iter().enumerate() {
-        lens[(s.read + i) % 8] = c.0;
+        lens[(s.read + i) % s.capacity as usize] = c.0;
     }
     format!(
-        "record reach={} tries={} version={} last={} remote={} pending={pending} denial={} stratum={} refid={:08x} read={} held={} lens={} answered={} unanswered={}",
+        "record reach={} tries={} version={} last={} remote={} pending={pending} denial={} stratum={} refid={:08x} read={} held={} lens={} answered={} unanswered={} capacity={}",
         s.reach,
         s.tries,
         version(s.version),
@@ -146,7 +147,8 @@ fn show(s: &State) -> String {
         s.cookies.len(),
         lens.map(|n: usize| n.to_string()).join(","),
         if s.answered { "yes" } else { "no" },
-        s.unanswered
+        s.unanswered,
+        s.capacity
     )
 }
 

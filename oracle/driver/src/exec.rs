@@ -61,7 +61,7 @@ fn leap_code(l: NtpLeapIndicator) -> u8 {
 }
 
 /// A crate's record as the rules have it: tries held at 255, no bytes of a cookie over 724.
-fn state_of(r: &Record, answered: bool) -> State {
+fn state_of(r: &Record, answered: bool, capacity: u8) -> State {
     let (read, cookies) = r.stash.clone().unwrap_or_default();
     State {
         reach: r.reach,
@@ -77,6 +77,7 @@ fn state_of(r: &Record, answered: bool) -> State {
         refid: u32::from_be_bytes(r.reference_id),
         read,
         cookies: cookies.iter().map(|c| stored(c)).collect(),
+        capacity,
     }
 }
 
@@ -113,6 +114,8 @@ pub struct Exec {
     source: Option<NtpSource<Controller>>,
     pub nts: bool,
     startup: usize,
+    /// What `new` was given; the crate's stash has eight slots, whatever it is.
+    capacity: u8,
     /// The crate has handed out a measurement since it last sent a poll: from its actions alone, since it keeps no such fact.
     answered: bool,
     /// A reply that is ignored (12, 13, 14) and one that does not match (4) leave the same text; the former stands first in the file.
@@ -126,7 +129,7 @@ impl Exec {
             .position(|l| l.contains("Received old/unexpected packet from source"))
             .unwrap() as u32
             + 1;
-        Exec { source: None, nts: false, startup: 3, answered: false, line_of_ignored }
+        Exec { source: None, nts: false, startup: 3, capacity: 8, answered: false, line_of_ignored }
     }
 
     fn source(&mut self) -> &mut NtpSource<Controller> {
@@ -139,8 +142,8 @@ impl Exec {
     }
 
     pub fn state(&mut self) -> State {
-        let answered = self.answered;
-        state_of(&self.source().record(), answered)
+        let (answered, capacity) = (self.answered, self.capacity);
+        state_of(&self.source().record(), answered, capacity)
     }
 
     /// Makes the crate's record that of the rules, after a step where they differ for a listed reason.
@@ -167,8 +170,9 @@ impl Exec {
         tracing::oracle::take();
         rand::oracle::clear();
         match op {
-            Op::New { nts, min, max, startup, window, start, source, cookies } => {
+            Op::New { nts, min, max, startup, window, start, source, cookies, capacity } => {
                 self.nts = *nts;
+                self.capacity = *capacity;
                 self.answered = false;
                 self.startup = *startup as usize;
                 set_window(*window);

@@ -141,7 +141,7 @@ impl Cases<'_> {
     fn begin(&mut self, title: &str, s: Start) {
         self.log.comment(title);
         let Start { nts, start, min, max, startup, window, cookies, source } = s;
-        self.step(Op::New { nts, min, max, startup, window, start, source, cookies });
+        self.step(Op::New { nts, min, max, startup, window, start, source, cookies, capacity: 8 });
     }
     fn timer_with(&mut self, now: u64, desired: i8) {
         self.step(Op::Timer { now, desired, id: ID, uid: UID, room: None });
@@ -635,7 +635,7 @@ impl Cases<'_> {
             .comment("a cookie of 65,531 bytes fits no list of the drill; driver limits ran it on crate and rules alone: 24");
         let mut both = Both::new();
         let Start { nts, start, min, max, startup, window, cookies, source } = nts(vec![vec![0xcc; 65_531]]);
-        let new = Op::New { nts, min, max, startup, window, start, source, cookies };
+        let new = Op::New { nts, min, max, startup, window, start, source, cookies, capacity: 8 };
         let timer = Op::Timer { now: 1000, desired: 6, id: ID, uid: UID, room: None };
         for (op, number) in [(new, 0), (timer, 24)] {
             let step = both.step(&op);

@@ -18,8 +18,8 @@ use state::Op;
 use std::collections::BTreeMap;
 use std::process::ExitCode;
 
-const USAGE: &str = "driver log SEED CASES STEPS [wild] [set] [metered] [nts|plain] OUT.drill OUT.expected
-driver check SEED CASES STEPS [wild] [set] [metered] [nts|plain]
+const USAGE: &str = "driver log SEED CASES STEPS [wild] [set] [metered] [capacity] [nts|plain] OUT.drill OUT.expected
+driver check SEED CASES STEPS [wild] [set] [metered] [capacity] [nts|plain]
 driver limits OUT.drill OUT.expected
 driver own OUT.drill OUT.expected
 driver requests SEED COUNT OUT.drill OUT.expected
@@ -106,11 +106,14 @@ fn sample(log: &mut Log) {
     limits::write(log);
     for (i, nts) in [false, true].into_iter().enumerate() {
         for (j, (wild, set)) in [(false, false), (true, false), (true, true)].into_iter().enumerate() {
-            let manner = Manner { wild, set, nts: Some(nts), small: true, metered: false };
+            let manner = Manner { wild, set, nts: Some(nts), small: true, metered: false, capacity: false };
             log.comment(&format!("random steps: nts {nts}, wild {wild}, set {set}"));
-            write_cases(log, (3 * i + j) as u64, 11, 40, manner);
+            write_cases(log, (3 * i + j) as u64, 9, 40, manner);
         }
     }
+    own::capacities(log);
+    log.comment("random steps: nts true, capacity true");
+    write_cases(log, 6, 9, 40, Manner { nts: Some(true), small: true, capacity: true, ..Manner::default() });
     let reached = |word: &str, numbers: &[u8]| {
         for n in numbers {
             assert!(log.numbers.contains_key(&format!("{word} {n}")), "{word} {n} is not reached");
@@ -138,11 +141,12 @@ fn write_log(drill: &str, expected: &str, write: impl FnOnce(&mut Log)) -> ExitC
 }
 
 fn main() -> ExitCode {
-    const MANNERS: [&str; 5] = ["wild", "set", "metered", "nts", "plain"];
+    const MANNERS: [&str; 6] = ["wild", "set", "metered", "capacity", "nts", "plain"];
     let args: Vec<String> = std::env::args().skip(1).collect();
     let has = |name: &str| args.iter().any(|a| a == name);
     let nts = if has("nts") { Some(true) } else { has("plain").then_some(false) };
-    let manner = Manner { wild: has("wild"), set: has("set"), nts, small: false, metered: has("metered") };
+    let (metered, capacity) = (has("metered"), has("capacity"));
+    let manner = Manner { wild: has("wild"), set: has("set"), nts, small: false, metered, capacity };
     let rest: Vec<&str> = args.iter().map(String::as_str).filter(|a| !MANNERS.contains(a)).collect();
     let numbers: Vec<u64> = rest.iter().skip(1).map_while(|a| a.parse().ok()).collect();
     match (rest.as_slice(), numbers.as_slice()) {
@@ -151,7 +155,10 @@ fn main() -> ExitCode {
         }
         (["check", _, _, _], [seed, count, steps]) => check(*seed, *count, *steps, manner),
         (["limits", drill, expected], _) => write_log(drill, expected, limits::write),
-        (["own", drill, expected], _) => write_log(drill, expected, own::write),
+        (["own", drill, expected], _) => write_log(drill, expected, |log| {
+            own::write(log);
+            own::capacities(log);
+        }),
         (["requests", _, _, drill, expected], [seed, count]) => {
             write_log(drill, expected, |log| requests::write(log, *seed, *count))
         }

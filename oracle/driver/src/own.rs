@@ -1,10 +1,11 @@
 //! What RULES says of its own, so that no crate answers it: settings, lists, buffers and records that are refused
-//! (30 to 33), the caller's part of a reply, the collector's limit, another upgrade mark. The answers are written by hand.
+//! (30 to 33), the caller's part of a reply, the collector's limit, another upgrade mark, stashes of less than eight slots. The
+//! answers are written by hand.
 use crate::drill::Log;
 use crate::state::hex;
 
-const BLANK: &str = "record reach=0 tries=0 version=v4 last=0 remote=0 pending=- denial=no stratum=0 refid=00000000 read=0 held=0 lens=0,0,0,0,0,0,0,0 answered=no unanswered=0";
-const NEW: &str = "record reach=0 tries=0 version=v4 last=4 remote=4 pending=- denial=no stratum=16 refid=584e4f4e read=0 held=0 lens=0,0,0,0,0,0,0,0 answered=no unanswered=8";
+const BLANK: &str = "record reach=0 tries=0 version=v4 last=0 remote=0 pending=- denial=no stratum=0 refid=00000000 read=0 held=0 lens=0,0,0,0,0,0,0,0 answered=no unanswered=0 capacity=0";
+const NEW: &str = "record reach=0 tries=0 version=v4 last=4 remote=4 pending=- denial=no stratum=16 refid=584e4f4e read=0 held=0 lens=0,0,0,0,0,0,0,0 answered=no unanswered=8 capacity=8";
 const PLAIN: &str = "new min=4 max=10 startup=3 window=5000 mark=4e54503544524654 start=v4 nts=no source=c0000201";
 const NTS: &str = "new min=4 max=10 startup=3 window=5000 mark=4e54503544524654 start=v4 nts=yes source=c0000201";
 const TIMER: &str = "timer now=1000 desired=6 id=0102030405060708";
@@ -320,6 +321,65 @@ fn decoded_form(log: &mut Log) {
             log.own(TIMER, "timer 20 send=nts-v5 poll=6 cookie=01 asked=8");
             let groups = format!("auth={auth} enc={enc} untrusted={untrusted}");
             log.own(&format!("{REPLY5} kiss={kiss} {groups}"), &format!("reply5 {number}"));
+        }
+    }
+}
+
+/// A stash of a chosen size (RULES, No. 12): full, gap and wrap follow the capacity, and so does when a record is whole.
+pub fn capacities(log: &mut Log) {
+    log.comment("a capacity outside 1 to 8 is refused, with NTS or without, and before a list that is broken");
+    for (capacity, holds) in [(0, false), (1, true), (2, true), (7, true), (8, true), (9, false), (255, false)] {
+        for new in [PLAIN, NTS] {
+            log.own(&format!("{new} capacity={capacity}"), if holds { NEW_0 } else { "new 30" });
+            let shown = if holds { NEW.replace("capacity=8", &format!("capacity={capacity}")) } else { BLANK.into() };
+            log.own("show", &shown);
+        }
+        let number = if holds { 33 } else { 30 };
+        log.own(&format!("{NTS} list={BROKEN_LIST} capacity={capacity}"), &format!("new {number}"));
+    }
+    log.comment("of nine cookies those that fit are held, and each poll asks for as many as there is room for");
+    let nine: String = (1..=9).map(|n| format!("c00e0001{n:02x}")).collect();
+    for capacity in 1..=8 {
+        let dropped = 9 - capacity;
+        log.own(
+            &format!("{} list={nine} capacity={capacity}", NTS.replace("startup=3", "startup=8")),
+            &format!("new 0 dropped={dropped} lost={dropped}"),
+        );
+        let held: Vec<String> = (dropped + 1..=9).map(|n| format!("{n:02x}")).collect();
+        log.own("cookies", &format!("cookies {capacity} {}", held.join(",")));
+        for (polls, cookie) in held.iter().enumerate() {
+            log.own(TIMER, &format!("timer 20 send=nts-v4 poll=6 cookie={cookie} asked={}", polls + 1));
+        }
+        // After eight polls without an answer the startup limit is reached.
+        log.own(TIMER, if capacity < 8 { "timer 23" } else { "timer 21" });
+    }
+    log.comment(
+        "a record is whole if its reading place is below the capacity, no more are held, and the slots past it are free",
+    );
+    let three = format!("{NTS} list=c00e000101c00e000102c00e000103");
+    for (capacity, read, held, whole) in [
+        (3, 0, 3, true),
+        (3, 1, 3, true),
+        (3, 2, 3, true),
+        (3, 3, 3, false),
+        (3, 0, 4, false),
+        (2, 0, 2, false),
+        (2, 0, 3, false),
+        (4, 0, 3, true),
+        (4, 1, 3, false),
+        (8, 0, 3, true),
+        (0, 0, 3, false),
+        (9, 0, 3, false),
+        (255, 0, 3, false),
+    ] {
+        log.own(&three, NEW_0);
+        for (key, value) in [("capacity", capacity), ("read", read), ("held", held)] {
+            log.own(&format!("poke key={key} value={value}"), "poke");
+        }
+        if whole {
+            log.own("accept stratum=17", "accept 42");
+        } else {
+            refused_32(log);
         }
     }
 }

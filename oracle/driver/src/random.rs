@@ -55,6 +55,8 @@ pub struct Manner {
     pub small: bool,
     /// Settings and first cookies that meet the metered profile (RULES, No. 11).
     pub metered: bool,
+    /// Stashes of a capacity from 1 to 8 (RULES, No. 12), instead of the crate's 8.
+    pub capacity: bool,
 }
 
 pub struct Random {
@@ -161,7 +163,8 @@ impl Random {
         } else {
             (min, max, startup, start)
         };
-        Op::New { nts: self.nts, min, max, startup, window, start, source: self.source, cookies }
+        let capacity = if self.manner.capacity { 1 + self.r.below(8) as u8 } else { 8 };
+        Op::New { nts: self.nts, min, max, startup, window, start, source: self.source, cookies, capacity }
     }
 
     /// Keeps up with what happened.

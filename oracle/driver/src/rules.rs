@@ -54,7 +54,17 @@ fn uid_group<'a>(bodies: impl Iterator<Item = &'a [u8]>, uid: &[u8; 32]) -> Opti
 
 impl Rules {
     #[expect(clippy::too_many_arguments)]
-    pub fn new(nts: bool, min: i8, max: i8, startup: u8, window: u64, start: Version, source: u32, list: &[Vec<u8>]) -> Rules {
+    pub fn new(
+        nts: bool,
+        min: i8,
+        max: i8,
+        startup: u8,
+        window: u64,
+        start: Version,
+        source: u32,
+        list: &[Vec<u8>],
+        capacity: u8,
+    ) -> Rules {
         let state = State {
             reach: 0,
             tries: 0,
@@ -69,6 +79,7 @@ impl Rules {
             refid: name(b"XNON"),
             read: 0,
             cookies: vec![],
+            capacity,
         };
         let mut r = Rules { max, startup, window, nts, source, first: (0, 0), state };
         if nts {
@@ -77,14 +88,15 @@ impl Rules {
         r
     }
 
-    /// RULES, part 3, and No. 5 for what it gives: how many cookies fell out, and their lengths summed.
+    /// RULES, part 3, over the capacity (No. 12), and No. 5 for what it gives: how many cookies fell out, and their lengths summed.
     fn store(&mut self, list: &[Vec<u8>]) -> (u64, u64) {
         let s = &mut self.state;
+        let capacity = s.capacity as usize;
         let mut fallen = (0, 0);
         for c in list {
-            if s.cookies.len() == 8 {
+            if s.cookies.len() == capacity {
                 let oldest = s.cookies.remove(0);
-                s.read = (s.read + 1) % 8;
+                s.read = (s.read + 1) % capacity;
                 fallen = (fallen.0 + 1, fallen.1 + oldest.0 as u64);
             }
             s.cookies.push(stored(c));
@@ -120,8 +132,9 @@ impl Rules {
                 return number(23);
             }
             let (length, bytes) = s.cookies.remove(0);
-            s.read = (s.read + 1) % 8;
-            asked = (8 - s.cookies.len()).min(724 / length.max(1)).min(255) as u8;
+            let capacity = s.capacity as usize;
+            s.read = (s.read + 1) % capacity;
+            asked = (capacity - s.cookies.len()).min(724 / length.max(1)).min(255) as u8;
             if asked == 0 {
                 return number(24);
             }

@@ -17,6 +17,8 @@ pub enum Op {
         start: Version,
         source: IpAddr,
         cookies: Vec<Vec<u8>>,
+        /// How many slots the stash uses; the crate's has eight (RULES, No. 12).
+        capacity: u8,
     },
     /// `room` is the lent cookie buffer, if not the drill's default.
     Timer {
@@ -119,6 +121,8 @@ pub struct State {
     pub read: usize,
     /// Oldest first: the length, and the stored bytes, which are none where the length is over 724.
     pub cookies: Vec<(usize, Vec<u8>)>,
+    /// A setting, which the record shows. The crate has none such; here it has what `new` was given.
+    pub capacity: u8,
 }
 
 /// Reach set by hand, with the unanswered polls that go with it: set alone, it would make the record not whole, of which the

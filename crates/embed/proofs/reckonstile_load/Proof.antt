@@ -1,4 +1,4 @@
--- `reckonstile_load` meets its contract: a walk of its MIR. The borrow is opened, `load` is called with the other arguments, and of what it returns the association is stored behind the reference and the number is the result; the borrow is closed at the new record.
+-- `reckonstile_load` meets its contract: a walk of its MIR. The borrow is opened, `load` is called with the other arguments, and of what it returns the association is stored behind the reference and the answer is the result; the borrow is closed at the new record.
 -- All that the proof knows of what is called is that it meets its contract. Written by tools/walk/mkmake.py. Assumes nothing.
 use mathlib.Core.Path.{_≡_, refl, sym, ap}
 use Prim.Native.Nat.{ℕ}
@@ -60,14 +60,14 @@ use Rattle.embed.proofs.reckonstile_load as self
 use Rattle.embed.proofs.reckonstile_load.Statement as stated
 use Rattle.embed.proofs.reckonstile_load.Code as code
 
--- the function, over any types of the record (τ-to is its name, behind the reference) and of the arguments
-abbrev shape : Sym → (τ-to τ-rec τ-file : Ty) → Fn
-shape ν τ-to τ-rec τ-file =
+-- the function, over any types of the record (τ-to is its name, behind the reference), of the answer and of the arguments
+abbrev shape : Sym → (τ-to τ-rec τ-ans τ-file : Ty) → Fn
+shape ν τ-to τ-rec τ-ans τ-file =
     record {
       lifetimes = 2;
       outlives = [];
       params = 2;
-      locals = local (tyInt w32) valueLocal ∷ local (tyRef (named 0) mut τ-to) valueLocal ∷ local τ-file valueLocal ∷ local (tyStruct ν (tcons (tyInt w32) (tcons τ-rec tnil))) valueLocal ∷ [];
+      locals = local τ-ans valueLocal ∷ local (tyRef (named 0) mut τ-to) valueLocal ∷ local τ-file valueLocal ∷ local (tyStruct ν (tcons τ-ans (tcons τ-rec tnil))) valueLocal ∷ [];
       body =
           seq (call #embed-handover·load (copy (place 2 []) ∷ []) (place 3 []))
           (seq (assign (place 1 (deref τ-rec ∷ [])) (rvOpd (copy (place 3 (field 1 ∷ [])))))
@@ -76,11 +76,11 @@ shape ν τ-to τ-rec τ-file =
     }
 
 -- The walk, over any rows of a record and of what is made, and any machine values: it asks only that these are of their types.
-module _ (Rec Out : RattleType) (rec : Rec .Denot → Val) (number : Out .Denot → ℕ) (next : Out .Denot → Rec .Denot) (ν : Sym) (τ-to τ-rec τ-file : Ty) (rec-mir : Rec .mir ≡ τ-rec ∷ [])
-    (rec-tells : Tells Rec (Is Rec) (λ y. rec y ∷ [])) (out-tells : Tells Out (Is Out) (λ r. vstruct (ofList (vint w32 (number r) ∷ rec (next r) ∷ [])) ∷ []))
+module _ (Rec Out : RattleType) (rec : Rec .Denot → Val) (ans : Out .Denot → Val) (next : Out .Denot → Rec .Denot) (ν : Sym) (τ-to τ-rec τ-ans τ-file : Ty) (rec-mir : Rec .mir ≡ τ-rec ∷ [])
+    (rec-tells : Tells Rec (Is Rec) (λ y. rec y ∷ [])) (out-tells : Tells Out (Is Out) (λ r. vstruct (ofList (ans r ∷ rec (next r) ∷ [])) ∷ []))
     (rec-typed : (y : Rec .Denot) → Is Rec y (rec y ∷ []) → T (hasTy τ-rec (rec y)) × WT (rec y))
-    (out-typed : (r : Out .Denot) (v : Val) → Is Out r (v ∷ []) → T (hasTy (tyStruct ν (tcons (tyInt w32) (tcons τ-rec tnil))) v) × WT v)
-    (number-typed : (r : Out .Denot) (vs : List Val) → Is Out r vs → T (hasTy (tyInt w32) (vint w32 (number r))) × WT (vint w32 (number r)))
+    (out-typed : (r : Out .Denot) (v : Val) → Is Out r (v ∷ []) → T (hasTy (tyStruct ν (tcons τ-ans (tcons τ-rec tnil))) v) × WT v)
+    (ans-typed : (r : Out .Denot) (vs : List Val) → Is Out r vs → T (hasTy τ-ans (ans r)) × WT (ans r))
     (next-is : (r : Out .Denot) (vs : List Val) → Is Out r vs → Is Rec (next r) (rec (next r) ∷ []))
     {M : Type 1} (𝓤 : URA M) (H : Heap 𝓤) (A : Atoms 𝓤) (W : Given 𝓤 H A) (rec-makes : Makes 𝓤 H A Rec (Is Rec))
     (κ : Lft) (q : Share) (b o : ℕ) (γ : GName) (h : Rec .Denot) (file : Val) (file-typed : T (hasTy τ-file file) × WT file)
@@ -89,11 +89,11 @@ module _ (Rec Out : RattleType) (rec : Rec .Denot → Val) (number : Out .Denot 
     (comes-back : (v : Val) → ent 𝓤 (Back v) (mean 𝓤 H A (later (some (λ (r : Out .Denot). (raw Left ⊛ ‵ (Out .own r (v ∷ []))) ⊛ raw (Ensured r))))))
     (said-of : (r : Out .Denot) → ent 𝓤 (Ensured r) (fact 𝓤 (Says r)))
     (exits : (r : Out .Denot) (vs : List Val) → Is Out r vs → Says r →
-    ent 𝓤 (⋆ 𝓤 H A (‵ (fobs γ (Rec .coded .code (next r))) ∷ ‵ (fbor κ (Body (mem Rec) b o γ)) ∷ ‵ (flft κ q) ∷ raw Left ∷ [])) (Post (vint w32 (number r))))
+    ent 𝓤 (⋆ 𝓤 H A (‵ (fobs γ (Rec .coded .code (next r))) ∷ ‵ (fbor κ (Body (mem Rec) b o γ)) ∷ ‵ (flft κ q) ∷ raw Left ∷ [])) (Post (ans r)))
     (C : Calls 𝓤 H) (Λ : Loops 𝓤 H) (fm : FmC 𝓤 H (W .laws) C) (known : ent 𝓤 Pre (C #embed-handover·load (file ∷ []) Back)) where
-  walk : ent 𝓤 (⋆ 𝓤 H A (‵ (fobs γ (Rec .coded .code h)) ∷ ‵ (fbor κ (Body (mem Rec) b o γ)) ∷ ‵ (flft κ q) ∷ raw Own ∷ [])) (WpFn 𝓤 H C Λ (shape ν τ-to τ-rec τ-file) (vptr b o ∷ file ∷ []) Post)
+  walk : ent 𝓤 (⋆ 𝓤 H A (‵ (fobs γ (Rec .coded .code h)) ∷ ‵ (fbor κ (Body (mem Rec) b o γ)) ∷ ‵ (flft κ q) ∷ raw Own ∷ [])) (WpFn 𝓤 H C Λ (shape ν τ-to τ-rec τ-ans τ-file) (vptr b o ∷ file ∷ []) Post)
   walk =
-      qed W (‵ (fobs γ (Rec .coded .code h)) ∷ ‵ (fbor κ (Body (mem Rec) b o γ)) ∷ ‵ (flft κ q) ∷ raw Own ∷ []) ∵ enter ! C Λ (shape ν τ-to τ-rec τ-file) (vptr b o ∷ file ∷ []) _ $
+      qed W (‵ (fobs γ (Rec .coded .code h)) ∷ ‵ (fbor κ (Body (mem Rec) b o γ)) ∷ ‵ (flft κ q) ∷ raw Own ∷ []) ∵ enter ! C Λ (shape ν τ-to τ-rec τ-ans τ-file) (vptr b o ∷ file ∷ []) _ $
       alloc1 ! (λ l0. alloc1 ! (λ l1. alloc1 ! (λ l2. alloc1 ! (λ l3. alloc0 ! $ params1 ! $
       pass1 ! (init ! 4 refl (tt, tt)) $
       pass1 ! (init ! 2 refl file-typed) $
@@ -106,9 +106,9 @@ module _ (Rec Out : RattleType) (rec : Rec .Denot → Val) (number : Out .Denot 
       use1 W (later (some (λ (r : Out .Denot). (raw Left ⊛ ‵ (Out .own r (v ∷ []))) ⊛ raw (Ensured r)))) (comes-back v) $ await ! tt $ pick ! (λ r. split ! $ move ! (1 ∷ []) $
       use1 W (raw (fact 𝓤 (Says r))) (said-of r) $ heard ! (Says r) (λ e. split ! $ move ! (1 ∷ []) $ peeks ! Out (Is Out) (shows 𝓤 H A Out) r (v ∷ []) (λ is. drop ! $
       -- [left; record; obor; obs; auth; the locals, the last first]
-      land ! (from ! (stop !)) (init ! 5 refl (out-typed r v is)) $ rewrite ! 5 (λ (u : Val). ‵ (fat fullShare (tyStruct ν (tcons (tyInt w32) (tcons τ-rec tnil))) l3 0 u)) (ap only (out-tells r _ is)) refl $
+      land ! (from ! (stop !)) (init ! 5 refl (out-typed r v is)) $ rewrite ! 5 (λ (u : Val). ‵ (fat fullShare (tyStruct ν (tcons τ-ans (tcons τ-rec tnil))) l3 0 u)) (ap only (out-tells r _ is)) refl $
       assigns ! (of-opd ! (load ! (from ! (fld ! refl (stop !))) (look-in ! 5 (sub ! 1 refl (whole !))))) (from ! (hop ! (look ! 9 refl) (stop !))) (store-raw ! 1 refl (rec-typed (next r) (next-is r _ is))) $
-      assigns ! (of-opd ! (load ! (from ! (fld ! refl (stop !))) (look-in ! 5 (sub ! 0 refl (whole !))))) (from ! (stop !)) (init ! 11 refl (number-typed r _ is)) $
+      assigns ! (of-opd ! (load ! (from ! (fld ! refl (stop !))) (look-in ! 5 (sub ! 0 refl (whole !))))) (from ! (stop !)) (init ! 11 refl (ans-typed r _ is)) $
       move ! (1 ∷ 2 ∷ 3 ∷ 4 ∷ []) $ rewrite ! 0 (λ (τs : List Ty). ‵ (cellAt fullShare τs (rec (next r) ∷ []) b o)) (sym rec-mir) refl $ owned ! Rec (Is Rec) rec-makes (next r) _ (next-is r _ is) $ move ! (1 ∷ 0 ∷ []) $ closes ! tt Rec (next r) (rec (next r) ∷ []) b o $
       returns ! (look ! 10 refl) $ forget ! 10 refl $ forget ! 8 refl $ forget ! 6 refl $ forget ! 4 refl $
       move ! (10 ∷ 11 ∷ []) $ free1 ! $ move ! (8 ∷ 9 ∷ []) $ free1 ! $ move ! (6 ∷ 7 ∷ []) $ free1 ! $ move ! (4 ∷ 5 ∷ []) $ free1 ! $ free0 ! $
@@ -127,8 +127,8 @@ abbrev slice-val : RefT (List ℕ) → Val
 slice-val x = sliceVal (x .ptr) (length (x .now))
 
 -- what whoever holds what the core returns knows of its two fields
-number-is : (r : CLoaded) (vs : List Val) → Is Out.the-row r vs → Is u32 (r .number) (vint w32 (r .number) ∷ [])
-number-is r vs g = LL.owed Out.the-type Out′.the-laws r vs g .0
+answer-is : (r : CLoaded) (vs : List Val) → Is Out.the-row r vs → Is u32 (r .number) (vint w32 (r .number) ∷ [])
+answer-is r vs g = LL.owed Out.the-type Out′.the-laws r vs g .0
 
 next-is : (r : CLoaded) (vs : List Val) → Is Out.the-row r vs → Is Rec.the-row (r .association) (Rec-val (r .association) ∷ [])
 next-is r vs g = LL.owed Out.the-type Out′.the-laws r vs g .1 .0
@@ -176,7 +176,7 @@ module _ {M : Type 1} (𝓤 : URA M) (H : Heap 𝓤) (A : Atoms 𝓤) (W : Given
 
   ends : (r : CLoaded) (vs : List Val) → Is Out.the-row r vs → r ≡ loadCall (file .now) → ent 𝓤 (⋆ 𝓤 H A (‵ (fobs γ (Rec.the-row .coded .code (r .association))) ∷ ‵ (fbor κ (Body (mem Rec.the-row) b o γ)) ∷ ‵ (flft κ q) ∷ raw (mean 𝓤 H A (‵ (flft κ1 q1) ⊛ ‵ ftrue)) ∷ [])) (Post (vint w32 (r .number)))
   ends r vs g e =
-      qed W (‵ (fobs γ (Rec.the-row .coded .code (r .association))) ∷ ‵ (fbor κ (Body (mem Rec.the-row) b o γ)) ∷ ‵ (flft κ q) ∷ raw (mean 𝓤 H A (‵ (flft κ1 q1) ⊛ ‵ ftrue)) ∷ []) ∵ move ! (3 ∷ []) $ use1 W (‵ (flft κ1 q1) ⊛ ‵ ftrue) (id⊢ 𝓤 _) $ split ! $ move ! (1 ∷ []) $ drop ! $ move ! (1 ∷ 2 ∷ 3 ∷ 0 ∷ []) $ by ! (exits (r .number) (r .association) (number-is r vs g) (ap (λ (s : CLoaded). s .number) e, ap (λ (s : CLoaded). s .association) e))
+      qed W (‵ (fobs γ (Rec.the-row .coded .code (r .association))) ∷ ‵ (fbor κ (Body (mem Rec.the-row) b o γ)) ∷ ‵ (flft κ q) ∷ raw (mean 𝓤 H A (‵ (flft κ1 q1) ⊛ ‵ ftrue)) ∷ []) ∵ move ! (3 ∷ []) $ use1 W (‵ (flft κ1 q1) ⊛ ‵ ftrue) (id⊢ 𝓤 _) $ split ! $ move ! (1 ∷ []) $ drop ! $ move ! (1 ∷ 2 ∷ 3 ∷ 0 ∷ []) $ by ! (exits (r .number) (r .association) (answer-is r vs g) (ap (λ (s : CLoaded). s .number) e, ap (λ (s : CLoaded). s .association) e))
 
   abbrev Given-core : SProp 𝓤
   Given-core = ⋆ 𝓤 H A ((‵ (flft κ1 q1) ⊛ ‵ ftrue) ∷ ‵ (ShrSlice (named 1) κ1 u8 .own file (slice-val file ∷ [])) ∷ [])
@@ -187,10 +187,10 @@ module _ {M : Type 1} (𝓤 : URA M) (H : Heap 𝓤) (A : Atoms 𝓤) (W : Given
         qed W ((‵ (flft κ q) ⊛ (‵ (flft κ1 q1) ⊛ ‵ ftrue)) ∷ ‵ (owns (MutRef (named 0) κ Rec.the-row ∷ ShrSlice (named 1) κ1 u8 ∷ []) x at) ∷ []) ∵ split ! $ move ! (1 ∷ []) $ split ! $ move ! (1 ∷ []) $ drop ! $ move ! (2 ∷ []) $ fsplit ! $ fsplit3 ! $ drop ! $ move ! (2 ∷ []) $ fsplit ! $ move ! (1 ∷ []) $ drop ! $
         nothing ! $ move ! (4 ∷ 0 ∷ []) $ join ! $
         use2 W (raw Given-core) (id⊢ 𝓤 _) $
-        move ! (1 ∷ 2 ∷ 3 ∷ 0 ∷ []) $ by ! (walk Rec.the-row Out.the-row Rec-val (λ r. r .number) (λ r. r .association)
-        (101 ∷ 109 ∷ 98 ∷ 101 ∷ 100 ∷ 95 ∷ 104 ∷ 97 ∷ 110 ∷ 100 ∷ 111 ∷ 118 ∷ 101 ∷ 114 ∷ 58 ∷ 58 ∷ 67 ∷ 76 ∷ 111 ∷ 97 ∷ 100 ∷ 101 ∷ 100 ∷ []) (tyNamed (101 ∷ 109 ∷ 98 ∷ 101 ∷ 100 ∷ 95 ∷ 114 ∷ 101 ∷ 99 ∷ 111 ∷ 114 ∷ 100 ∷ 58 ∷ 58 ∷ 67 ∷ 65 ∷ 115 ∷ 115 ∷ 111 ∷ 99 ∷ 105 ∷ 97 ∷ 116 ∷ 105 ∷ 111 ∷ 110 ∷ [], [])) Rec′.mir (sliceTy (tyRef (named 1) imm (tyInt w8))) refl
+        move ! (1 ∷ 2 ∷ 3 ∷ 0 ∷ []) $ by ! (walk Rec.the-row Out.the-row Rec-val (λ r. vint w32 (r .number)) (λ r. r .association)
+        (101 ∷ 109 ∷ 98 ∷ 101 ∷ 100 ∷ 95 ∷ 104 ∷ 97 ∷ 110 ∷ 100 ∷ 111 ∷ 118 ∷ 101 ∷ 114 ∷ 58 ∷ 58 ∷ 67 ∷ 76 ∷ 111 ∷ 97 ∷ 100 ∷ 101 ∷ 100 ∷ []) (tyNamed (101 ∷ 109 ∷ 98 ∷ 101 ∷ 100 ∷ 95 ∷ 114 ∷ 101 ∷ 99 ∷ 111 ∷ 114 ∷ 100 ∷ 58 ∷ 58 ∷ 67 ∷ 65 ∷ 115 ∷ 115 ∷ 111 ∷ 99 ∷ 105 ∷ 97 ∷ 116 ∷ 105 ∷ 111 ∷ 110 ∷ [], [])) Rec′.mir (tyInt w32) (sliceTy (tyRef (named 1) imm (tyInt w8))) refl
         (LL.tells Rec.the-type Rec′.the-laws) (LL.tells Out.the-type Out′.the-laws)
-        (λ y g. (LL.lawful Rec.the-type Rec′.the-laws 𝓤 H A W .typed y _ g .0)) (λ r v g. (LL.lawful Out.the-type Out′.the-laws 𝓤 H A W .typed r _ g .0)) (λ r vs g. (uint-lawful 𝓤 H A W w32 .typed (r .number) _ (number-is r vs g) .0))
+        (λ y g. (LL.lawful Rec.the-type Rec′.the-laws 𝓤 H A W .typed y _ g .0)) (λ r v g. (LL.lawful Out.the-type Out′.the-laws 𝓤 H A W .typed r _ g .0)) (λ r vs g. (uint-lawful 𝓤 H A W w32 .typed (r .number) _ (answer-is r vs g) .0))
         next-is 𝓤 H A W (LL.makes Rec.the-type Rec′.the-plain 𝓤 H A) κ q b o γ h (slice-val file) (shr-slice-lawful 𝓤 H A W (named 1) κ1 u8 .typed file _ file-is .0)
         Given-core (mean 𝓤 H A (‵ (flft κ1 q1) ⊛ ‵ ftrue)) (C-core 𝓤 H A at-mem run .pre to-core) (C-core 𝓤 H A at-mem run .post to-core) Post E-core (λ r. r ≡ loadCall (file .now))
         (goes-core) comes-core said-core ends C Λ fm (known-core to-core))

@@ -2,6 +2,7 @@
 -- Assumes nothing.
 use mathlib.Core.Path.{_∙_}
 use mathlib.Core.Bool.{_&&_}
+use lib.Dec.{eqb}
 use Rattle.embed_record.specs.Packed.{settingsIn}
 use borrow.Author.Needs.{needs}
 use Rattle.embed_record.proofs.unpack_settings.Statement.{statement}
@@ -19,6 +20,9 @@ is-bit-requires c κs = search needs
 both-requires : tie.Need-both-requires
 both-requires c κs = search needs
 
+both-requires-2 : tie.Need-both-requires-2
+both-requires-2 c κs = search needs
+
 version-in-requires : tie.Need-version-in-requires
 version-in-requires c κs = search needs
 
@@ -34,11 +38,12 @@ returns c =
     let truth = c .before .before .before in
     let version = truth .before .before in
     let tested = version .before in
-    let flag = tested .before in
+    let rest = tested .before in
+    let flag = rest .before .before in
     let kind = flag .before .before in
     let s = kind .before .args .c in
     λ i. record {
-      ok = (tested .both .ensures ∙ (λ j. kind .is-kind .ensures j && flag .is-bit .ensures j)) i;
+      ok = (tested .both2 .ensures ∙ (λ j. kind .is-kind .ensures j && (rest .both .ensures ∙ (λ k. flag .is-bit .ensures k && eqb (s .spare) 0)) j)) i;
       settings =
           record {
             min = s .min;
@@ -49,6 +54,7 @@ returns c =
             start = version .version-in .ensures i;
             nts = truth .truth .ensures i;
             source = s .source;
+            capacity = s .capacity;
           };
     }
 
@@ -60,6 +66,7 @@ unpack-settings-spec =
     cast-is-bit
     is-bit-requires
     both-requires
+    both-requires-2
     version-in-requires
     cast-truth
     truth-requires

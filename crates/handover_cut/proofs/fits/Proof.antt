@@ -22,9 +22,12 @@ two (suc (suc (suc (suc zero)))) b h x y z = refl
 two (suc (suc (suc (suc (suc zero))))) b h x y z = absurd (z refl)
 two (suc (suc (suc (suc (suc (suc i)))))) b h x y z = absurd (omega arith)
 
+settings-fit-requires : tie.Need-settings-fit-requires
+settings-fit-requires c κs = search needs
+
 returns : tie.Need-returns
 unfolding shapeAt
-returns c = sym (ap (λ (i : ℕ). shapeAt i .fits (c .before .before .args .b .now)) (c .if1 .taken))
+returns c = c .settings-fit .ensures ∙ sym (ap (λ (i : ℕ). shapeAt i .fits (c .before .before .before .args .b .now)) (c .before .if1 .taken))
 
 stash-fits-requires : tie.Need-stash-fits-requires
 stash-fits-requires c κs = search needs
@@ -41,4 +44,4 @@ returns-4 : tie.Need-returns-4
 returns-4 c = sym (two (c .before .before .before .before .args .i) (c .before .before .before .before .args .b .now) (omega arith) (λ e. omega arith) (λ e. omega arith) (λ e. omega arith))
 
 pub fits-spec : {M : Type 1} → statement M
-fits-spec = tie.close (tie.spec returns stash-fits-requires returns-2 returns-3 returns-4)
+fits-spec = tie.close (tie.spec settings-fit-requires returns stash-fits-requires returns-2 returns-3 returns-4)

@@ -102,7 +102,7 @@ array-read-t73 c = search needs
 -- the bytes of the words, one by one, lie as in the definition
 laid : (s : Settings) {lo hi k t n : ℕ} {w m d : List ℕ} → lo ≡ unsigned (2 ^ 7) (s .min .0) → hi ≡ unsigned (2 ^ 7) (s .max .0)
     → w ≡ toBe 8 (s .window) → m ≡ toBe 8 (s .upgrademark) → k ≡ kindCode (s .start .kind) → t ≡ triesCode (s .start .kind) → n ≡ yesCode (s .nts) → d ≡ toBe 4 (s .source .0)
-    → lo ∷ hi ∷ s .startup ∷ getD w 0 0 ∷ getD w 1 0 ∷ getD w 2 0 ∷ getD w 3 0 ∷ getD w 4 0 ∷ getD w 5 0 ∷ getD w 6 0 ∷ getD w 7 0 ∷ getD m 0 0 ∷ getD m 1 0 ∷ getD m 2 0 ∷ getD m 3 0 ∷ getD m 4 0 ∷ getD m 5 0 ∷ getD m 6 0 ∷ getD m 7 0 ∷ k ∷ t ∷ n ∷ getD d 0 0 ∷ getD d 1 0 ∷ getD d 2 0 ∷ getD d 3 0 ∷ [] ≡ settingsBytes s
+    → lo ∷ hi ∷ s .startup ∷ getD w 0 0 ∷ getD w 1 0 ∷ getD w 2 0 ∷ getD w 3 0 ∷ getD w 4 0 ∷ getD w 5 0 ∷ getD w 6 0 ∷ getD w 7 0 ∷ getD m 0 0 ∷ getD m 1 0 ∷ getD m 2 0 ∷ getD m 3 0 ∷ getD m 4 0 ∷ getD m 5 0 ∷ getD m 6 0 ∷ getD m 7 0 ∷ k ∷ t ∷ n ∷ getD d 0 0 ∷ getD d 1 0 ∷ getD d 2 0 ∷ getD d 3 0 ∷ s .capacity ∷ [] ≡ settingsBytes s
 unfolding settingsBytes
 laid s el eh ew em ek et en ed = rw (el, eh, ew, em, ek, et, en, ed)
 

@@ -49,23 +49,27 @@ byte-at-requires-6 c κs = search needs
 be32-at-requires : tie.Need-be32-at-requires
 be32-at-requires c κs = search needs
 
+capacity-at-requires : tie.Need-capacity-at-requires
+capacity-at-requires c κs = search needs
+
 returns : tie.Need-returns
 unfolding settingsOf
 returns c =
-    let min = c .before .before .before .before .before .before .before .before .before .before .u8-as-i8 in
-    let max = c .before .before .before .before .before .before .before .before .u8-as-i82 in
-    let is-min = toZ-ofZ (record { sfits = min .ok }) ∙ min .ensures ∙ ap (signed (2 ^ 7)) (c .before .before .before .before .before .before .before .before .before .before .before .byte-at .ensures) in
-    let is-max = toZ-ofZ (record { sfits = max .ok }) ∙ max .ensures ∙ ap (signed (2 ^ 7)) (c .before .before .before .before .before .before .before .before .before .byte-at2 .ensures) in
-    let is-kind = c .before .before .kind-of .ensures ∙ (λ i. kindOf (c .before .before .before .before .byte-at4 .ensures i) (c .before .before .before .byte-at5 .ensures i)) in
+    let min = c .before .before .before .before .before .before .before .before .before .before .before .u8-as-i8 in
+    let max = c .before .before .before .before .before .before .before .before .before .u8-as-i82 in
+    let is-min = toZ-ofZ (record { sfits = min .ok }) ∙ min .ensures ∙ ap (signed (2 ^ 7)) (c .before .before .before .before .before .before .before .before .before .before .before .before .byte-at .ensures) in
+    let is-max = toZ-ofZ (record { sfits = max .ok }) ∙ max .ensures ∙ ap (signed (2 ^ 7)) (c .before .before .before .before .before .before .before .before .before .before .byte-at2 .ensures) in
+    let is-kind = c .before .before .before .kind-of .ensures ∙ (λ i. kindOf (c .before .before .before .before .before .byte-at4 .ensures i) (c .before .before .before .before .byte-at5 .ensures i)) in
     λ i. record {
       min = interval (is-min i);
       max = interval (is-max i);
-      startup = c .before .before .before .before .before .before .before .byte-at3 .ensures i;
-      window = c .before .before .before .before .before .before .be64-at .ensures i;
-      upgrademark = c .before .before .before .before .before .be64-at2 .ensures i;
+      startup = c .before .before .before .before .before .before .before .before .byte-at3 .ensures i;
+      window = c .before .before .before .before .before .before .before .be64-at .ensures i;
+      upgrademark = c .before .before .before .before .before .before .be64-at2 .ensures i;
       start = version (is-kind i);
-      nts = yesOf (c .before .byte-at6 .ensures i);
-      source = named (c .be32-at .ensures i);
+      nts = yesOf (c .before .before .byte-at6 .ensures i);
+      source = named (c .before .be32-at .ensures i);
+      capacity = c .capacity-at .ensures i;
     }
 
 pub settings-of-spec : {M : Type 1} → statement M
@@ -84,4 +88,5 @@ settings-of-spec =
     kind-of-requires
     byte-at-requires-6
     be32-at-requires
+    capacity-at-requires
     returns)

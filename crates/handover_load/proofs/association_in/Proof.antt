@@ -1,11 +1,20 @@
 -- `association_in` meets its contract: the tests in order, and then the record.
 -- Assumes nothing.
-use mathlib.Core.Path.{sym, _∙_}
+use mathlib.Core.Path.{_≡_, sym, ap, _∙_}
+use mathlib.Core.List.{List}
+use Prim.Native.Nat.{ℕ}
 use borrow.Author.Tests.{not-true, not-false}
+use Rattle.association.specs.declared.Settings.{Settings}
+use Rattle.handover_load.specs.declared.Stashed.{Stashed}
+use Rattle.handover_load.specs.Read.{stashedOf}
 use Rattle.handover_load.proofs.Decided.{known-by, kept-by, by-settings, by-stash, by-version, by-source, by-whole, is-loaded}
 use borrow.Author.Needs.{needs}
 use Rattle.handover_load.proofs.association_in.Statement.{statement}
 use Rattle.handover_load.proofs.association_in.Tie as tie
+
+-- the stash is one of the capacity of the settings that were read
+stashed : (b : List ℕ) {r : Stashed} {s t : Settings} → r ≡ stashedOf (s .capacity) b → s ≡ t → r ≡ stashedOf (t .capacity) b
+stashed b e k = e ∙ ap (λ (s : Settings). stashedOf (s .capacity) b) k
 
 settings-known-requires : tie.Need-settings-known-requires
 settings-known-requires c κs = search needs
@@ -16,6 +25,9 @@ refused-requires c κs = search needs
 returns : tie.Need-returns
 returns c = c .refused .ensures ∙ sym (by-settings (c .before .before .before .before .before .before .before .before .before .args .settings .now) (c .before .before .before .before .before .before .before .before .before .args .stash .now) (c .before .before .before .before .before .before .before .before .before .args .effort .now) (c .before .before .before .before .before .before .before .before .before .args .version .now) (c .before .before .before .before .before .before .before .before .before .args .polls .now) (c .before .before .before .before .before .before .before .before .before .args .source .now) (sym (c .before .before .settings-known .ensures) ∙ not-true _ (c .before .if1 .taken)))
 
+settings-of-requires : tie.Need-settings-of-requires
+settings-of-requires c κs = search needs
+
 stash-in-requires : tie.Need-stash-in-requires
 stash-in-requires c κs = search needs
 
@@ -23,7 +35,9 @@ refused-requires-2 : tie.Need-refused-requires-2
 refused-requires-2 c κs = search needs
 
 returns-2 : tie.Need-returns-2
-returns-2 c = c .refused2 .ensures ∙ sym (by-stash (c .before .before .before .before .before .before .before .before .before .before .before .before .args .settings .now) (c .before .before .before .before .before .before .before .before .before .before .before .before .args .stash .now) (c .before .before .before .before .before .before .before .before .before .before .before .before .args .effort .now) (c .before .before .before .before .before .before .before .before .before .before .before .before .args .version .now) (c .before .before .before .before .before .before .before .before .before .before .before .before .args .polls .now) (c .before .before .before .before .before .before .before .before .before .before .before .before .args .source .now) (sym (c .before .before .before .before .before .settings-known .ensures) ∙ not-false _ (c .before .before .before .before .if1 .left)) (known-by _ _ (c .before .before .before .stash-in .ensures) (not-true _ (c .before .if2 .taken))))
+returns-2 c =
+    let e = stashed (c .before .before .before .before .before .before .before .before .before .before .before .before .before .args .stash .now) (c .before .before .before .stash-in .ensures) (c .before .before .before .before .settings-of .ensures) in
+    c .refused2 .ensures ∙ sym (by-stash (c .before .before .before .before .before .before .before .before .before .before .before .before .before .args .settings .now) (c .before .before .before .before .before .before .before .before .before .before .before .before .before .args .stash .now) (c .before .before .before .before .before .before .before .before .before .before .before .before .before .args .effort .now) (c .before .before .before .before .before .before .before .before .before .before .before .before .before .args .version .now) (c .before .before .before .before .before .before .before .before .before .before .before .before .before .args .polls .now) (c .before .before .before .before .before .before .before .before .before .before .before .before .before .args .source .now) (sym (c .before .before .before .before .before .before .settings-known .ensures) ∙ not-false _ (c .before .before .before .before .before .if1 .left)) (known-by _ _ _ e (not-true _ (c .before .if2 .taken))))
 
 version-known-requires : tie.Need-version-known-requires
 version-known-requires c κs = search needs
@@ -32,7 +46,9 @@ refused-requires-3 : tie.Need-refused-requires-3
 refused-requires-3 c κs = search needs
 
 returns-3 : tie.Need-returns-3
-returns-3 c = c .refused3 .ensures ∙ sym (by-version (c .before .before .before .before .before .before .before .before .before .before .before .before .before .before .args .settings .now) (c .before .before .before .before .before .before .before .before .before .before .before .before .before .before .args .stash .now) (c .before .before .before .before .before .before .before .before .before .before .before .before .before .before .args .effort .now) (c .before .before .before .before .before .before .before .before .before .before .before .before .before .before .args .version .now) (c .before .before .before .before .before .before .before .before .before .before .before .before .before .before .args .polls .now) (c .before .before .before .before .before .before .before .before .before .before .before .before .before .before .args .source .now) (sym (c .before .before .before .before .before .before .before .settings-known .ensures) ∙ not-false _ (c .before .before .before .before .before .before .if1 .left)) (known-by _ _ (c .before .before .before .before .before .stash-in .ensures) (not-false _ (c .before .before .before .if2 .left))) (sym (c .before .before .version-known .ensures) ∙ not-true _ (c .before .if3 .taken)))
+returns-3 c =
+    let e = stashed (c .before .before .before .before .before .before .before .before .before .before .before .before .before .before .before .args .stash .now) (c .before .before .before .before .before .stash-in .ensures) (c .before .before .before .before .before .before .settings-of .ensures) in
+    c .refused3 .ensures ∙ sym (by-version (c .before .before .before .before .before .before .before .before .before .before .before .before .before .before .before .args .settings .now) (c .before .before .before .before .before .before .before .before .before .before .before .before .before .before .before .args .stash .now) (c .before .before .before .before .before .before .before .before .before .before .before .before .before .before .before .args .effort .now) (c .before .before .before .before .before .before .before .before .before .before .before .before .before .before .before .args .version .now) (c .before .before .before .before .before .before .before .before .before .before .before .before .before .before .before .args .polls .now) (c .before .before .before .before .before .before .before .before .before .before .before .before .before .before .before .args .source .now) (sym (c .before .before .before .before .before .before .before .before .settings-known .ensures) ∙ not-false _ (c .before .before .before .before .before .before .before .if1 .left)) (known-by _ _ _ e (not-false _ (c .before .before .before .if2 .left))) (sym (c .before .before .version-known .ensures) ∙ not-true _ (c .before .if3 .taken)))
 
 source-known-requires : tie.Need-source-known-requires
 source-known-requires c κs = search needs
@@ -41,13 +57,12 @@ refused-requires-4 : tie.Need-refused-requires-4
 refused-requires-4 c κs = search needs
 
 returns-4 : tie.Need-returns-4
-returns-4 c = c .refused4 .ensures ∙ sym (by-source (c .before .before .before .before .before .before .before .before .before .before .before .before .before .before .before .before .args .settings .now) (c .before .before .before .before .before .before .before .before .before .before .before .before .before .before .before .before .args .stash .now) (c .before .before .before .before .before .before .before .before .before .before .before .before .before .before .before .before .args .effort .now) (c .before .before .before .before .before .before .before .before .before .before .before .before .before .before .before .before .args .version .now) (c .before .before .before .before .before .before .before .before .before .before .before .before .before .before .before .before .args .polls .now) (c .before .before .before .before .before .before .before .before .before .before .before .before .before .before .before .before .args .source .now) (sym (c .before .before .before .before .before .before .before .before .before .settings-known .ensures) ∙ not-false _ (c .before .before .before .before .before .before .before .before .if1 .left)) (known-by _ _ (c .before .before .before .before .before .before .before .stash-in .ensures) (not-false _ (c .before .before .before .before .before .if2 .left))) (sym (c .before .before .before .before .version-known .ensures) ∙ not-false _ (c .before .before .before .if3 .left)) (sym (c .before .before .source-known .ensures) ∙ not-true _ (c .before .if4 .taken)))
+returns-4 c =
+    let e = stashed (c .before .before .before .before .before .before .before .before .before .before .before .before .before .before .before .before .before .args .stash .now) (c .before .before .before .before .before .before .before .stash-in .ensures) (c .before .before .before .before .before .before .before .before .settings-of .ensures) in
+    c .refused4 .ensures ∙ sym (by-source (c .before .before .before .before .before .before .before .before .before .before .before .before .before .before .before .before .before .args .settings .now) (c .before .before .before .before .before .before .before .before .before .before .before .before .before .before .before .before .before .args .stash .now) (c .before .before .before .before .before .before .before .before .before .before .before .before .before .before .before .before .before .args .effort .now) (c .before .before .before .before .before .before .before .before .before .before .before .before .before .before .before .before .before .args .version .now) (c .before .before .before .before .before .before .before .before .before .before .before .before .before .before .before .before .before .args .polls .now) (c .before .before .before .before .before .before .before .before .before .before .before .before .before .before .before .before .before .args .source .now) (sym (c .before .before .before .before .before .before .before .before .before .before .settings-known .ensures) ∙ not-false _ (c .before .before .before .before .before .before .before .before .before .if1 .left)) (known-by _ _ _ e (not-false _ (c .before .before .before .before .before .if2 .left))) (sym (c .before .before .before .before .version-known .ensures) ∙ not-false _ (c .before .before .before .if3 .left)) (sym (c .before .before .source-known .ensures) ∙ not-true _ (c .before .if4 .taken)))
 
 state-in-requires : tie.Need-state-in-requires
 state-in-requires c κs = search needs
-
-settings-of-requires : tie.Need-settings-of-requires
-settings-of-requires c κs = search needs
 
 whole-requires : tie.Need-whole-requires
 whole-requires c κs = search needs
@@ -57,14 +72,16 @@ refused-requires-5 c κs = search needs
 
 returns-5 : tie.Need-returns-5
 returns-5 c =
+    let e = stashed (c .before .before .before .before .before .before .before .before .before .before .before .before .before .before .before .before .before .before .before .before .before .args .stash .now) (c .before .before .before .before .before .before .before .before .before .before .before .stash-in .ensures) (c .before .before .before .before .before .before .before .before .before .before .before .before .settings-of .ensures) in
     c .refused5 .ensures
-    ∙ sym (by-whole (c .before .before .before .before .before .before .before .before .before .before .before .before .before .before .before .before .before .before .before .before .before .args .settings .now) (c .before .before .before .before .before .before .before .before .before .before .before .before .before .before .before .before .before .before .before .before .before .args .stash .now) (c .before .before .before .before .before .before .before .before .before .before .before .before .before .before .before .before .before .before .before .before .before .args .effort .now) (c .before .before .before .before .before .before .before .before .before .before .before .before .before .before .before .before .before .before .before .before .before .args .version .now) (c .before .before .before .before .before .before .before .before .before .before .before .before .before .before .before .before .before .before .before .before .before .args .polls .now) (c .before .before .before .before .before .before .before .before .before .before .before .before .before .before .before .before .before .before .before .before .before .args .source .now) (sym (c .before .before .before .before .before .before .before .before .before .before .before .before .before .before .settings-known .ensures) ∙ not-false _ (c .before .before .before .before .before .before .before .before .before .before .before .before .before .if1 .left)) (known-by _ _ (c .before .before .before .before .before .before .before .before .before .before .before .before .stash-in .ensures) (not-false _ (c .before .before .before .before .before .before .before .before .before .before .if2 .left))) (sym (c .before .before .before .before .before .before .before .before .before .version-known .ensures) ∙ not-false _ (c .before .before .before .before .before .before .before .before .if3 .left)) (sym (c .before .before .before .before .before .before .before .source-known .ensures) ∙ not-false _ (c .before .before .before .before .before .before .if4 .left))
-    (c .before .before .before .settings-of .ensures) (kept-by _ _ (c .before .before .before .before .before .before .before .before .before .before .before .before .stash-in .ensures) (known-by _ _ (c .before .before .before .before .before .before .before .before .before .before .before .before .stash-in .ensures) (not-false _ (c .before .before .before .before .before .before .before .before .before .before .if2 .left)))) (c .before .before .before .before .state-in .ensures) (sym (c .before .before .whole .ensures) ∙ not-true _ (c .before .if5 .taken)))
+    ∙ sym (by-whole (c .before .before .before .before .before .before .before .before .before .before .before .before .before .before .before .before .before .before .before .before .before .args .settings .now) (c .before .before .before .before .before .before .before .before .before .before .before .before .before .before .before .before .before .before .before .before .before .args .stash .now) (c .before .before .before .before .before .before .before .before .before .before .before .before .before .before .before .before .before .before .before .before .before .args .effort .now) (c .before .before .before .before .before .before .before .before .before .before .before .before .before .before .before .before .before .before .before .before .before .args .version .now) (c .before .before .before .before .before .before .before .before .before .before .before .before .before .before .before .before .before .before .before .before .before .args .polls .now) (c .before .before .before .before .before .before .before .before .before .before .before .before .before .before .before .before .before .before .before .before .before .args .source .now) (sym (c .before .before .before .before .before .before .before .before .before .before .before .before .before .before .settings-known .ensures) ∙ not-false _ (c .before .before .before .before .before .before .before .before .before .before .before .before .before .if1 .left)) (known-by _ _ _ e (not-false _ (c .before .before .before .before .before .before .before .before .before .if2 .left))) (sym (c .before .before .before .before .before .before .before .before .version-known .ensures) ∙ not-false _ (c .before .before .before .before .before .before .before .if3 .left)) (sym (c .before .before .before .before .before .before .source-known .ensures) ∙ not-false _ (c .before .before .before .before .before .if4 .left))
+    (c .before .before .before .before .before .before .before .before .before .before .before .before .settings-of .ensures) (kept-by _ _ _ e (known-by _ _ _ e (not-false _ (c .before .before .before .before .before .before .before .before .before .if2 .left)))) (c .before .before .before .state-in .ensures) (sym (c .before .before .whole .ensures) ∙ not-true _ (c .before .if5 .taken)))
 
 returns-6 : tie.Need-returns-6
 returns-6 c =
-    is-loaded (c .before .before .before .before .before .before .before .before .before .before .before .before .before .before .before .before .before .before .before .before .args .settings .now) (c .before .before .before .before .before .before .before .before .before .before .before .before .before .before .before .before .before .before .before .before .args .stash .now) (c .before .before .before .before .before .before .before .before .before .before .before .before .before .before .before .before .before .before .before .before .args .effort .now) (c .before .before .before .before .before .before .before .before .before .before .before .before .before .before .before .before .before .before .before .before .args .version .now) (c .before .before .before .before .before .before .before .before .before .before .before .before .before .before .before .before .before .before .before .before .args .polls .now) (c .before .before .before .before .before .before .before .before .before .before .before .before .before .before .before .before .before .before .before .before .args .source .now) (sym (c .before .before .before .before .before .before .before .before .before .before .before .before .before .settings-known .ensures) ∙ not-false _ (c .before .before .before .before .before .before .before .before .before .before .before .before .if1 .left)) (known-by _ _ (c .before .before .before .before .before .before .before .before .before .before .before .stash-in .ensures) (not-false _ (c .before .before .before .before .before .before .before .before .before .if2 .left))) (sym (c .before .before .before .before .before .before .before .before .version-known .ensures) ∙ not-false _ (c .before .before .before .before .before .before .before .if3 .left)) (sym (c .before .before .before .before .before .before .source-known .ensures) ∙ not-false _ (c .before .before .before .before .before .if4 .left))
-    (c .before .before .settings-of .ensures) (kept-by _ _ (c .before .before .before .before .before .before .before .before .before .before .before .stash-in .ensures) (known-by _ _ (c .before .before .before .before .before .before .before .before .before .before .before .stash-in .ensures) (not-false _ (c .before .before .before .before .before .before .before .before .before .if2 .left)))) (c .before .before .before .state-in .ensures) (sym (c .before .whole .ensures) ∙ not-false _ (c .if5 .left))
+    let e = stashed (c .before .before .before .before .before .before .before .before .before .before .before .before .before .before .before .before .before .before .before .before .args .stash .now) (c .before .before .before .before .before .before .before .before .before .before .stash-in .ensures) (c .before .before .before .before .before .before .before .before .before .before .before .settings-of .ensures) in
+    is-loaded (c .before .before .before .before .before .before .before .before .before .before .before .before .before .before .before .before .before .before .before .before .args .settings .now) (c .before .before .before .before .before .before .before .before .before .before .before .before .before .before .before .before .before .before .before .before .args .stash .now) (c .before .before .before .before .before .before .before .before .before .before .before .before .before .before .before .before .before .before .before .before .args .effort .now) (c .before .before .before .before .before .before .before .before .before .before .before .before .before .before .before .before .before .before .before .before .args .version .now) (c .before .before .before .before .before .before .before .before .before .before .before .before .before .before .before .before .before .before .before .before .args .polls .now) (c .before .before .before .before .before .before .before .before .before .before .before .before .before .before .before .before .before .before .before .before .args .source .now) (sym (c .before .before .before .before .before .before .before .before .before .before .before .before .before .settings-known .ensures) ∙ not-false _ (c .before .before .before .before .before .before .before .before .before .before .before .before .if1 .left)) (known-by _ _ _ e (not-false _ (c .before .before .before .before .before .before .before .before .if2 .left))) (sym (c .before .before .before .before .before .before .before .version-known .ensures) ∙ not-false _ (c .before .before .before .before .before .before .if3 .left)) (sym (c .before .before .before .before .before .source-known .ensures) ∙ not-false _ (c .before .before .before .before .if4 .left))
+    (c .before .before .before .before .before .before .before .before .before .before .before .settings-of .ensures) (kept-by _ _ _ e (known-by _ _ _ e (not-false _ (c .before .before .before .before .before .before .before .before .if2 .left)))) (c .before .before .state-in .ensures) (sym (c .before .whole .ensures) ∙ not-false _ (c .if5 .left))
 
 pub association-in-spec : {M : Type 1} → statement M
 association-in-spec =
@@ -73,6 +90,7 @@ association-in-spec =
     settings-known-requires
     refused-requires
     returns
+    settings-of-requires
     stash-in-requires
     refused-requires-2
     returns-2
@@ -83,7 +101,6 @@ association-in-spec =
     refused-requires-4
     returns-4
     state-in-requires
-    settings-of-requires
     whole-requires
     refused-requires-5
     returns-5

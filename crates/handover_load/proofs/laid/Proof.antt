@@ -20,11 +20,11 @@ add-wrapped c = search needs
 wrapped-requires : tie.Need-wrapped-requires
 wrapped-requires c κs = search needs
 
-mul-t8 : tie.Need-mul-t8
-mul-t8 c = let s = c .before .before .before .args .t1 in omega (arith, wrap-lt 8 (s .read + s .held) (omega arith))
+mul-t9 : tie.Need-mul-t9
+mul-t9 c = let s = c .before .before .before .args .t1 in omega (arith, wrap-lt (c .before .before .before .args .capacity) (s .read + s .held) (omega arith))
 
 element-set-from-s : tie.Need-element-set-from-s
-element-set-from-s c = let s = c .before .before .before .args .t1 in omega (arith, wrap-lt 8 (s .read + s .held) (omega arith))
+element-set-from-s c = let s = c .before .before .before .args .t1 in omega (arith, wrap-lt (c .before .before .before .args .capacity) (s .read + s .held) (omega arith))
 
 add-s : tie.Need-add-s
 add-s c = search needs
@@ -40,7 +40,7 @@ laid-spec =
     kept-bytes-requires
     add-wrapped
     wrapped-requires
-    mul-t8
+    mul-t9
     element-set-from-s
     add-s
     returns)

@@ -6,25 +6,25 @@ use Rattle.handover_save.proofs.put_cookies.Statement.{statement}
 use Rattle.handover_save.proofs.put_cookies.Tie as tie
 
 abbrev Inv-loop : tie.InvT-loop
-Inv-loop out₀ at s to₀ place₀ n₀ out to place n = Writing out₀ at s out to place n
+Inv-loop out₀ at cap s to₀ place₀ n₀ out to place n = Writing cap out₀ at s out to place n
 
 abbrev μ-loop : tie.MeasureT-loop
-μ-loop out₀ at s to₀ place₀ n₀ out to place n = n
+μ-loop out₀ at cap s to₀ place₀ n₀ out to place n = n
 
 loop-holds : tie.Need-loop-holds Inv-loop μ-loop
-loop-holds c = begins _ _ _ (c .before .pre .0 .reads)
+loop-holds c = begins _ _ _ _ (c .before .pre .0)
 
 mul-slot : tie.Need-mul-slot Inv-loop μ-loop
-mul-slot c = omega (arith, c .before .loop .inv .places)
+mul-slot c = omega (arith, c .before .loop .inv .places, c .before .loop .inv .most)
 
 element-copy-out-slot : tie.Need-element-copy-out-slot Inv-loop μ-loop
-element-copy-out-slot c = omega (arith, c .before .loop .inv .places)
+element-copy-out-slot c = omega (arith, c .before .loop .inv .places, c .before .loop .inv .most)
 
 put-cookie-requires : tie.Need-put-cookie-requires Inv-loop μ-loop
-put-cookie-requires c κs = let l = c .before .before .before .loop in let p = c .before .before .before .before .before .pre in (p .0 .each (l .place) (omega (arith, l .inv .places, p .0 .room)), fits-next _ _ (c .before .before .before .before .before .args .t3) (p .1) _ _ _ (l .n) (l .inv) (omega arith))
+put-cookie-requires c κs = let l = c .before .before .before .loop in let p = c .before .before .before .before .before .pre in (p .0 .each (l .place) (omega (arith, l .inv .places, p .0 .room)), fits-next _ _ _ (c .before .before .before .before .before .args .t3) (p .1) _ _ _ (l .n) (l .inv) (omega arith))
 
 add-wrapped : tie.Need-add-wrapped Inv-loop μ-loop
-add-wrapped c = omega (arith, c .before .before .before .before .before .before .loop .inv .places)
+add-wrapped c = omega (arith, c .before .before .before .before .before .before .loop .inv .places, c .before .before .before .before .before .before .loop .inv .most)
 
 wrapped-requires : tie.Need-wrapped-requires Inv-loop μ-loop
 wrapped-requires c κs = tt
@@ -36,13 +36,13 @@ loop-less : tie.Need-loop-less Inv-loop μ-loop
 loop-less c = omega arith
 
 loop-again : tie.Need-loop-again Inv-loop μ-loop
-loop-again c = let l = c .before .before .before .before .before .before .before .loop in writes-next _ _ (c .before .before .before .before .before .before .before .before .before .args .t3) (c .before .before .before .before .before .before .before .before .before .pre .1) _ _ _ (l .n) (l .inv) (omega arith) _ _ _ (c .before .before .before .put-cookie .ensures) (c .wrapped .ensures)
+loop-again c = let l = c .before .before .before .before .before .before .before .loop in writes-next _ _ _ (c .before .before .before .before .before .before .before .before .before .args .t3) (c .before .before .before .before .before .before .before .before .before .pre .1) _ _ _ (l .n) (l .inv) (omega arith) _ _ _ (c .before .before .before .put-cookie .ensures) (c .wrapped .ensures)
 
 same-length : tie.Need-same-length Inv-loop μ-loop
 same-length c = c .before .loop .inv .long
 
 returns : tie.Need-returns Inv-loop μ-loop
-returns c = let l = c .before .loop in written _ _ (c .before .before .before .args .t3) (c .before .before .before .pre .1) _ _ _ (l .n) (l .inv) (omega arith)
+returns c = let l = c .before .loop in written _ _ _ (c .before .before .before .args .t3) (c .before .before .before .pre .1) _ _ _ (l .n) (l .inv) (omega arith)
 
 pub put-cookies-spec : {M : Type 1} → statement M
 put-cookies-spec =

@@ -19,23 +19,23 @@ slice-aggregate-put c = search needs
 put-requires : tie.Need-put-requires
 put-requires c κs = omega (arith, c .before .before .before .before .pre .3)
 
-cast-t15 : tie.Need-cast-t15
-cast-t15 c = let h = c .before .before .before .before .before .before .before .before .pre .0 .reads in search needs
+cast-t16 : tie.Need-cast-t16
+cast-t16 c = let w = c .before .before .before .before .before .before .before .before .pre .0 in let h = w .reads in let m = w .most in omega (arith, h, m)
 
 slice-aggregate-put-2 : tie.Need-slice-aggregate-put-2
 slice-aggregate-put-2 c = search needs
 
 put-requires-2 : tie.Need-put-requires-2
-put-requires-2 c κs = let l = stash-long (c .before .before .before .before .before .before .before .before .before .before .args .s) in omega (arith, c .before .before .before .before .before .before .before .before .before .before .pre .1, c .before .before .before .before .before .before .before .before .before .before .pre .3, c .before .before .before .before .before .put .ensures .ends, c .before .before .before .before .before .put .kept .0)
+put-requires-2 c κs = let l = stash-long (c .before .before .before .before .before .before .before .before .before .before .args .capacity) (c .before .before .before .before .before .before .before .before .before .before .args .s) in omega (arith, c .before .before .before .before .before .before .before .before .before .before .pre .1, c .before .before .before .before .before .before .before .before .before .before .pre .3, c .before .before .before .before .before .put .ensures .ends, c .before .before .before .before .before .put .kept .0)
 
 put-cookies-requires : tie.Need-put-cookies-requires
-put-cookies-requires c κs = let p = c .before .before .before .before .before .before .before .before .before .before .before .before .before .before .pre in let l = stash-long (c .before .before .before .before .before .before .before .before .before .before .before .before .before .before .args .s) in (p .0, omega (arith, p .1, p .3, c .before .before .before .before .before .before .before .before .before .put .ensures .ends, c .before .before .before .before .before .before .before .before .before .put .kept .0, c .before .before .before .put2 .ensures .ends, c .before .before .before .put2 .kept .0))
+put-cookies-requires c κs = let p = c .before .before .before .before .before .before .before .before .before .before .before .before .before .before .pre in let l = stash-long (c .before .before .before .before .before .before .before .before .before .before .before .before .before .before .args .capacity) (c .before .before .before .before .before .before .before .before .before .before .before .before .before .before .args .s) in (p .0, omega (arith, p .1, p .3, c .before .before .before .before .before .before .before .before .before .put .ensures .ends, c .before .before .before .before .before .before .before .before .before .put .kept .0, c .before .before .before .put2 .ensures .ends, c .before .before .before .put2 .kept .0))
 
 same-length : tie.Need-same-length
 same-length c = omega (arith, c .before .before .before .before .before .before .before .before .before .before .before .before .put .kept .0, c .before .before .before .before .before .before .put2 .kept .0, c .before .before .put-cookies .kept .0)
 
 returns : tie.Need-returns
-returns c = let a = c .before .before .before .before .before .before .before .before .before .before .before .before .before .before .before .before .before .args in let p = c .before .before .before .before .before .before .before .before .before .before .before .before .before .before .before .before .before .pre in let l = stash-long (a .s) in (omega (arith, p .1, l, c .before .before .before .before .before .before .before .before .before .before .before .before .put .ensures .ends, c .before .before .before .before .before .before .put2 .ensures .ends, c .before .before .put-cookies .ensures .ends), stash-put (a .s) (c .before .before .before .before .before .before .before .before .before .before .before .before .before .before .before .head .ensures) (p .1) refl (c .before .before .before .before .before .before .before .before .before .before .before .before .put .ensures) (c .before .before .before .before .before .before .put2 .ensures) (c .before .before .put-cookies .ensures) (omega (arith, p .1, p .3)))
+returns c = let a = c .before .before .before .before .before .before .before .before .before .before .before .before .before .before .before .before .before .args in let p = c .before .before .before .before .before .before .before .before .before .before .before .before .before .before .before .before .before .pre in let l = stash-long (a .capacity) (a .s) in (omega (arith, p .1, l, c .before .before .before .before .before .before .before .before .before .before .before .before .put .ensures .ends, c .before .before .before .before .before .before .put2 .ensures .ends, c .before .before .put-cookies .ensures .ends), stash-put (a .capacity) (a .s) (c .before .before .before .before .before .before .before .before .before .before .before .before .before .before .before .head .ensures) (p .1) refl (c .before .before .before .before .before .before .before .before .before .before .before .before .put .ensures) (c .before .before .before .before .before .before .put2 .ensures) (c .before .before .put-cookies .ensures) (omega (arith, p .1, p .3)))
 
 pub put-stash-spec : {M : Type 1} → statement M
 put-stash-spec =
@@ -45,7 +45,7 @@ put-stash-spec =
     head-requires
     slice-aggregate-put
     put-requires
-    cast-t15
+    cast-t16
     slice-aggregate-put-2
     put-requires-2
     put-cookies-requires

@@ -22,13 +22,13 @@ stash-length-requires : tie.Need-stash-length-requires
 stash-length-requires c κs = (whole-of (c .before .before .before .before .before .before .args .a) (types-typed (c .before .before .before .before .before .before .args .a) _ (c .before .before .before .before .before .before .good .0)) (sym (c .before .before .before .before .whole .ensures) ∙ not-false _ (c .before .before .before .if1 .left)) .stash)
 
 add-len : tie.Need-add-len
-add-len c = let w = (whole-of (c .before .before .before .before .before .before .before .args .a) (types-typed (c .before .before .before .before .before .before .before .args .a) _ (c .before .before .before .before .before .before .before .good .0)) (sym (c .before .before .before .before .before .whole .ensures) ∙ not-false _ (c .before .before .before .before .if1 .left)) .stash) in let t = types-typed (c .before .before .before .before .before .before .before .args .a) _ (c .before .before .before .before .before .before .before .good .0) in omega (arith, c .stash-length .ensures, C.stash-long (c .before .before .before .before .before .before .before .args .a .stash) w (t .eight))
+add-len c = let w = (whole-of (c .before .before .before .before .before .before .before .args .a) (types-typed (c .before .before .before .before .before .before .before .args .a) _ (c .before .before .before .before .before .before .before .good .0)) (sym (c .before .before .before .before .before .whole .ensures) ∙ not-false _ (c .before .before .before .before .if1 .left)) .stash) in let t = types-typed (c .before .before .before .before .before .before .before .args .a) _ (c .before .before .before .before .before .before .before .good .0) in omega (arith, c .stash-length .ensures, C.stash-long (c .before .before .before .before .before .before .before .args .a .settings .capacity) (c .before .before .before .before .before .before .before .args .a .stash) w (t .eight))
 
 returns-2 : tie.Need-returns-2
 returns-2 c = let a = c .before .before .before .before .before .before .before .before .args in short-by (a .a) (now (a .buffer)) (sym (c .before .before .before .before .before .before .whole .ensures) ∙ not-false _ (c .before .before .before .before .before .if1 .left)) _ (c .before .stash-length .ensures) (omega arith)
 
 put-file-requires : tie.Need-put-file-requires
-put-file-requires c κs = let w = (whole-of (c .before .before .before .before .before .before .before .before .before .args .a) (types-typed (c .before .before .before .before .before .before .before .before .before .args .a) _ (c .before .before .before .before .before .before .before .before .before .good .0)) (sym (c .before .before .before .before .before .before .before .whole .ensures) ∙ not-false _ (c .before .before .before .before .before .before .if1 .left)) .stash) in let t = types-typed (c .before .before .before .before .before .before .before .before .before .args .a) _ (c .before .before .before .before .before .before .before .before .before .good .0) in (w, c .before .before .stash-length .ensures, omega (arith, c .before .before .stash-length .ensures, C.stash-long (c .before .before .before .before .before .before .before .before .before .args .a .stash) w (t .eight)), omega arith)
+put-file-requires c κs = let w = (whole-of (c .before .before .before .before .before .before .before .before .before .args .a) (types-typed (c .before .before .before .before .before .before .before .before .before .args .a) _ (c .before .before .before .before .before .before .before .before .before .good .0)) (sym (c .before .before .before .before .before .before .before .whole .ensures) ∙ not-false _ (c .before .before .before .before .before .before .if1 .left)) .stash) in let t = types-typed (c .before .before .before .before .before .before .before .before .before .args .a) _ (c .before .before .before .before .before .before .before .before .before .good .0) in (w, c .before .before .stash-length .ensures, omega (arith, c .before .before .stash-length .ensures, C.stash-long (c .before .before .before .before .before .before .before .before .before .args .a .settings .capacity) (c .before .before .before .before .before .before .before .before .before .args .a .stash) w (t .eight)), omega arith)
 
 emptied-requires : tie.Need-emptied-requires
 emptied-requires c κs = search needs

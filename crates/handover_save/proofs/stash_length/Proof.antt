@@ -9,19 +9,19 @@ use Rattle.handover_save.proofs.stash_length.Statement.{statement}
 use Rattle.handover_save.proofs.stash_length.Tie as tie
 
 abbrev Inv-loop : tie.InvT-loop
-Inv-loop s sum₀ place₀ n₀ sum place n = Summing s sum place n
+Inv-loop cap s sum₀ place₀ n₀ sum place n = Summing cap s sum place n
 
 abbrev μ-loop : tie.MeasureT-loop
-μ-loop s sum₀ place₀ n₀ sum place n = n
+μ-loop cap s sum₀ place₀ n₀ sum place n = n
 
 loop-holds : tie.Need-loop-holds Inv-loop μ-loop
-loop-holds c = sum-begins _ (c .pre)
+loop-holds c = sum-begins _ _ (c .pre)
 
 mul-slot : tie.Need-mul-slot Inv-loop μ-loop
-mul-slot c = omega (arith, c .before .loop .inv .places)
+mul-slot c = omega (arith, c .before .loop .inv .places, c .before .loop .inv .most)
 
 element-copy-out-slot : tie.Need-element-copy-out-slot Inv-loop μ-loop
-element-copy-out-slot c = omega (arith, c .before .loop .inv .places)
+element-copy-out-slot c = omega (arith, c .before .loop .inv .places, c .before .loop .inv .most)
 
 add-sum : tie.Need-add-sum Inv-loop μ-loop
 add-sum c = let i = c .before .before .loop .inv in omega (arith, i .small, i .few)
@@ -36,7 +36,7 @@ add-sum-2 : tie.Need-add-sum-2 Inv-loop μ-loop
 add-sum-2 c = let i = c .before .before .before .before .loop .inv in let b = stored-bounds (slotAt (c .before .before .before .before .before .args .t1 .slots) (c .before .before .before .before .loop .place) .len) in omega (arith, i .small, i .few, c .stored-bytes .ensures)
 
 add-wrapped : tie.Need-add-wrapped Inv-loop μ-loop
-add-wrapped c = omega (arith, c .before .before .before .before .loop .inv .places)
+add-wrapped c = omega (arith, c .before .before .before .before .loop .inv .places, c .before .before .before .before .loop .inv .most)
 
 wrapped-requires : tie.Need-wrapped-requires Inv-loop μ-loop
 wrapped-requires c κs = tt
@@ -48,10 +48,10 @@ loop-less : tie.Need-loop-less Inv-loop μ-loop
 loop-less c = omega arith
 
 loop-again : tie.Need-loop-again Inv-loop μ-loop
-loop-again c = let l = c .before .before .before .before .before .loop in sum-next _ (c .before .before .before .before .before .before .pre) _ _ _ (l .inv) (omega arith) _ _ (c .before .stored-bytes .ensures) (c .wrapped .ensures)
+loop-again c = let l = c .before .before .before .before .before .loop in sum-next _ _ (c .before .before .before .before .before .before .pre) _ _ _ (l .inv) (omega arith) _ _ (c .before .stored-bytes .ensures) (c .wrapped .ensures)
 
 returns : tie.Need-returns Inv-loop μ-loop
-returns c = let l = c .before .loop in summed _ (c .before .before .pre) _ _ _ (l .inv) (omega arith)
+returns c = let l = c .before .loop in summed _ _ (c .before .before .pre) _ _ _ (l .inv) (omega arith)
 
 pub stash-length-spec : {M : Type 1} → statement M
 stash-length-spec =

@@ -46,9 +46,23 @@ between-requires-2 c κs = search needs
 returns-3 : tie.Need-returns-3
 unfolding settingsValid
 returns-3 c =
-    let b = c .before in
+    let b = c .before .before in
     let k = b .before .before .before in
-    sym (passes _ (sym (tested (k .before)) ∙ not-false _ (k .if1 .left)) ∙ passes _ (sym (b .before .between .ensures) ∙ not-false _ (b .if2 .left)) ∙ sym (c .between2 .ensures))
+    sym (passes _ (sym (tested (k .before)) ∙ not-false _ (k .if1 .left)) ∙ passes _ (sym (b .before .between .ensures) ∙ not-false _ (b .if2 .left)) ∙ fails _ (sym (c .before .between2 .ensures) ∙ not-true _ (c .if3 .taken)))
+
+cast-between-2 : tie.Need-cast-between-2
+cast-between-2 c = search needs
+
+between-requires-3 : tie.Need-between-requires-3
+between-requires-3 c κs = search needs
+
+returns-4 : tie.Need-returns-4
+unfolding settingsValid
+returns-4 c =
+    let d = c .before .before in
+    let b = d .before .before in
+    let k = b .before .before .before in
+    sym (passes _ (sym (tested (k .before)) ∙ not-false _ (k .if1 .left)) ∙ passes _ (sym (b .before .between .ensures) ∙ not-false _ (b .if2 .left)) ∙ passes _ (sym (d .before .between2 .ensures) ∙ not-false _ (d .if3 .left)) ∙ sym (c .between3 .ensures))
 
 pub valid-spec : {M : Type 1} → statement M
 valid-spec =
@@ -60,4 +74,7 @@ valid-spec =
     between-requires
     returns-2
     between-requires-2
-    returns-3)
+    returns-3
+    cast-between-2
+    between-requires-3
+    returns-4)

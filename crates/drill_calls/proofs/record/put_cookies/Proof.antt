@@ -8,10 +8,10 @@ use Rattle.drill_calls.proofs.record.put_cookies.Statement.{statement}
 use Rattle.drill_calls.proofs.record.put_cookies.Tie as tie
 
 abbrev Inv-loop : tie.InvT-loop
-Inv-loop out₀ from rest₀ at₀ separator₀ i₀ out rest at separator i = length out ≡ length out₀
+Inv-loop out₀ from capacity rest₀ at₀ separator₀ i₀ out rest at separator i = length out ≡ length out₀
 
 abbrev μ-loop : tie.MeasureT-loop
-μ-loop out₀ from rest₀ at₀ separator₀ i₀ out rest at separator i = 8 - i
+μ-loop out₀ from capacity rest₀ at₀ separator₀ i₀ out rest at separator i = 8 - i
 
 loop-holds : tie.Need-loop-holds Inv-loop μ-loop
 loop-holds c = search needs
