@@ -82,6 +82,7 @@ extern "C" {
 #define RECKONSTILE_HIGH_STARTUP 35 /* metered: the startup limit is over 3 */
 #define RECKONSTILE_UPGRADING_START 36 /* metered: the start version is upgrading */
 #define RECKONSTILE_LONG_COOKIE 37  /* metered, with NTS: a cookie of the list has over 100 bytes */
+#define RECKONSTILE_RETIRED_START 38 /* new: the start version is upgrading, which is retired; metered says 36 for it */
 #define RECKONSTILE_STRATUM 40      /* accept: the source is not below our own stratum */
 #define RECKONSTILE_LOOP 41         /* accept: the source gets its time from us */
 #define RECKONSTILE_UNREACHABLE 42  /* accept: none of the last eight polls was answered */
@@ -103,7 +104,7 @@ extern "C" {
 
 /* settings.start, state.version */
 #define RECKONSTILE_V4 0
-#define RECKONSTILE_UPGRADING 1     /* on the way from V4 to V5; `left` says how many tries are left */
+#define RECKONSTILE_UPGRADING 1     /* retired: no settings may have it (38), and a record with it is not whole (32); a file with it loads as V4 */
 #define RECKONSTILE_UPGRADED 2
 #define RECKONSTILE_V5 3
 
@@ -140,13 +141,13 @@ extern "C" {
 
 struct reckonstile_settings {
     uint64_t window;      /* how long a request stays live, in nanoseconds: 1 to 60000000000 */
-    uint64_t upgrademark; /* the reference timestamp of an upgrade request and of an upgrade reply */
+    uint64_t upgrademark; /* kept, and read by no call: what write_request puts into an upgrade request is an argument of its own */
     uint32_t source;      /* the source's own identifier */
-    uint32_t start;       /* the version to start with: RECKONSTILE_V4 .. RECKONSTILE_V5 */
+    uint32_t start;       /* the version to start with: RECKONSTILE_V4, _UPGRADED or _V5 */
     uint16_t nts;         /* 0 or 1 */
     uint8_t capacity;     /* how many cookies the stash holds: 1 to RECKONSTILE_SLOTS */
     uint8_t spare;        /* 0 */
-    uint8_t left;         /* upgrading: the tries left; else 0 */
+    uint8_t left;         /* 0; with RECKONSTILE_UPGRADING, which is retired, any number */
     uint8_t startup;      /* give up after so many polls with no answer: 1 to 8 */
     int8_t min, max;      /* limits of the poll exponent: 0 <= min <= max <= 17 */
 };
@@ -168,7 +169,7 @@ struct reckonstile_state {
     int8_t last;       /* the poll exponent last used */
     int8_t remote;     /* the least that the source asks for */
     uint32_t refid;    /* the source's reference identifier */
-    uint32_t version;  /* RECKONSTILE_V4 .. RECKONSTILE_V5 */
+    uint32_t version;  /* RECKONSTILE_V4, _UPGRADED or _V5 */
     uint8_t left;      /* as in the settings */
     uint8_t stratum;   /* the source's; 16 until a reply is measured */
     uint8_t denial;    /* 0 or 1: service was denied since */
@@ -193,7 +194,7 @@ struct reckonstile_uid {
 };
 
 struct reckonstile_new_answer {
-    uint32_t number;  /* new: 0, 30, 33; metered: those and 34 to 37. Where it is not 0 all below is zero */
+    uint32_t number;  /* new: 0, 30, 33, 38; metered: 0, 30, 33 to 37. Where it is not 0 all below is zero */
     uint32_t made;    /* 1 where the number is 0 */
     uint64_t dropped; /* with NTS, how many cookies of the list did not fit: with more than the capacity the oldest fall out */
     uint64_t lost;    /* their lengths, summed */
@@ -242,6 +243,11 @@ struct reckonstile_written {
     size_t length;    /* how many bytes are written from the buffer's start on */
 };
 
+struct reckonstile_load_answer {
+    uint32_t number;  /* 0, 61, 62, 63 */
+    uint32_t retired; /* 1 where the number is 0 and the file had RECKONSTILE_UPGRADING, as start version or as version: that is RECKONSTILE_V4 now */
+};
+
 /* What a salvage reports. The lengths kept (each with its head of four bytes) are `length`, and `length` and `skipped` add up to the damaged list. */
 struct reckonstile_salvaged {
     uint32_t number; /* 0, 70; on 70 the buffer is as it was and all below is zero */
@@ -281,6 +287,8 @@ RECKONSTILE_ASSERT(sizeof(struct reckonstile_reply_answer) == 72 && offsetof(str
 RECKONSTILE_ASSERT(sizeof(struct reckonstile_decoded) == 56 && offsetof(struct reckonstile_decoded, mode) == 40 &&
                    offsetof(struct reckonstile_decoded, untrusted) == 55, "reckonstile: layout of a decoded reply");
 RECKONSTILE_ASSERT(sizeof(struct reckonstile_written) == 16, "reckonstile: layout of what is written");
+RECKONSTILE_ASSERT(sizeof(struct reckonstile_load_answer) == 8 && offsetof(struct reckonstile_load_answer, retired) == 4,
+                   "reckonstile: layout of load's answer");
 RECKONSTILE_ASSERT(sizeof(struct reckonstile_salvaged) == 296 && offsetof(struct reckonstile_salvaged, kept) == 8 &&
                    offsetof(struct reckonstile_salvaged, places) == 40, "reckonstile: layout of a salvage's report");
 RECKONSTILE_ASSERT(sizeof(struct reckonstile_calendar_answer) == 16 && offsetof(struct reckonstile_calendar_answer, place) == 8,
@@ -297,7 +305,8 @@ uint32_t reckonstile_blank(struct reckonstile_association *a);
 
 /* The record, whatever it was, becomes a new association with these settings; with NTS its first cookies are those of the list (as reckonstile_collect writes
    it), and without NTS the list is not read. The answer says how many of them did not fit.
-   0 made; 30 a setting is outside its range, or a code of no kind; 33 with NTS, the list is broken. On 30 and 33 the record is blank. */
+   0 made; 30 a setting is outside its range, or a code of no kind; then 33 with NTS, the list is broken; then 38 start is RECKONSTILE_UPGRADING, which is
+   retired. On 30, 33 and 38 the record is blank. */
 struct reckonstile_new_answer reckonstile_new(struct reckonstile_association *a, struct reckonstile_settings settings, const uint8_t *list, size_t list_len);
 
 /* The same for a link that is paid by the packet: the settings and the list have to meet the metered profile besides, and the record is then the one that
@@ -342,7 +351,8 @@ uint32_t reckonstile_accept(const struct reckonstile_association *a, uint8_t str
 struct reckonstile_written reckonstile_collect(const uint8_t *decrypted, size_t decrypted_len, uint8_t *out, size_t room);
 
 /* The request that a timer's 20 asks for: `kind`, `poll` and `asked` as that answer has them, `id` and `uid` as the timer was given, the upgrademark of the
-   settings, the cookie from the timer's buffer. With NTS the caller appends its authenticator. kind is 1, 2 or 4; cookie, uid and asked count for 4 only.
+   settings, the cookie from the timer's buffer. With NTS the caller appends its authenticator. kind is 1, 2 or 4; cookie, uid and asked count for 4 only, the
+   upgrademark for 2, which is an upgrade request: no timer asks for one any more.
    0 written; 50 V5, or a kind of no kind; 52 a cookie or a count that no request has; 51 the buffer is too short. */
 struct reckonstile_written reckonstile_write_request(uint8_t kind, int8_t poll, uint64_t id, uint64_t upgrademark, struct reckonstile_uid uid,
                                                      const uint8_t *cookie, size_t cookie_len, uint8_t asked, uint8_t *out, size_t room);
@@ -353,8 +363,9 @@ struct reckonstile_written reckonstile_write_request(uint8_t kind, int8_t poll, 
 struct reckonstile_written reckonstile_save(struct reckonstile_association *a, uint8_t *out, size_t room);
 
 /* The record, whatever it was, becomes the association of a hand-over file, with nothing sent yet. Load a file once: a cookie has one owner.
+   The retired version, RECKONSTILE_UPGRADING, becomes RECKONSTILE_V4, and the answer says so.
    0 loaded; 61 a mark, 62 a length, whichever is first in the file; then 63 what it says is no association. On these three the record is blank. */
-uint32_t reckonstile_load(struct reckonstile_association *a, const uint8_t *file, size_t file_len);
+struct reckonstile_load_answer reckonstile_load(struct reckonstile_association *a, const uint8_t *file, size_t file_len);
 
 /* A damaged cookie list, of which cheap flash has lost bytes, made clean: what is left of it is written to the buffer, as a list for reckonstile_new. Each
    place is tried in turn. Where a mark (C0 0E), a length of two bytes and that many bytes fit, and the end or another mark follows, the record is kept and

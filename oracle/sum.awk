@@ -9,8 +9,8 @@
     total[kind] += count
 }
 END {
-    split("passed failed listed", kinds, " ")
-    for (k = 1; k <= 3; k++) {
+    split("steps passed failed listed", kinds, " ")
+    for (k = 1; k <= 4; k++) {
         for (i = 1; i <= keys; i++) {
             split(order[i], parts, SUBSEP)
             if (parts[1] == kinds[k]) print kinds[k] " " parts[2] ": " sum[order[i]] | "sort -k2,2 -k3,3n"

@@ -87,6 +87,16 @@ fn hex(bytes: &[u8]) -> String {
     })
 }
 
+/// A version's code and its tries, as a record has them.
+fn version_codes(text: &str) -> (u32, u8) {
+    match text {
+        "v4" => (0, 0),
+        "upgraded" => (2, 0),
+        "v5" => (3, 0),
+        upgrading => (1, number(&upgrading["upgrading:".len()..])),
+    }
+}
+
 fn kind_of(text: &str) -> SendKind {
     match text {
         "v4" => SendKind::V4,
@@ -130,7 +140,7 @@ impl Drill {
             "v4" => ProtocolVersion::V4,
             "upgraded" => ProtocolVersion::UpgradedToV5,
             "v5" => ProtocolVersion::V5,
-            upgrading => ProtocolVersion::V4UpgradingToV5 { tries_left: number(&upgrading["upgrading:".len()..]) },
+            other => panic!("settings cannot name the version {other}"),
         };
         Settings {
             poll_interval_limits: PollIntervalLimits {
@@ -340,9 +350,9 @@ impl Drill {
 
     fn load(&mut self, p: &Pairs) -> String {
         match Association::load(&p.bytes("file")) {
-            Ok(a) => {
-                self.a = a;
-                "load 0".into()
+            Ok(loaded) => {
+                self.a = loaded.association;
+                format!("load 0 retired={}", if loaded.retired { "yes" } else { "no" })
             }
             Err(refused) => {
                 self.a = Association::from_record(Record::BLANK);
@@ -479,6 +489,8 @@ impl Drill {
             "startup" => r.settings.startup = number(value),
             "window" => r.settings.window = number(value),
             "capacity" => r.settings.capacity = number(value),
+            "version" => (r.state.version, r.state.left) = version_codes(value),
+            "start" => (r.settings.start, r.settings.left) = version_codes(value),
             "id" => r.state.id = bits(value),
             "uid" => r.state.uid = uid(value),
             "deadline" => r.state.deadline = number(value),

@@ -56,6 +56,7 @@ numbered! {
     NewRefused {
         Settings = 30, "a setting is outside its range";
         BrokenList = 33, "with NTS, the cookie list is broken";
+        RetiredStart = 38, "the start version is upgrading, which is retired and which these settings cannot name";
     }
 }
 
@@ -73,7 +74,7 @@ numbered! {
         BrokenList = 33, "with NTS, the cookie list is broken";
         LowPollMin = 34, "the lower poll limit is below 8";
         HighStartup = 35, "the startup limit is over 3";
-        UpgradingStart = 36, "the start version is upgrading";
+        UpgradingStart = 36, "the start version is upgrading, which is retired and which these settings cannot name";
         LongCookie = 37, "with NTS, a cookie of the first list has over 100 bytes";
     }
 }
@@ -349,7 +350,7 @@ impl ReplyRefused {
 pub enum SendKind {
     /// NTPv4.
     V4,
-    /// NTPv4 with the upgrade mark.
+    /// NTPv4 with the upgrade mark; no timer asks for it any more.
     V4Upgrade,
     /// NTPv5, which the caller writes itself.
     V5,

@@ -50,50 +50,37 @@ impl From<core::net::Ipv4Addr> for ReferenceId {
     }
 }
 
-/// The version that an association speaks.
+/// The version that an association speaks. The crate's fourth, `V4UpgradingToV5`, is retired: whether a server speaks V5 is told, and not asked for.
 ///
 /// ```
-/// use reckonstile::ProtocolVersion;
-/// let eight = ProtocolVersion::v4_upgrading_to_v5_with_default_tries();
-/// assert_eq!(eight, ProtocolVersion::V4UpgradingToV5 { tries_left: 8 });
+/// use reckonstile::{Association, ProtocolVersion, Settings};
+/// let (a, _) = Association::new(&Settings { version: ProtocolVersion::V5, ..Settings::default() }, &[]).unwrap();
+/// assert_eq!(a.version(), ProtocolVersion::V5);
 /// ```
 #[derive(Clone, Copy, Debug, PartialEq, Eq, Hash)]
 pub enum ProtocolVersion {
     /// NTPv4.
     V4,
-    /// NTPv4, with requests that ask whether the server speaks V5.
-    V4UpgradingToV5 {
-        /// After so many replies without a yes it is V4.
-        tries_left: u8,
-    },
-    /// NTPv5 after such a yes; two polls without an answer make it V4 again.
+    /// NTPv5 that was agreed on; two polls without an answer make it V4. A new association has had no answer, so that its first poll is of V4.
     UpgradedToV5,
     /// NTPv5.
     V5,
 }
 
 impl ProtocolVersion {
-    /// Upgrading with eight tries, as the crate has it.
-    #[must_use]
-    pub const fn v4_upgrading_to_v5_with_default_tries() -> Self {
-        ProtocolVersion::V4UpgradingToV5 { tries_left: 8 }
-    }
-
-    const fn codes(self) -> (u32, u8) {
+    const fn code(self) -> u32 {
         match self {
-            ProtocolVersion::V4 => (0, 0),
-            ProtocolVersion::V4UpgradingToV5 { tries_left } => (1, tries_left),
-            ProtocolVersion::UpgradedToV5 => (2, 0),
-            ProtocolVersion::V5 => (3, 0),
+            ProtocolVersion::V4 => 0,
+            ProtocolVersion::UpgradedToV5 => 2,
+            ProtocolVersion::V5 => 3,
         }
     }
 
-    const fn from_codes(kind: u32, left: u8) -> Self {
-        match kind {
-            0 => ProtocolVersion::V4,
-            1 => ProtocolVersion::V4UpgradingToV5 { tries_left: left },
+    const fn from_code(code: u32) -> Self {
+        match code {
             2 => ProtocolVersion::UpgradedToV5,
-            _ => ProtocolVersion::V5,
+            3 => ProtocolVersion::V5,
+            _ => ProtocolVersion::V4,
         }
     }
 }
@@ -113,7 +100,7 @@ pub struct Settings {
     pub startup_tries: u8,
     /// How long a request stays live: above 0, up to 60 s.
     pub poll_window: Duration,
-    /// The reference timestamp of an upgrade request and of the reply that says yes.
+    /// The reference timestamp of an upgrade request, which [`write_request`] can write and no timer asks for any more.
     pub upgrade_mark: u64,
     /// The version to start with.
     pub version: ProtocolVersion,
@@ -142,16 +129,15 @@ impl Default for Settings {
 
 impl Settings {
     fn numbers(&self) -> ffi::Settings {
-        let (start, left) = self.version.codes();
         ffi::Settings {
             window: u64::try_from(self.poll_window.as_nanos()).unwrap_or(u64::MAX),
             upgrademark: self.upgrade_mark,
             source: self.source.0,
-            start,
+            start: self.version.code(),
             nts: self.nts.into(),
             capacity: self.capacity,
             spare: 0,
-            left,
+            left: 0,
             startup: self.startup_tries,
             min: self.poll_interval_limits.min.as_log(),
             max: self.poll_interval_limits.max.as_log(),
@@ -174,6 +160,25 @@ pub struct Source {
     pub reference_id: ReferenceId,
     /// Whether it denied service since the last measured reply.
     pub denial: bool,
+}
+
+/// The association of a hand-over file.
+///
+/// ```
+/// use reckonstile::{Association, ProtocolVersion, Settings, FILE_BYTES};
+/// let mut file = [0; FILE_BYTES];
+/// let length = Association::new(&Settings::default(), &[]).unwrap().0.save(&mut file).unwrap();
+/// assert!(!Association::load(&file[..length]).unwrap().retired);
+/// file[23] = 1; // a file of an older version: its start version was upgrading
+/// let loaded = Association::load(&file[..length]).unwrap();
+/// assert!(loaded.retired && loaded.association.version() == ProtocolVersion::V4);
+/// ```
+#[derive(Clone, Debug, PartialEq, Eq)]
+pub struct Loaded {
+    /// The association, which has sent nothing yet.
+    pub association: Association,
+    /// Whether the file had the retired version, upgrading, as start version or as version: that is V4 now.
+    pub retired: bool,
 }
 
 /// When a request left, when its reply came, and the time at which the reply is handed in.
@@ -378,7 +383,7 @@ impl Association {
     /// it, what of that list did not fit. Call [`Association::timer`] at once.
     ///
     /// # Errors
-    /// [`NewRefused`]: 30, 33.
+    /// [`NewRefused`]: 30, 33; 38 is for other callers, since these settings cannot name the retired version.
     pub fn new(settings: &Settings, list: &[u8]) -> Result<(Self, Dropped), NewRefused> {
         let mut record = Record::BLANK;
         let said = ffi::new(&mut record, settings.numbers(), list);
@@ -525,7 +530,7 @@ impl Association {
     /// let length = old.save(&mut file).unwrap();
     /// assert_eq!((length, &file[..2], old.cookies()), (68, &b"SE"[..], 0));
     /// // The box that is swapped in: the same association, as long as nothing was sent.
-    /// assert_eq!(Association::load(&file[..length]).unwrap(), before);
+    /// assert_eq!(Association::load(&file[..length]).unwrap().association, before);
     /// ```
     pub fn save(&mut self, out: &mut [u8]) -> Result<usize, SaveRefused> {
         let said = ffi::save(&mut self.record, out);
@@ -536,14 +541,15 @@ impl Association {
     }
 
     /// The association of a hand-over file, with nothing sent yet; call [`Association::timer`] at once. Load a file once, in one box: a cookie has one owner,
-    /// and nothing tells a second time.
+    /// and nothing tells a second time. [`Loaded`] says besides whether a version of the file was retired.
     ///
     /// # Errors
     /// [`LoadRefused`]: 61, 62, 63.
-    pub fn load(file: &[u8]) -> Result<Self, LoadRefused> {
+    pub fn load(file: &[u8]) -> Result<Loaded, LoadRefused> {
         let mut record = Record::BLANK;
-        match ffi::load(&mut record, file) {
-            0 => Ok(Association { record }),
+        let said = ffi::load(&mut record, file);
+        match said.number {
+            0 => Ok(Loaded { association: Association { record }, retired: said.retired == 1 }),
             number => Err(LoadRefused::from_number(number)),
         }
     }
@@ -558,7 +564,7 @@ impl Association {
     /// The version in use.
     #[must_use]
     pub fn version(&self) -> ProtocolVersion {
-        ProtocolVersion::from_codes(self.record.state.version, self.record.state.left)
+        ProtocolVersion::from_code(self.record.state.version)
     }
 
     /// The poll interval last used, and the least that the source asks for.

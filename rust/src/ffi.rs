@@ -15,11 +15,11 @@ use core::mem::{align_of, offset_of, size_of};
 pub struct Settings {
     /// How long a request stays live, in nanoseconds.
     pub window: u64,
-    /// The reference timestamp of an upgrade request.
+    /// The reference timestamp of an upgrade request; no call reads it here.
     pub upgrademark: u64,
     /// The source's identifier.
     pub source: u32,
-    /// The version to start with: 0 V4, 1 upgrading, 2 upgraded, 3 V5.
+    /// The version to start with: 0 V4, 2 upgraded, 3 V5; 1, upgrading, is retired.
     pub start: u32,
     /// 1 with NTS, else 0.
     pub nts: u16,
@@ -27,7 +27,7 @@ pub struct Settings {
     pub capacity: u8,
     /// Always 0.
     pub spare: u8,
-    /// The tries left while upgrading, else 0.
+    /// 0 beside the versions that stay.
     pub left: u8,
     /// After so many polls with no answer the association gives up.
     pub startup: u8,
@@ -75,7 +75,7 @@ pub struct State {
     pub refid: u32,
     /// The version, as in the settings.
     pub version: u32,
-    /// The tries left while upgrading, else 0.
+    /// 0 beside the versions that stay.
     pub left: u8,
     /// The source's stratum; 16 until a reply is measured.
     pub stratum: u8,
@@ -220,6 +220,13 @@ pub(crate) struct Written {
 }
 
 #[repr(C)]
+#[derive(Clone, Copy, Default)]
+pub(crate) struct Loaded {
+    pub number: u32,
+    pub retired: u32,
+}
+
+#[repr(C)]
 #[derive(Clone, Copy)]
 pub(crate) struct Salvaged {
     pub number: u32,
@@ -268,12 +275,13 @@ const _: () = {
     assert!(size_of::<Replied>() == 72 && offset_of!(Replied, delay) == 8 && offset_of!(Replied, dropped) == 56);
     assert!(size_of::<Decoded>() == 56 && offset_of!(Decoded, mode) == 40 && offset_of!(Decoded, untrusted) == 55);
     assert!(size_of::<Written>() == 16 && offset_of!(Written, length) == 8);
+    assert!(size_of::<Loaded>() == 8 && offset_of!(Loaded, retired) == 4);
     assert!(size_of::<Salvaged>() == 296 && offset_of!(Salvaged, kept) == 8 && offset_of!(Salvaged, places) == 40);
     assert!(size_of::<Scheduled>() == 16 && offset_of!(Scheduled, place) == 8);
 };
 
 mod c {
-    use super::{Decoded, Made, Record, Replied, Salvaged, Scheduled, Settings, Timed, Uid, Written};
+    use super::{Decoded, Loaded, Made, Record, Replied, Salvaged, Scheduled, Settings, Timed, Uid, Written};
     extern "C" {
         pub fn reckonstile_size() -> usize;
         pub fn reckonstile_align() -> usize;
@@ -326,7 +334,7 @@ mod c {
             room: usize,
         ) -> Written;
         pub fn reckonstile_save(a: *mut Record, out: *mut u8, room: usize) -> Written;
-        pub fn reckonstile_load(a: *mut Record, file: *const u8, file_len: usize) -> u32;
+        pub fn reckonstile_load(a: *mut Record, file: *const u8, file_len: usize) -> Loaded;
         pub fn reckonstile_salvage(list: *const u8, list_len: usize, out: *mut u8, room: usize) -> Salvaged;
         pub fn reckonstile_check_calendar(
             cap: u8,
@@ -420,7 +428,7 @@ pub(crate) fn save(a: &mut Record, out: &mut [u8]) -> Written {
     unsafe { c::reckonstile_save(a, out.as_mut_ptr(), out.len()) }
 }
 
-pub(crate) fn load(a: &mut Record, file: &[u8]) -> u32 {
+pub(crate) fn load(a: &mut Record, file: &[u8]) -> Loaded {
     // SAFETY: `a` is lent exclusively, so the file, which is only read, does not lie in it.
     unsafe { c::reckonstile_load(a, file.as_ptr(), file.len()) }
 }

@@ -31,7 +31,7 @@ pub use answers::{
     NtpLeapIndicator, PlanRefused, Poll, ReplyRefused, RequestRefused, SalvageRefused, SaveRefused, SendKind, TimerRefused,
 };
 pub use association::{
-    collect, cookie_list, layout, write_request, Association, Bloom, DecodedReply, Kisses, Packet, ProtocolVersion,
+    collect, cookie_list, layout, write_request, Association, Bloom, DecodedReply, Kisses, Loaded, Packet, ProtocolVersion,
     ReferenceId, Settings, Source, Times, Uid, COOKIE_BYTES, FILE_BYTES, REQUEST_BYTES, SLOTS,
 };
 pub use ffi::Record;

@@ -85,7 +85,7 @@ fn the_unanswered_polls_are_counted_in_the_record() {
     // A hand-over file does not carry it: a load sets it from reach.
     let mut file = [0; FILE_BYTES];
     let length = a.save(&mut file).unwrap();
-    assert_eq!(Association::load(&file[..length]).unwrap().unanswered_polls(), 8);
+    assert_eq!(Association::load(&file[..length]).unwrap().association.unanswered_polls(), 8);
 }
 
 #[test]
@@ -152,16 +152,47 @@ fn a_stash_of_two_holds_the_newest_two() {
 }
 
 #[test]
-fn a_version_is_kept_with_its_tries() {
-    for version in [
-        ProtocolVersion::V4,
-        ProtocolVersion::V4UpgradingToV5 { tries_left: 255 },
-        ProtocolVersion::UpgradedToV5,
-        ProtocolVersion::V5,
-    ] {
+fn a_version_is_kept() {
+    for version in [ProtocolVersion::V4, ProtocolVersion::UpgradedToV5, ProtocolVersion::V5] {
         let (a, _) = Association::new(&Settings { version, ..Settings::default() }, &[]).unwrap();
         assert_eq!(a.version(), version);
     }
+}
+
+#[test]
+fn the_retired_version_is_refused_in_a_record_and_becomes_v4_in_a_file() {
+    let (mut a, _) = Association::new(&Settings { version: ProtocolVersion::V5, ..Settings::default() }, &[]).unwrap();
+    tick(&mut a, 0, 1).unwrap();
+    let record = *a.record();
+    for left in [0, 8, 255] {
+        let mut broken = [record; 2];
+        (broken[0].settings.start, broken[0].settings.left) = (1, left);
+        (broken[1].state.version, broken[1].state.left) = (1, left);
+        for broken in broken {
+            let mut b = Association::from_record(broken);
+            assert_eq!(tick(&mut b, 0, 2).unwrap_err(), TimerRefused::NotWhole);
+            assert_eq!(b.save(&mut [0; FILE_BYTES]).unwrap_err().number(), 32);
+            assert_eq!(b.record(), &broken);
+        }
+    }
+    // The start version stands at 23 of a file, the version behind the mark VE.
+    let mut file = [0; FILE_BYTES];
+    let length = a.save(&mut file).unwrap();
+    let version = (0..length).find(|at| file[*at..].starts_with(b"VE\0\x02")).unwrap() + 4;
+    let loaded = Association::load(&file[..length]).unwrap();
+    assert_eq!((loaded.association.version(), loaded.retired), (ProtocolVersion::V5, false));
+    let mut old = file;
+    (old[23], old[24]) = (1, 7);
+    let loaded = Association::load(&old[..length]).unwrap();
+    assert_eq!((loaded.association.version(), loaded.retired), (ProtocolVersion::V5, true));
+    assert_eq!((loaded.association.record().settings.start, loaded.association.record().settings.left), (0, 0));
+    (old[version], old[version + 1]) = (1, 0);
+    let loaded = Association::load(&old[..length]).unwrap();
+    assert_eq!((loaded.association.version(), loaded.retired), (ProtocolVersion::V4, true));
+    // Upgraded is not retired: it loads as it is.
+    (file[23], file[version]) = (2, 2);
+    let loaded = Association::load(&file[..length]).unwrap();
+    assert_eq!((loaded.association.version(), loaded.retired), (ProtocolVersion::UpgradedToV5, false));
 }
 
 #[test]

@@ -71,15 +71,19 @@ static uint8_t group(const char *key) {
 
 /* ---- the commands */
 
+static void version(const char *s, uint32_t *kind, uint8_t *left) { /* as `start` of new has it */
+    for (uint32_t k = 0; k < 4; k++)
+        if (!strncmp(s, versions[k], strlen(versions[k])) && (k != RECKONSTILE_UPGRADED || strlen(s) == 8)) *kind = k;
+    *left = *kind == RECKONSTILE_UPGRADING ? (uint8_t)natural(s + 10) : 0;
+}
+
 static struct reckonstile_settings settings(void) {
     struct reckonstile_settings s;
     memset(&s, 0, sizeof s);
     s.window = natural(text("window"));
     s.upgrademark = bits(text("mark"));
     s.source = (uint32_t)bits(text("source"));
-    for (uint32_t k = 0; k < 4; k++)
-        if (!strncmp(text("start"), versions[k], strlen(versions[k])) && (k != RECKONSTILE_UPGRADED || strlen(text("start")) == 8)) s.start = k;
-    if (s.start == RECKONSTILE_UPGRADING) s.left = (uint8_t)natural(text("start") + 10);
+    version(text("start"), &s.start, &s.left);
     s.nts = !strcmp(text("nts"), "yes");
     s.capacity = (uint8_t)natural(or_text("capacity", "8"));
     s.startup = (uint8_t)natural(text("startup"));
@@ -245,10 +249,11 @@ static void save(void) {
 static void load(void) {
     static uint8_t file[MOST];
     size_t n = bytes(text("file"), file);
-    uint32_t number = reckonstile_load(&a, file, n);
-    printf("load %" PRIu32, number);
+    struct reckonstile_load_answer r = reckonstile_load(&a, file, n);
+    printf("load %" PRIu32, r.number);
+    if (r.number == RECKONSTILE_OK) printf(" retired=%s", r.retired ? "yes" : "no");
     memset(&before, 0, sizeof before);
-    end(number == RECKONSTILE_OK || same());
+    end(r.number == RECKONSTILE_OK ? r.retired <= 1 : !r.retired && same());
 }
 
 /* ---- the tools, which have no record */
@@ -366,6 +371,8 @@ static void poke(void) {
     else if (!strcmp(key, "startup")) a.settings.startup = (uint8_t)natural(value);
     else if (!strcmp(key, "window")) a.settings.window = natural(value);
     else if (!strcmp(key, "capacity")) a.settings.capacity = (uint8_t)natural(value);
+    else if (!strcmp(key, "version")) version(value, &a.state.version, &a.state.left);
+    else if (!strcmp(key, "start")) version(value, &a.settings.start, &a.settings.left);
     else if (!strcmp(key, "id")) a.state.id = bits(value);
     else if (!strcmp(key, "deadline")) a.state.deadline = natural(value);
     else if (!strcmp(key, "answered")) a.state.answered = (uint32_t)natural(value);

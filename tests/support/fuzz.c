@@ -41,6 +41,7 @@ static uint8_t unanswered_of(uint8_t reach) { /* the zeros at its low end */
 static int whole(const struct reckonstile_association *a) {
     const struct reckonstile_state *s = &a->state;
     size_t capacity = a->settings.capacity;
+    if (a->settings.start == RECKONSTILE_UPGRADING || s->version == RECKONSTILE_UPGRADING) return 0; /* retired */
     if (!codes_ok(a) || !settings_ok(&a->settings) || a->stash.read >= capacity || a->stash.held > capacity) return 0;
     for (size_t k = 0; k < RECKONSTILE_SLOTS; k++) { /* those of the round, oldest first, then those past the capacity */
         const struct reckonstile_slot *slot = &a->stash.slots[k < capacity ? (a->stash.read + k) % capacity : k];
@@ -115,7 +116,18 @@ static void make(void) {
     s.min = (int8_t)below((uint64_t)s.max + 1);
     size_t n = list_of(list, below(2) ? sizeof list : 1000);
     uint32_t number = reckonstile_new(&lent.a, s, list, n).number;
+    if (s.start == RECKONSTILE_UPGRADING) {
+        expect(number == RECKONSTILE_RETIRED_START && zeros((const uint8_t *)&lent.a, sizeof lent.a), "new with the retired start version", number);
+        s.start = RECKONSTILE_V4;
+        s.left = 0;
+        number = reckonstile_new(&lent.a, s, list, n).number;
+    }
     expect(number == RECKONSTILE_OK && whole(&lent.a), "new was refused, or its record is not whole", number);
+    /* an upgraded one with its last poll answered, as a load gives it: its first poll is of V5 */
+    if (s.start == RECKONSTILE_UPGRADED && below(2)) {
+        lent.a.state.reach = 1;
+        lent.a.state.unanswered = 0;
+    }
     for (uint64_t k = below(4); k; k--) {
         random_bytes(&uid, sizeof uid);
         number = reckonstile_timer(&lent.a, below(1000000), (int8_t)below(18), next(), uid, out.bytes, sizeof out.bytes).number;
@@ -358,20 +370,38 @@ int main(int argc, char **argv) {
             kept_of.state.present = kept_of.state.answered = 0;
             kept_of.state.id = kept_of.state.deadline = 0;
             memset(kept_of.state.uid, 0, sizeof kept_of.state.uid);
-            n = reckonstile_load(&lent.a, file, w.length);
-            expect(n == 0 && !memcmp(&lent.a, &kept_of, sizeof kept_of), "load of what was saved", n);
+            struct reckonstile_load_answer l = reckonstile_load(&lent.a, file, w.length);
+            n = l.number;
+            expect(n == 0 && !l.retired && !memcmp(&lent.a, &kept_of, sizeof kept_of), "load of what was saved", n);
             /* without the capacity it is an old file, of 26 bytes of settings, which reads as 8 */
             static uint8_t old[RECKONSTILE_FILE_BYTES];
             memcpy(old, file, 30);
             old[3] = 26;
             memcpy(old + 30, file + 31, w.length - 31);
-            n = reckonstile_load(&lent.a, old, w.length - 1);
+            l = reckonstile_load(&lent.a, old, w.length - 1);
+            n = l.number;
+            expect(!l.retired, "load of an old file: nothing is retired", n);
             if (kept_of.settings.capacity == 8) expect(n == 0 && !memcmp(&lent.a, &kept_of, sizeof kept_of), "load of an old file", n);
             else expect(n == 0 ? whole(&lent.a) && lent.a.settings.capacity == 8 && lent.a.stash.held == kept_of.stash.held : n == 63, "load of an old file", n);
+            /* the retired version, as start version (at 23) or as version (fourteen bytes before the two last records), loads as V4 */
+            memcpy(old, file, w.length);
+            size_t places[] = { 23, w.length - 18 };
+            uint64_t which = 1 + below(3);
+            struct reckonstile_association settled = kept_of;
+            for (int k = 0; k < 2; k++)
+                if (which >> k & 1) {
+                    old[places[k]] = RECKONSTILE_UPGRADING;
+                    old[places[k] + 1] = (uint8_t)next();
+                }
+            if (which & 1) settled.settings.start = RECKONSTILE_V4;
+            if (which & 2) settled.state.version = RECKONSTILE_V4;
+            l = reckonstile_load(&lent.a, old, w.length);
+            expect(l.number == 0 && l.retired == 1 && !memcmp(&lent.a, &settled, sizeof settled), "load of a file with the retired version", l.number);
             if (below(2)) file[below(w.length)] = (uint8_t)next();
             else w.length = below(w.length);
-            n = reckonstile_load(&lent.a, file, w.length);
-            expect(n == 0 || (n >= 61 && n <= 63), "load", n);
+            l = reckonstile_load(&lent.a, file, w.length);
+            n = l.number;
+            expect(n == 0 ? l.retired <= 1 : n >= 61 && n <= 63 && !l.retired, "load", n);
             expect(n == 0 ? whole(&lent.a) && !lent.a.state.present && !lent.a.state.answered : zeros((const uint8_t *)&lent.a, sizeof lent.a), "load's record", n);
         } else
             expect(kept(), "save: a refusal changed the record", n);
@@ -385,7 +415,7 @@ int main(int argc, char **argv) {
         struct reckonstile_new_answer made = reckonstile_new(&lent.a, s, list, list_len);
         n = made.number;
         int good = setting_codes_ok(&s) && settings_ok(&s);
-        expect(good ? n == 0 || (n == 33 && s.nts) : n == 30, "new", n);
+        expect(good ? n == (s.start == RECKONSTILE_UPGRADING ? RECKONSTILE_RETIRED_START : 0) || (n == 33 && s.nts) : n == 30, "new", n);
         expect(n == 0 ? whole(&lent.a) && settings_kept() : zeros((const uint8_t *)&lent.a, sizeof lent.a), "new's record", n);
         expect(made.made == (n == 0) && dropped_right(n, &s, &empty, list, list_len, made.dropped, made.lost), "new: what the stash dropped", n);
 
@@ -394,7 +424,7 @@ int main(int argc, char **argv) {
         struct reckonstile_new_answer metered = reckonstile_metered(&lent.a, s, list, list_len);
         uint32_t told = reckonstile_profile(s, list, list_len), m = metered.number;
         int slow = s.min >= 8 && s.startup <= 3 && s.start != RECKONSTILE_UPGRADING;
-        expect(m == told && (n != 0 ? m == n : m == 0 ? slow : m >= 34 && m <= 37 && (!slow || (m == 37 && s.nts))), "metered", m);
+        expect(m == told && (n == 30 || n == 33 ? m == n : m == 0 ? slow : m >= 34 && m <= 37 && (!slow || (m == 37 && s.nts))), "metered", m);
         expect(m == 0 ? !memcmp(&lent.a, &plain, sizeof plain) : zeros((const uint8_t *)&lent.a, sizeof lent.a), "metered's record", m);
         expect(metered.made == (m == 0) && dropped_right(m, &s, &empty, list, list_len, metered.dropped, metered.lost), "metered: what the stash dropped", m);
     }

@@ -25,10 +25,9 @@ int main(void) {
     s.window = 59123456789;
     s.upgrademark = 0x4e54503544524654;
     s.source = 0xC0000201;
-    s.start = RECKONSTILE_UPGRADING;
+    s.start = RECKONSTILE_V5;
     s.nts = 1;
     s.capacity = 6;
-    s.left = 77;
     s.startup = 7;
     s.min = 3;
     s.max = 16;
@@ -44,13 +43,12 @@ int main(void) {
     b.stash.held = 2;
     b.state.last = b.state.remote = 3;
     b.state.refid = 0x584E4F4E; /* XNON */
-    b.state.version = RECKONSTILE_UPGRADING;
-    b.state.left = 77;
+    b.state.version = RECKONSTILE_V5;
     b.state.stratum = 16;
     b.state.unanswered = 8;
     EXPECT(!memcmp(&a, &b, sizeof a));
 
-    /* timer: effort, polls, the pending request, a cookie taken. The desired poll is the larger. While it upgrades with NTS it sends V5. */
+    /* timer: effort, polls, the pending request, a cookie taken. The desired poll is the larger. */
     struct reckonstile_uid uid;
     for (int i = 0; i < 32; i++) uid.bytes[i] = (uint8_t)(200 + i);
     struct reckonstile_timer_answer t = reckonstile_timer(&a, 1000, 9, 0x1122334455667788, uid, buffer, sizeof buffer);
@@ -65,6 +63,44 @@ int main(void) {
     b.state.deadline = 1000 + s.window;
     memcpy(b.state.uid, uid.bytes, 32);
     EXPECT(!memcmp(&a, &b, sizeof a));
+
+    /* the retired version: refused in settings, whatever tries stand beside it; not whole in a record, in either place; a code of no kind comes before it */
+    struct reckonstile_association c5 = a;
+    uint32_t nobody[] = { 0 };
+    for (int left = 0; left < 256; left += 51) {
+        s.start = RECKONSTILE_UPGRADING;
+        s.left = (uint8_t)left;
+        m = reckonstile_new(&b, s, list, sizeof list);
+        EXPECT(m.number == RECKONSTILE_RETIRED_START && !m.made && !m.dropped && !m.lost && b.settings.window == 0);
+        EXPECT(reckonstile_new(&b, s, list, sizeof list - 1).number == RECKONSTILE_BROKEN_LIST);
+        a = c5;
+        a.settings.start = RECKONSTILE_UPGRADING;
+        a.settings.left = (uint8_t)left;
+        EXPECT(reckonstile_accept(&a, 17, nobody, 0, RECKONSTILE_BLOOM_NONE) == RECKONSTILE_NOT_WHOLE);
+        a = c5;
+        a.state.version = RECKONSTILE_UPGRADING;
+        a.state.left = (uint8_t)left;
+        EXPECT(reckonstile_accept(&a, 17, nobody, 0, RECKONSTILE_BLOOM_NONE) == RECKONSTILE_NOT_WHOLE);
+        a = c5;
+        a.state.left = (uint8_t)left;
+        EXPECT(reckonstile_accept(&a, 17, nobody, 0, RECKONSTILE_BLOOM_NONE) == (left ? RECKONSTILE_NOT_WHOLE : RECKONSTILE_UNREACHABLE));
+        s.start = RECKONSTILE_UPGRADED;
+        EXPECT(reckonstile_new(&b, s, list, sizeof list).number == (left ? RECKONSTILE_SETTINGS : RECKONSTILE_OK));
+    }
+    a = c5;
+
+    /* a file: what it loads as, and that the retired version of it, at 23, is V4 now */
+    static uint8_t file[RECKONSTILE_FILE_BYTES];
+    struct reckonstile_written w = reckonstile_save(&a, file, sizeof file);
+    EXPECT(w.number == RECKONSTILE_OK && w.written == 1 && w.length == 64 + 2 + 2);
+    struct reckonstile_load_answer l = reckonstile_load(&b, file, w.length);
+    EXPECT(l.number == RECKONSTILE_OK && l.retired == 0 && b.settings.start == RECKONSTILE_V5 && b.state.version == RECKONSTILE_V5);
+    file[23] = RECKONSTILE_UPGRADING;
+    file[24] = 77;
+    l = reckonstile_load(&b, file, w.length);
+    EXPECT(l.number == RECKONSTILE_OK && l.retired == 1 && b.settings.start == RECKONSTILE_V4 && b.settings.left == 0 && b.state.version == RECKONSTILE_V5);
+    l = reckonstile_load(&b, file, w.length - 1);
+    EXPECT(l.number == RECKONSTILE_FILE_LENGTH && l.retired == 0 && b.settings.window == 0);
 
     /* a measured reply, without NTS: every field of the answer, and of what the record keeps. T1 = 100 s, T2 = 103, T3 = 103.5, T4 = 101. */
     memset(&s, 0, sizeof s);
@@ -199,7 +235,6 @@ int main(void) {
     EXPECT(m.number == RECKONSTILE_OK && m.dropped == 7 && m.lost == 3 && a.settings.capacity == 2 && a.stash.read == 1 && a.stash.held == 2);
     t = reckonstile_timer(&a, 1, 4, 99, uid, buffer, sizeof buffer);
     EXPECT(t.number == RECKONSTILE_SENT && t.asked == 1 && a.stash.read == 0 && a.stash.held == 1);
-    uint32_t nobody[] = { 0 };
     uint8_t outside[][2] = { { 0, 0 }, { 9, 0 }, { 255, 0 }, { 2, 1 }, { 2, 255 } };
     for (size_t k = 0; k < sizeof outside / sizeof *outside; k++) {
         a.settings.capacity = s.capacity = outside[k][0];

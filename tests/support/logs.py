@@ -56,7 +56,7 @@ class Logs:
         rng, metered = self.rng, word != 'new'
         low = rng.choice((8, 8, 8, 10, 7) if metered else (0, 4, 4, 6))
         good = rng.random() < 0.95
-        start = rng.choice(('v4', 'v4', 'v4', 'upgraded', 'v5') + (('upgrading:8',) if metered else ('upgrading:8', 'upgrading:1', 'upgrading:0')))
+        start = rng.choice(('v4', 'v4', 'upgraded', 'v5')) if rng.random() < 0.93 else rng.choice(('upgrading:8', 'upgrading:1', 'upgrading:0', 'upgrading:255'))
         nts = rng.random() < 0.6
         if word != 'profile':
             self.now = rng.choice((0, rng.randrange(10**12), MAX64 - 10**10))
@@ -165,13 +165,14 @@ class Logs:
     def poke(self):
         rng = self.rng
         key = rng.choice(('reach', 'tries', 'last', 'remote', 'stratum', 'refid', 'read', 'held', 'min', 'max', 'startup', 'window', 'id', 'uid', 'deadline', 'answered', 'unanswered', 'capacity',
-                          'slotbyte'))
+                          'slotbyte', 'version', 'version', 'start'))
         value = {
             'reach': rng.randrange(256), 'tries': rng.choice((0, 1, 3, 254, 255)), 'last': rng.randint(-128, 127), 'remote': rng.choice((4, 127, -128, 6)),
             'stratum': rng.randrange(256), 'refid': '%08x' % rng.getrandbits(32), 'read': rng.choice((0, 1, 7, 8, MAX64)), 'held': rng.choice((0, 1, 8, 9, MAX64)),
             'min': rng.choice((4, -1, 0)), 'max': rng.choice((10, 17, 18)), 'startup': rng.choice((0, 3, 8, 9)), 'window': rng.choice((0, 1, 5 * 10**9, 60 * 10**9 + 1)),
             'id': self.bytes(8).hex(), 'uid': self.bytes(32).hex(), 'deadline': rng.choice((0, self.now, MAX64)), 'answered': rng.randrange(2), 'unanswered': rng.choice((0, 1, 2, 7, 8, 9, 255)),
             'capacity': rng.choice((0, 1, 2, 4, 8, 9, 255)),
+            'version': rng.choice(('v4', 'upgraded', 'v5', 'upgrading:0', 'upgrading:8')), 'start': rng.choice(('v4', 'upgraded', 'v5', 'upgrading:255')),
             'slotbyte': '%d/%d/%d' % (rng.randrange(8), rng.randrange(724), rng.choice((0, 1, 255))),
         }[key]
         return 'poke key=%s value=%s' % (key, value)
@@ -185,8 +186,12 @@ class Logs:
         return 'save room=%d' % self.rng.choice((8192, 8192, 5872, length, length - 1, 0))
 
     def load(self):
-        """the last file that was written, at times as an old one, without the capacity, and at times with a byte of it changed or its end cut"""
+        """the last file that was written, at times as an old one, without the capacity or with a version that is retired or upgraded, and at times with a byte of it
+        changed or its end cut"""
         rng, f = self.rng, self.file
+        for at in (23, len(f) - 18):  # the start version, and the version
+            if f and rng.random() < 0.2:
+                f = f[:at] + rng.choice((b'\x01\x08', b'\x01\x00', b'\x02\x00')) + f[at + 2:]
         if f and rng.random() < 0.2:
             f = f[:3] + b'\x1a' + f[4:30] + f[31:]
         if f and rng.random() < 0.4:
@@ -209,6 +214,8 @@ class Logs:
                                   + ((self.load,) if self.file else ()))()
                 if rng.random() < 0.02:
                     line = rng.choice((self.poke, self.poke, self.poke, lambda: 'blank'))()
+                elif self.record.version[0] == 'upgraded' and self.record.unanswered >= 2 and rng.random() < 0.7:
+                    line = 'poke key=reach value=%d' % (rng.randrange(256) | 1)  # as a load may bring it: else it falls back with its first poll
                 elif self.record.unanswered != self.model.unanswered(self.record.reach) and rng.random() < 0.4:
                     line = self.unanswered()
             left -= 1

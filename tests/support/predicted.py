@@ -33,8 +33,8 @@ class Poll:
 class Log:
     """The log of one association since its `new`."""
 
-    def __init__(self, minimum, maximum, startup, window, mark, start, nts, source, first_cookies, capacity=SLOTS):
-        self.min, self.max, self.startup, self.window, self.mark, self.nts, self.source = minimum, maximum, startup, window, mark, nts, source
+    def __init__(self, minimum, maximum, startup, window, start, nts, source, first_cookies, capacity=SLOTS):
+        self.min, self.max, self.startup, self.window, self.nts, self.source = minimum, maximum, startup, window, nts, source
         self.start, self.polls, self.matched, self.cookies, self.capacity = start, [], [], [], capacity
         self.store(first_cookies)
 
@@ -67,15 +67,8 @@ class Log:
         return False
 
     def version(self):
-        """the version in use: upgrading until a reply has the mark or the tries are used up, upgraded until two polls stay unanswered"""
-        kind, tries = self.start
-        for what, said in self.matched:
-            if what == 'mark' and kind == 'upgrading':
-                tries = max(tries - 1, 0)
-                kind = 'upgraded' if said else 'upgrading' if tries else 'v4'
-            elif what == 'fallback':
-                kind = 'v4'
-        return kind
+        """the version in use: the start version, V4 or upgraded, until the fallback"""
+        return 'v4' if ('fallback', None) in self.matched else self.start
 
     def remote(self):
         """the least exponent that the server asks for: one more with each RATE, up to the limit, and not below the last poll"""
@@ -100,7 +93,7 @@ class Log:
             cookie = self.cookies.pop(0)
             asked = min(self.capacity - len(self.cookies), SLOT_BYTES // max(len(cookie), 1))
         poll = max(desired, self.remote())
-        kind = {'v4': 'v4', 'upgrading': 'v4-upgrade', 'upgraded': 'v5'}[self.version()]
+        kind = {'v4': 'v4', 'upgraded': 'v5'}[self.version()]
         self.polls.append(Poll(ident, uid, now + self.window, poll))
         return 'timer 20 send=%s poll=%d cookie=%s asked=%d' % ('nts-' + kind if self.nts else kind, poll, cookie.hex() or '-', asked)
 
@@ -124,7 +117,7 @@ class Log:
         walked = fields(packet) if version == 4 else ([], 48)
         if walked is None or end not in [at for at, _, _ in walked[0]] + [walked[1]] or (self.nts and fields(text, 0, 4, 0) is None):
             return 1
-        if version not in {'v4': (3, 4), 'upgrading': (4,), 'upgraded': (5,)}[self.version()]:
+        if version not in {'v4': (3, 4), 'upgraded': (5,)}[self.version()]:
             return 2
         if self.not_live(now):
             return self.not_live(now)
@@ -133,8 +126,6 @@ class Log:
         kiss = KISSES.get(reference, 9) if stratum == 0 else 0
         if packet[24:32] != poll.ident or (self.nts and not self.identified(packet, walked, end, text, poll.uid, kiss == 8)):
             return 4
-        # It answers the poll: the upgrade step is made whatever it says.
-        self.matched.append(('mark', version == 4 and packet[16:24] == self.mark))
         if kiss == 5:
             self.matched.append(('rate', poll.poll))
             return 5

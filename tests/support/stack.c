@@ -40,7 +40,7 @@ static void save(void) {
     number = w.number;
     file_len = w.length;
 }
-static void load(void) { number = reckonstile_load(&a, file, file_len); }
+static void load(void) { number = reckonstile_load(&a, file, file_len).number; }
 
 static size_t deepest(void (*call)(void)) {
     memset(painted, PAINT, sizeof painted);

@@ -118,7 +118,7 @@ def why_late(step):
 
 
 def why_version(step):
-    expects = {'v4': '3 or 4', 'upgrading': '4', 'upgraded': '5', 'v5': '5'}.get(step.before.get('version', '').split(':')[0], 'another')
+    expects = {'v4': '3 or 4', 'upgraded': '5', 'v5': '5'}.get(step.before.get('version', ''), 'another')
     version = '5' if step.head == 'reply5' else str(octets(step)[0] >> 3 & 7)
     return 'it is of version %s, and %s is expected' % (version, expects)
 
@@ -190,6 +190,7 @@ WHY = {('load', 61): why_file, ('load', 62): why_file,
        ('reply', 2): why_version, ('reply', 4): why_foreign, ('reply', 14): why_late,
        ('reply', 10): lambda s: 'its stratum is %d' % octets(s)[1] if s.head == 'reply' else 'its stratum is %s' % s.given['stratum'],
        **{(call, number): why for call in ('metered', 'profile') for number, why in PROFILE.items()},
+       ('new', 38): lambda s: 'the start version is %s, and upgrading is retired' % s.given['start'],
        ('accept', 40): lambda s: 'its stratum is %s, ours is %s' % (s.before['stratum'], s.given['stratum'])
        + ('; nothing was measured yet' if s.before['stratum'] == '16' else '')}
 
@@ -236,13 +237,14 @@ def made(step):
 def in_file(f):
     """the settings of a hand-over file, as `new` has them (docs/HANDOVER.md)"""
     signed = lambda octet: str(octet - 256 if octet > 127 else octet)
-    start = ('v4', 'upgrading:%d' % f[24], 'upgraded', 'v5')[f[23]]
+    start = ('v4', 'v4', 'upgraded', 'v5')[f[23]]  # upgrading is retired, and loads as V4
     return dict(min=signed(f[4]), max=signed(f[5]), startup=str(f[6]), window=str(int.from_bytes(f[7:15], 'big')), start=start,
                 nts='yes' if f[25] else 'no', source=f[26:30].hex(), capacity=str(f[30]) if f[3] == 27 else '8')
 
 
 def loaded(step):
-    return 'it has sent nothing yet; ' + settings(in_file(bytes.fromhex(step.given['file'])))
+    retired = '; the file had a version that is retired, upgrading, which is V4 now' if step.gave['retired'] == 'yes' else ''
+    return 'it has sent nothing yet; ' + settings(in_file(bytes.fromhex(step.given['file']))) + retired
 
 
 def saved(step):

@@ -192,9 +192,9 @@ def reckonstile_metered():
 
 
 def reckonstile_load():
-    return Make('embed', 'reckonstile_load', REC, [('file', Slice('shr', 1))], ('embed_handover', 'load', lambda r: '%s ≡ loadCall (file .now)' % r), 'CLoaded', ('number', U32),
-                '(r ≡ loadCall (file .now) .number) × (w ≡ loadCall (file .now) .association)', 'ap (λ (s : CLoaded). s .number) e, ap (λ (s : CLoaded). s .association) e',
-                'use Rattle.embed_handover.specs.Handed.{loadCall}\n')
+    return Make('embed', 'reckonstile_load', REC, [('file', Slice('shr', 1))], ('embed_handover', 'load', lambda r: '%s ≡ loadCall (file .now)' % r), 'CLoaded', ('answer', struct('CLoadAnswer', 'Ans')),
+                '(r ≡ loadCall (file .now) .answer) × (w ≡ loadCall (file .now) .association)', 'ap (λ (s : CLoaded). s .answer) e, ap (λ (s : CLoaded). s .association) e',
+                'use Rattle.embed_handover.specs.Handed.{loadCall}\n', [('CLoadAnswer', 'Ans', 'embed_handover')])
 
 
 WALKS = {f.__name__: f for f in (reckonstile_blank, reckonstile_new, reckonstile_metered, reckonstile_load)}

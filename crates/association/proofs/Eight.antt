@@ -2,7 +2,7 @@
 -- more, whatever the other settings are, and for none else where these are within their ranges.
 -- Assumes nothing.
 use mathlib.Core.Path.{_≡_, refl, sym, ap, _∙_}
-use mathlib.Core.Bool.{Bool, true, false, cond, _&&_}
+use mathlib.Core.Bool.{Bool, true, false, cond, _&&_, false≢true}
 use mathlib.Core.List.{List}
 use mathlib.Core.Logic.{_⊎_, inl, inr, ⊎-elim}
 use Prim.Native.Nat.{ℕ, _≤_}
@@ -10,7 +10,6 @@ use native.Mathlib.Decide.{decLe}
 use native.Mathlib.Omega.{arith}
 use borrow.Author.Tests.{le-leb, lt-leb}
 use Rattle.words.proofs.Tests.{passes, fails}
-use Rattle.cookielist.specs.List.{listBroken}
 use Rattle.cookiestash.specs.StoreList.{storeListOf}
 use Rattle.cookiestash.specs.Falling.{noneDropped, droppedOf}
 use Rattle.cookiestash.specs.Whole.{seenOf}
@@ -18,9 +17,10 @@ use Rattle.association.specs.declared.Settings.{Settings}
 use Rattle.association.specs.declared.Association.{Association}
 use Rattle.association.specs.declared.NewOut.{NewOut}
 use Rattle.association.specs.Settings.{within, limitsValid, settingsValid}
-use Rattle.association.specs.Record.{blankOf, freshOf, withStash, wholeSeen, wholeOf}
-use Rattle.association.specs.declared.NewAnswer.the-variants.{BadSettings, BrokenList}
-use Rattle.association.specs.New.{madeOf, firstDropped, numberOf, out, newMade, newOf}
+use Rattle.association.specs.Record.{freshOf, withStash, wholeSeen, wholeOf}
+use Rattle.association.specs.New.{madeOf, firstDropped, numberOf, newOf}
+use Rattle.association.specs.Numbers.{Given, bad-settings}
+use Rattle.association.proofs.Numbers.{number}
 
 -- the test of the settings before there was a capacity
 abbrev pub othersValid : Settings → Bool
@@ -79,7 +79,6 @@ module _ (s : Settings) where
 
     -- where the other settings are within their ranges it is given for no other capacity
     pub only-30 : othersValid s ≡ true → numberOf (newOf s list .answer) ≡ 30 → (s .capacity ≡ 0) ⊎ (9 ≤ s .capacity)
-    unfolding newOf
     only-30 v e =
         elim (decLe 9 (s .capacity)) [
           | yes l ↦ inr l
@@ -90,12 +89,11 @@ module _ (s : Settings) where
               ]
         ]
       where
-        not-30 : (t : Bool) → numberOf (cond {A = NewOut} t (out BrokenList blankOf) (newMade s list) .answer) ≡ 30 → ⊥
-        not-30 true z = omega arith
-        not-30 false z = omega arith
+        by : settingsValid s ≡ true → {o : NewOut} → Given s list 30 o → ⊥
+        by k (bad-settings v) = false≢true (sym v ∙ k)
 
         taken : settingsValid s ≡ true → numberOf (newOf s list .answer) ≡ 30 → ⊥
-        taken k z = not-30 (listBroken (s .nts) list) (sym (ap (λ (t : Bool). numberOf (cond t (cond (listBroken (s .nts) list) (out BrokenList blankOf) (newMade s list)) (out BadSettings blankOf) .answer)) k) ∙ z)
+        taken k z = by k (number s list 30 .0 z .1)
 
 -- ---- the test of a record
 

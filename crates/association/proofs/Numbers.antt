@@ -6,12 +6,13 @@ use mathlib.Core.Logic.{_↔_}
 use Prim.Native.Nat.{ℕ}
 use Rattle.words.proofs.Tests.{either}
 use Rattle.cookielist.specs.List.{listBroken}
+use Rattle.version.specs.Upgrade.{upgrading}
 use Rattle.association.specs.declared.Settings.{Settings}
 use Rattle.association.specs.declared.NewOut.{NewOut}
 use Rattle.association.specs.Settings.{settingsValid}
 use Rattle.association.specs.New.{numberOf, newOf}
 use Rattle.association.specs.Numbers as N
-use Rattle.association.specs.Numbers.{bad-settings, broken-list, made}
+use Rattle.association.specs.Numbers.{bad-settings, broken-list, retired, made}
 
 module _ (s : Settings) (list : List ℕ) where
   abbrev Given : ℕ → NewOut → Type 0
@@ -23,19 +24,24 @@ module _ (s : Settings) (list : List ℕ) where
   -- what is given is given under the rule of its number
   pub given : Told (newOf s list)
   unfolding newOf
-  given = either Told (settingsValid s) (λ v. either Told (listBroken (s .nts) list) (broken-list v) (made v)) bad-settings
+  given =
+      either Told (settingsValid s)
+      (λ v. either Told (listBroken (s .nts) list) (broken-list v) (λ b. either Told (upgrading (s .start .kind)) (retired v b) (made v b)))
+      bad-settings
 
   -- where a number's rule holds, that rule's answer and record are given
   pub only : {n : ℕ} {o : NewOut} → Given n o → newOf s list ≡ o
   unfolding newOf
   only (bad-settings v) = rw v
   only (broken-list v b) = rw (v, b)
-  only (made v b) = rw (v, b)
+  only (retired v b u) = rw (v, b, u)
+  only (made v b u) = rw (v, b, u)
 
   numbered : {n : ℕ} {o : NewOut} → Given n o → numberOf (o .answer) ≡ n
   numbered (bad-settings v) = refl
   numbered (broken-list v b) = refl
-  numbered (made v b) = refl
+  numbered (retired v b u) = refl
+  numbered (made v b u) = refl
 
   -- so a number is given if and only if its rule holds
   pub number : (n : ℕ) → (numberOf (newOf s list .answer) ≡ n) ↔ ((o : NewOut) × Given n o)

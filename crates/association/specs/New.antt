@@ -7,19 +7,21 @@ use Rattle.cookielist.specs.List.{listBroken}
 use Rattle.cookiestash.specs.declared.Dropped.{Dropped}
 use Rattle.cookiestash.specs.StoreList.{storeListOf}
 use Rattle.cookiestash.specs.Falling.{noneDropped, droppedOf}
+use Rattle.version.specs.Upgrade.{upgrading}
 use Rattle.association.specs.declared.Settings.{Settings}
 use Rattle.association.specs.declared.Association.{Association}
 use Rattle.association.specs.declared.NewAnswer.{NewAnswer}
-use Rattle.association.specs.declared.NewAnswer.the-variants.{Made, BadSettings, BrokenList}
+use Rattle.association.specs.declared.NewAnswer.the-variants.{Made, BadSettings, BrokenList, Retired}
 use Rattle.association.specs.declared.NewOut.{NewOut}
 use Rattle.association.specs.Settings.{settingsValid}
 use Rattle.association.specs.Record.{blankOf, freshOf, withStash}
 
--- 0: association made; 30: settings outside the ranges; 33: broken cookie list (NTS only)
+-- 0: association made; 30: settings outside the ranges; 33: broken cookie list (NTS only); 38: the start version is retired (RULES, No. 14)
 abbrev pub numberOf : NewAnswer → ℕ
 numberOf Made = 0
 numberOf BadSettings = 30
 numberOf BrokenList = 33
+numberOf Retired = 38
 
 -- an answer with which nothing is stored
 abbrev pub out : NewAnswer → Association → NewOut
@@ -36,11 +38,13 @@ firstDropped s list = cond (s .nts) (droppedOf (s .capacity) (freshOf s .stash) 
 abbrev pub newMade : Settings → List ℕ → NewOut
 newMade s list = record { answer = Made; dropped = firstDropped s list; association = madeOf s list }
 
--- in order 30, 33; a refusal leaves the blank record
+-- in order 30, 33, 38; a refusal leaves the blank record
 unfoldable pub newOf : Settings → List ℕ → NewOut
 newOf s list =
     cond (settingsValid s)
     (cond (listBroken (s .nts) list)
     (out BrokenList blankOf)
-    (newMade s list))
+    (cond (upgrading (s .start .kind))
+    (out Retired blankOf)
+    (newMade s list)))
     (out BadSettings blankOf)

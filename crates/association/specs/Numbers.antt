@@ -5,8 +5,9 @@ use mathlib.Core.Bool.{true, false}
 use mathlib.Core.List.{List}
 use Prim.Native.Nat.{ℕ}
 use Rattle.cookielist.specs.List.{listBroken}
+use Rattle.version.specs.Upgrade.{upgrading}
 use Rattle.association.specs.declared.Settings.{Settings}
-use Rattle.association.specs.declared.NewAnswer.the-variants.{BadSettings, BrokenList}
+use Rattle.association.specs.declared.NewAnswer.the-variants.{BadSettings, BrokenList, Retired}
 use Rattle.association.specs.declared.NewOut.{NewOut}
 use Rattle.association.specs.Settings.{settingsValid}
 use Rattle.association.specs.Record.{blankOf}
@@ -16,4 +17,5 @@ module _ (s : Settings) (list : List ℕ) where
   pub data Given : ℕ → NewOut → Type 0 where
     bad-settings : settingsValid s ≡ false → Given 30 (out BadSettings blankOf)
     broken-list : settingsValid s ≡ true → listBroken (s .nts) list ≡ true → Given 33 (out BrokenList blankOf)
-    made : settingsValid s ≡ true → listBroken (s .nts) list ≡ false → Given 0 (newMade s list)
+    retired : settingsValid s ≡ true → listBroken (s .nts) list ≡ false → upgrading (s .start .kind) ≡ true → Given 38 (out Retired blankOf)
+    made : settingsValid s ≡ true → listBroken (s .nts) list ≡ false → upgrading (s .start .kind) ≡ false → Given 0 (newMade s list)

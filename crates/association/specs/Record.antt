@@ -14,7 +14,8 @@ use Rattle.cookiestash.specs.declared.Seen.{Seen}
 use Rattle.cookiestash.specs.Stash.{newOf}
 use Rattle.cookiestash.specs.Whole.{seenOf}
 use Rattle.version.specs.declared.ProtocolVersion.the-variants.{V4}
-use Rattle.version.specs.Upgrade.{version}
+use Rattle.version.specs.declared.Version.{Version}
+use Rattle.version.specs.Upgrade.{version, upgrading}
 use Rattle.time_types.specs.Poll.{interval}
 use Rattle.association.specs.declared.Settings.{Settings}
 use Rattle.association.specs.declared.Effort.{Effort}
@@ -89,15 +90,20 @@ pendingValid r = cond (r .present) (not (r .answered)) (eqb (r .id) 0 && (eqb (r
 unfoldable pub idleValid : Bool → ℕ → ℕ → List ℕ → Bool
 idleValid nts read held uid = nts || (eqb read 0 && (eqb held 0 && zeros uid))
 
+-- neither the start version nor the version is of the retired kind (RULES, No. 14)
+unfoldable pub versionsValid : Version → Version → Bool
+versionsValid start spoken = not (upgrading (start .kind)) && not (upgrading (spoken .kind))
+
 -- a record is whole if its settings hold, its stash is whole (read < capacity, held ≤ capacity, free slots have length 0, those past the capacity too, bytes past a slot's stored bytes are zero),
--- its unanswered polls are those of reach, a pending request is unanswered, absent things are zero, and without NTS read, held and uid are zero
+-- its unanswered polls are those of reach, its versions are not of the retired kind, a pending request is unanswered, absent things are zero, and without NTS read, held and uid are zero
 unfoldable pub wholeSeen : Settings → Seen → State → Bool
 wholeSeen s v q =
     settingsValid s
     && (v .whole
     && (effortValid (q .effort)
+    && (versionsValid (s .start) (q .version)
     && (pendingValid (q .request)
-    && idleValid (s .nts) (v .read) (v .held) (q .request .uid))))
+    && idleValid (s .nts) (v .read) (v .held) (q .request .uid)))))
 
 unfoldable pub wholeOf : Association → Bool
 wholeOf a = wholeSeen (a .settings) (seenOf (a .settings .capacity) (a .stash)) (a .state)

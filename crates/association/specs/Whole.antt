@@ -6,11 +6,12 @@ use Rattle.reach.specs.Register.{unansweredOf}
 use Rattle.cookiestash.specs.Whole as stash
 use Rattle.association.specs.declared.Association.{Association}
 use Rattle.association.specs.Settings.{settingsValid}
-use Rattle.association.specs.Record.{pendingValid, idleValid}
+use Rattle.association.specs.Record.{versionsValid, pendingValid, idleValid}
 
 pub record Whole (a : Association) : Type 0 where
   pub settings : settingsValid (a .settings) ≡ true
   pub stash : stash.Whole (a .settings .capacity) (a .stash)
   pub counted : a .state .effort .unanswered ≡ unansweredOf (a .state .effort .reach)
+  pub versions : versionsValid (a .settings .start) (a .state .version) ≡ true
   pub request : pendingValid (a .state .request) ≡ true
   pub idle : idleValid (a .settings .nts) (a .stash .read) (a .stash .held) (a .state .request .uid) ≡ true

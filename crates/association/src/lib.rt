@@ -1,6 +1,6 @@
 // The association's settings and record, when a record is whole, and how a new one is made.
-// Promises: `new` gives 0 with a whole record, or 30 or 33 with the blank one, each exactly under its rule.
-// Rule: RULES, "Settings and a whole record", No. 5 and No. 12; definitions in specs/Settings.antt, specs/Record.antt and specs/New.antt.
+// Promises: `new` gives 0 with a whole record, or 30, 33 or 38 with the blank one, each exactly under its rule.
+// Rule: RULES, "Settings and a whole record", No. 5, No. 12 and No. 14; definitions in specs/Settings.antt, specs/Record.antt and specs/New.antt.
 use cookiestash::CookieStash;
 use cookiestash::Dropped;
 use cookiestash::Seen;
@@ -10,8 +10,9 @@ use time_types::PollInterval;
 use version::ProtocolVersion;
 use version::Version;
 ghost use mathlib.Core.Path.{_≡_};
+ghost use Rattle.cookielist.specs.List.{listBroken};
 ghost use Rattle.association.specs.Settings.{within, limitsValid, settingsValid};
-ghost use Rattle.association.specs.Record.{noPending, effortValid, pendingValid, idleValid, wholeSeen, wholeOf, blankOf, freshOf};
+ghost use Rattle.association.specs.Record.{noPending, effortValid, versionsValid, pendingValid, idleValid, wholeSeen, wholeOf, blankOf, freshOf};
 ghost use Rattle.association.specs.New.{numberOf, newOf};
 
 // The largest poll exponent that a limit may be.
@@ -182,6 +183,27 @@ fn idle_valid(nts: bool, read: usize, held: usize, uid: [u8; 32]) -> bool
     words::zeros_from(&uid, 0)
 }
 
+// Whether neither the start version nor the version is of the retired kind.
+fn versions_valid(start: Version, spoken: Version) -> bool
+    ensures { λ r. ⌜ r ≡ versionsValid start spoken ⌝ }
+{
+    if start.is_upgrading() {
+        return false;
+    }
+    !spoken.is_upgrading()
+}
+
+// Whether a first cookie list is broken, which matters with NTS only.
+pub fn list_broken(nts: bool, list: &[u8]) -> bool
+    ensures { λ r. ⌜ r ≡ listBroken nts (now (list .entry)) ⌝ }
+{
+    if nts {
+        !cookielist::list_whole(list)
+    } else {
+        false
+    }
+}
+
 // Whether a record is whole, of its settings, of what is seen of its stash, and of its state.
 pub fn whole_seen(settings: Settings, seen: Seen, state: State) -> bool
     ensures { λ r. ⌜ r ≡ wholeSeen settings seen state ⌝ }
@@ -194,6 +216,9 @@ pub fn whole_seen(settings: Settings, seen: Seen, state: State) -> bool
     }
     let effort = state.effort;
     if !effort.valid() {
+        return false;
+    }
+    if !versions_valid(settings.start, state.version) {
         return false;
     }
     let request = state.request;
@@ -304,16 +329,25 @@ impl Association {
                 association: blank,
             };
         }
+        if list_broken(settings.nts, list) {
+            let blank = Association::blank();
+            return NewOut {
+                answer: NewAnswer::BrokenList,
+                dropped: none,
+                association: blank,
+            };
+        }
+        let start = settings.start;
+        if start.is_upgrading() {
+            let blank = Association::blank();
+            return NewOut {
+                answer: NewAnswer::Retired,
+                dropped: none,
+                association: blank,
+            };
+        }
         let mut made = Association::fresh(settings);
         if settings.nts {
-            if !cookielist::list_whole(list) {
-                let blank = Association::blank();
-                return NewOut {
-                    answer: NewAnswer::BrokenList,
-                    dropped: none,
-                    association: blank,
-                };
-            }
             let empty = made.stash;
             let stored = empty.store_list(settings.capacity, list);
             let stash = stored.stash;
@@ -337,6 +371,7 @@ pub enum NewAnswer {
     Made,
     BadSettings,
     BrokenList,
+    Retired,
 }
 
 impl NewAnswer {
@@ -347,6 +382,7 @@ impl NewAnswer {
             NewAnswer::Made => 0,
             NewAnswer::BadSettings => 30,
             NewAnswer::BrokenList => 33,
+            NewAnswer::Retired => 38,
         }
     }
 }

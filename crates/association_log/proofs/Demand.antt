@@ -5,15 +5,14 @@ use mathlib.Core.Bool.{Bool, true, false, cond}
 use mathlib.Core.List.{List}
 use mathlib.Core.Option.{none}
 use Prim.Native.Nat.{ℕ}
-use Rattle.cookielist.specs.List.{listBroken}
 use Rattle.cookiestash.specs.StoreList.{storeListOf}
 use Rattle.association.specs.declared.Settings.{Settings}
 use Rattle.association.specs.declared.Pending.{Pending}
 use Rattle.association.specs.declared.NewOut.{NewOut}
-use Rattle.association.specs.declared.NewAnswer.the-variants.{Made, BadSettings, BrokenList}
-use Rattle.association.specs.Settings.{settingsValid}
 use Rattle.association.specs.Record.{noPending, blankOf, freshOf, withStash}
-use Rattle.association.specs.New.{out, madeOf, firstDropped, newOf}
+use Rattle.association.specs.New.{madeOf, newOf}
+use Rattle.association.specs.Numbers.{Given, bad-settings, broken-list, retired, made}
+use Rattle.association.proofs.Numbers.{given}
 use Rattle.log.specs.Log.{Accepted}
 use Rattle.log.specs.Machine.{Call, logOf}
 use Rattle.log.specs.Demand.{Demand3}
@@ -23,24 +22,27 @@ use Rattle.log.proofs.Why.{why-told}
 use Rattle.association_log.specs.Association.{rule, pendingIn, machine}
 use Rattle.association_log.proofs.Obeys.{laws}
 
+blank-request : blankOf .state .request ≡ noPending false
+unfolding blankOf
+blank-request = refl
+
+made-request : (s : Settings) (list : List ℕ) → madeOf s list .state .request ≡ noPending false
+unfolding madeOf freshOf
+made-request s list = by (s .nts)
+  where
+    by : (nts : Bool) → cond nts (withStash (freshOf s) (storeListOf (s .capacity) (freshOf s .stash) list)) (freshOf s) .state .request ≡ noPending false
+    by true = refl
+    by false = refl
+
 -- whatever `new` answers, nothing is pending, and no reply was measured
 new-request : (s : Settings) (list : List ℕ) → newOf s list .association .state .request ≡ noPending false
-unfolding newOf madeOf freshOf blankOf
-new-request s list = by (settingsValid s) (listBroken (s .nts) list) (s .nts)
+new-request s list = by (given s list)
   where
-    kept : (n : Bool) → cond n (withStash (freshOf s) (storeListOf (s .capacity) (freshOf s .stash) list)) (freshOf s) .state .request ≡ noPending false
-    kept true = refl
-    kept false = refl
-
-    by : (h b n : Bool) →
-        cond {A = NewOut} h
-        (cond b
-        (out BrokenList blankOf)
-        (record { answer = Made; dropped = firstDropped s list; association = cond n (withStash (freshOf s) (storeListOf (s .capacity) (freshOf s .stash) list)) (freshOf s) }))
-        (out BadSettings blankOf) .association .state .request ≡ noPending false
-    by true true n = refl
-    by true false n = kept n
-    by false b n = refl
+    by : {n : ℕ} {o : NewOut} → Given s list n o → o .association .state .request ≡ noPending false
+    by (bad-settings v) = blank-request
+    by (broken-list v b) = blank-request
+    by (retired v b u) = blank-request
+    by (made v b u) = made-request s list
 
 pub new-pends-nothing : (s : Settings) (list : List ℕ) → pendingIn (newOf s list .association .state .request) ≡ none
 unfolding noPending

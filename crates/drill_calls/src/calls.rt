@@ -60,7 +60,7 @@ mod collect_key {
 }
 
 // The version that a value's number names.
-fn version_of(n: u64) -> Version {
+pub fn version_of(n: u64) -> Version {
     match n {
         names::start::V4 => Version {
             kind: ProtocolVersion::V4,

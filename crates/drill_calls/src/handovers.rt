@@ -51,12 +51,27 @@ pub fn save(a: Association, line: &[u8], number: u64, out: &mut [u8]) -> Ran {
     saved(a, &mut buffer[0..room], out)
 }
 
+// With 0, whether a version of the file was of the retired kind.
+fn put_retired(out: &mut [u8], at: usize, number: u8, retired: bool) -> usize {
+    if number != 0 {
+        return at;
+    }
+    if retired {
+        print::text(out, at, b" retired=yes")
+    } else {
+        print::text(out, at, b" retired=no")
+    }
+}
+
 // The association of a file takes the place of the one before it, the blank record where the file is refused.
 fn loaded(file: &[u8], out: &mut [u8]) -> Ran {
     let done = handover_load::load(file);
     let answer = done.answer;
-    let end = print::number(out, 0, b"load ", answer.number() as u64);
+    let number = answer.number();
+    let retired = answer.says_retired();
     let association = done.association;
+    let at = print::number(out, 0, b"load ", number as u64);
+    let end = put_retired(out, at, number, retired);
     Ran { association, end }
 }
 

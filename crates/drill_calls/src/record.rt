@@ -1,5 +1,6 @@
 // The commands on the record itself: show, cookies, blank, poke.
 use crate::Ran;
+use crate::calls;
 use association::Association;
 use association::Pending;
 use association::Settings;
@@ -48,29 +49,33 @@ mod field {
 
     pub const REMOTE: usize = 6;
 
-    pub const ID: usize = 7;
+    pub const VERSION: usize = 7;
 
-    pub const DEADLINE: usize = 8;
+    pub const ID: usize = 8;
 
-    pub const UID: usize = 9;
+    pub const DEADLINE: usize = 9;
 
-    pub const ANSWERED: usize = 10;
+    pub const UID: usize = 10;
 
-    pub const READ: usize = 11;
+    pub const ANSWERED: usize = 11;
 
-    pub const HELD: usize = 12;
+    pub const READ: usize = 12;
 
-    pub const SLOTBYTE: usize = 13;
+    pub const HELD: usize = 13;
 
-    pub const MIN: usize = 14;
+    pub const SLOTBYTE: usize = 14;
 
-    pub const MAX: usize = 15;
+    pub const MIN: usize = 15;
 
-    pub const STARTUP: usize = 16;
+    pub const MAX: usize = 16;
 
-    pub const WINDOW: usize = 17;
+    pub const STARTUP: usize = 17;
 
-    pub const CAPACITY: usize = 18;
+    pub const WINDOW: usize = 18;
+
+    pub const CAPACITY: usize = 19;
+
+    pub const START: usize = 20;
 }
 
 fn put_version(out: &mut [u8], at: usize, version: Version) -> usize {
@@ -261,12 +266,13 @@ pub fn blank(a: Association, line: &[u8], number: u64, out: &mut [u8]) -> Ran {
     Ran { association, end }
 }
 
-// One number of the effort, of the source or of the polls.
+// One field of the effort, of the source or of the polls, or the version.
 fn poke_state(state: State, key: usize, n: u64) -> State {
     let mut next = state;
     let mut effort = state.effort;
     let mut source = state.source;
     let mut polls = state.polls;
+    let mut version = state.version;
     let small = value::low8(n);
     let poll = PollInterval(words::u8_as_i8(small));
     match key {
@@ -290,6 +296,9 @@ fn poke_state(state: State, key: usize, n: u64) -> State {
         field::LAST => {
             polls.last = poll;
         }
+        field::VERSION => {
+            version = calls::version_of(n);
+        }
         _ => {
             polls.remote = poll;
         }
@@ -297,6 +306,7 @@ fn poke_state(state: State, key: usize, n: u64) -> State {
     next.effort = effort;
     next.source = source;
     next.polls = polls;
+    next.version = version;
     next
 }
 
@@ -391,6 +401,10 @@ fn poke_settings(settings: Settings, key: usize, n: u64) -> Settings {
         field::CAPACITY => {
             next.capacity = small;
         }
+        field::START => {
+            let start = calls::version_of(n);
+            next.start = start;
+        }
         _ => {
             next.window = n;
         }
@@ -402,7 +416,7 @@ fn poke_settings(settings: Settings, key: usize, n: u64) -> Settings {
 fn poked(a: Association, key: usize, n: u64, digits: &[u8]) -> Association {
     let mut next = a;
     match key {
-        field::REACH..=field::REMOTE => {
+        field::REACH..=field::VERSION => {
             let state = a.state;
             let state = poke_state(state, key, n);
             next.state = state;
@@ -457,7 +471,7 @@ fn poke_by(
 }
 
 // The keys of poke: reach, tries, unanswered, stratum, startup and capacity are unsigned 8-bit numbers, refid is 8 hexadecimal digits, last, remote, min
-// and max are signed 8-bit numbers, deadline, read, held and window unsigned 64-bit ones, id 16 digits, uid 32 bytes, answered 0 or 1, slotbyte a byte of a slot.
+// and max are signed 8-bit numbers, deadline, read, held and window unsigned 64-bit ones, id 16 digits, uid 32 bytes, answered 0 or 1, slotbyte a byte of a slot, version and start versions as `new` takes them.
 pub fn poke(a: Association, line: &[u8], number: u64, out: &mut [u8]) -> Ran {
     let v = keys::read(line, number, b"key:t value:t", out);
     if v.refused {
@@ -470,7 +484,7 @@ pub fn poke(a: Association, line: &[u8], number: u64, out: &mut [u8]) -> Ran {
         a,
         v.text(poke_key::KEY, line),
         v.text(poke_key::VALUE, line),
-        b"reach:u tries:u unanswered:u stratum:u refid:f last:b remote:b id:x deadline:n uid:i answered:a read:n held:n slotbyte:p min:b max:b startup:u window:n capacity:u",
+        b"reach:u tries:u unanswered:u stratum:u refid:f last:b remote:b version:v id:x deadline:n uid:i answered:a read:n held:n slotbyte:p min:b max:b startup:u window:n capacity:u start:v",
         number,
         out,
     )

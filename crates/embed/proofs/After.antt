@@ -8,6 +8,7 @@ use lib.Dec.{T, leb}
 use lib.ListN.{length}
 use Rattle.time_types.specs.declared.PollInterval.{PollInterval}
 use Rattle.version.specs.declared.SendKind.{SendKind}
+use Rattle.version.specs.Upgrade.{upgrading}
 use Rattle.association.specs.declared.Settings.{Settings}
 use Rattle.association.specs.declared.NewOut.{NewOut}
 use Rattle.association.specs.Settings.{settingsValid}
@@ -85,7 +86,7 @@ module _ (a : CAssociation) (read : ReplyRead) (t : Arrival) where
           q ∙ ((λ j. replyGave (withDropped (replyAnswer (r .replied .answer)) (r .replied .dropped)) (same j)) ∙ sym (ap (λ (c : ReplyCall). replyGave (c .replied) a) q))
       by false e = let q = rejected a read t e in q ∙ sym (ap (λ (c : ReplyCall). replyGave (c .replied) a) q)
 
--- ---- new: 30 and 33
+-- ---- new: 30, 33 and 38
 
 module _ (g : CSettings) (list : List ℕ) where
   abbrev Blank : CNew → Type 0
@@ -95,7 +96,8 @@ module _ (g : CSettings) (list : List ℕ) where
   unfolding new.newOf
   made-or-blank s =
       either (λ (o : NewOut). Blank (madeOut o)) (settingsValid s)
-      (λ _. either (λ (o : NewOut). Blank (madeOut o)) (listBroken (s .nts) list) (λ _ _. refl) (λ _ z. absurd (z refl)))
+      (λ _. either (λ (o : NewOut). Blank (madeOut o)) (listBroken (s .nts) list) (λ _ _. refl)
+      (λ _. either (λ (o : NewOut). Blank (madeOut o)) (upgrading (s .start .kind)) (λ _ _. refl) (λ _ z. absurd (z refl))))
       (λ _ _. refl)
 
   pub new-refused : Blank (makeOf g list)

@@ -4,6 +4,7 @@
 // tools in embed_tools, of the hand-over file in embed_handover.
 use collector::Collected;
 use cookiestash::Dropped;
+use embed_handover::CLoadAnswer;
 use embed_record::CAssociation;
 use embed_record::CSettings;
 use embed_rules::CDecoded;
@@ -58,7 +59,7 @@ pub extern "C" fn reckonstile_blank(a: &mut CAssociation) -> u32
     out.number
 }
 
-// The record becomes a new association: 0. Blank where it is refused: 30, 33.
+// The record becomes a new association: 0. Blank where it is refused: 30, 33, 38.
 #[no_mangle]
 pub extern "C" fn reckonstile_new(
     a: &mut CAssociation,
@@ -216,14 +217,14 @@ pub extern "C" fn reckonstile_save(a: &mut CAssociation, buffer: &mut [u8]) -> C
     out.answer
 }
 
-// The record becomes that of a hand-over file, with nothing sent yet: 0. Blank where it is refused: 61, 62, 63.
+// The record becomes that of a hand-over file, with nothing sent yet: 0, and whether a version of it was of the retired kind. Blank where it is refused: 61, 62, 63.
 #[no_mangle]
-pub extern "C" fn reckonstile_load(a: &mut CAssociation, file: &[u8]) -> u32
-    ensures { λ r. ⌜ (r ≡ loadCall (now (file .entry)) .number) × (now (a .exit) ≡ loadCall (now (file .entry)) .association) ⌝ }
+pub extern "C" fn reckonstile_load(a: &mut CAssociation, file: &[u8]) -> CLoadAnswer
+    ensures { λ r. ⌜ (r ≡ loadCall (now (file .entry)) .answer) × (now (a .exit) ≡ loadCall (now (file .entry)) .association) ⌝ }
 {
     let out = embed_handover::load(file);
     *a = out.association;
-    out.number
+    out.answer
 }
 
 fn collected(answer: Collected) -> CWritten

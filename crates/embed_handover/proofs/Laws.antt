@@ -13,7 +13,7 @@ use Rattle.handover_file.specs.declared.SaveAnswer.{SaveAnswer}
 use Rattle.handover_file.specs.declared.SaveAnswer.the-variants.{Saved, NotWhole, ShortBuffer}
 use Rattle.handover_file.specs.declared.LoadOut.{LoadOut}
 use Rattle.handover_file.specs.Sections.{Cut, bodies, misplaced, missized, cutAs}
-use Rattle.handover_file.specs.File.{shapes, fileOf, emptied, unsent, known, recordIn}
+use Rattle.handover_file.specs.File.{shapes, fileOf, emptied, unsent, known, recordIn, settled}
 use Rattle.handover_file.specs.Answers.{saveNumber, saved, saveOf, over, bufferOf, handed, handedOf, loadIn, onCut, loadOf}
 use Rattle.handover_file.proofs.File.{Fit, read-file}
 use Rattle.embed_record.specs.declared.CAssociation.{CAssociation}
@@ -69,19 +69,19 @@ module _ (a : CAssociation) (buffer : List ℕ) where
 -- ---- reading
 
 abbrev Blank : LoadOut → Type 0
-Blank o = (loadedOut o .number ≡ 0 → ⊥) → loadedOut o .association ≡ pack blankOf
+Blank o = (loadedOut o .answer .number ≡ 0 → ⊥) → loadedOut o .association ≡ pack blankOf
 
 blank-in : (c : Cut) → Blank (onCut c)
 unfolding loadIn
-blank-in (bodies bs) = either Blank (known bs && wholeOf (recordIn bs)) (λ _ z. absurd (z refl)) (λ _ _. refl)
+blank-in (bodies bs) = either Blank (known bs) (λ _. either Blank (wholeOf (settled (recordIn bs))) (λ _ z. absurd (z refl)) (λ _ _. refl)) (λ _ _. refl)
 blank-in misplaced = λ _. refl
 blank-in missized = λ _. refl
 
 -- after a refused load the record is blank
-pub load-refused : (file : List ℕ) → (loadCall file .number ≡ 0 → ⊥) → loadCall file .association ≡ pack blankOf
+pub load-refused : (file : List ℕ) → (loadCall file .answer .number ≡ 0 → ⊥) → loadCall file .association ≡ pack blankOf
 unfolding loadOf
 load-refused file = blank-in (cutAs shapes file)
 
 -- the file of a whole record loads as that record, with nothing sent
-pub handed-over : (a : CAssociation) → Whole (unpack a) → Fit (unpack a) → loadCall (fileOf (unpack a)) ≡ record { number = 0; association = pack (unsent (unpack a)) }
+pub handed-over : (a : CAssociation) → Whole (unpack a) → Fit (unpack a) → loadCall (fileOf (unpack a)) ≡ record { answer = record { number = 0; retired = 0 }; association = pack (unsent (unpack a)) }
 handed-over a w f = ap loadedOut (read-file (unpack a) w f)

@@ -6,13 +6,15 @@ use Prim.Native.Nat.{ℕ}
 use Rattle.handover_file.specs.declared.SaveAnswer.{SaveAnswer}
 use Rattle.handover_file.specs.declared.SaveAnswer.the-variants.{Saved, NotWhole, ShortBuffer}
 use Rattle.handover_file.specs.declared.SaveOut.{SaveOut}
+use Rattle.handover_file.specs.declared.LoadAnswer.{LoadAnswer}
 use Rattle.handover_file.specs.declared.LoadOut.{LoadOut}
-use Rattle.handover_file.specs.Answers.{Handed, handedOf, loadNumber, loadOf}
+use Rattle.handover_file.specs.Answers.{Handed, handedOf, loadNumber, saysRetired, loadOf}
 use Rattle.embed_record.specs.declared.CAssociation.{CAssociation}
 use Rattle.embed_record.specs.Packed.{ok, unpack, pack}
 use Rattle.embed_tools.specs.declared.CWritten.{CWritten}
 use Rattle.embed_tools.specs.Told.{wrote, unwritten}
 use Rattle.embed_handover.specs.declared.CSaved.{CSaved}
+use Rattle.embed_handover.specs.declared.CLoadAnswer.{CLoadAnswer}
 use Rattle.embed_handover.specs.declared.CLoaded.{CLoaded}
 
 -- ---- writing
@@ -45,8 +47,12 @@ saveCall a buffer = cond (ok a) (savePacked (handedOf (unpack a) buffer)) (gave 
 
 -- ---- reading
 
+-- the number, and 1 where a version of the file was of the retired kind (RULES, No. 14)
+abbrev pub loadedAs : LoadAnswer → CLoadAnswer
+loadedAs r = record { number = loadNumber r; retired = cond (saysRetired r) 1 0 }
+
 abbrev pub loadedOut : LoadOut → CLoaded
-loadedOut o = record { number = loadNumber (o .answer); association = pack (o .association) }
+loadedOut o = record { answer = loadedAs (o .answer); association = pack (o .association) }
 
 abbrev pub loadCall : List ℕ → CLoaded
 loadCall file = loadedOut (loadOf file)

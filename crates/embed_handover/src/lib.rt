@@ -4,9 +4,10 @@
 use association::Association;
 use embed_record::CAssociation;
 use embed_tools::CWritten;
+use handover_file::LoadAnswer;
 use handover_file::SaveAnswer;
 ghost use mathlib.Core.Path.{_≡_};
-ghost use Rattle.embed_handover.specs.Handed.{savedAs, gave, saveCall, loadCall};
+ghost use Rattle.embed_handover.specs.Handed.{savedAs, gave, saveCall, loadedAs, loadCall};
 
 // What writing gives: its answer, and the record, whose cookies are the file's from now on.
 pub struct CSaved {
@@ -14,9 +15,16 @@ pub struct CSaved {
     pub association: CAssociation,
 }
 
-// What reading gives: its number, and the record, blank where the file is refused.
-pub struct CLoaded {
+// What reading answers: its number, and 1 where a version of the file was of the retired kind, and was loaded as V4.
+#[repr(C)]
+pub struct CLoadAnswer {
     pub number: u32,
+    pub retired: u32,
+}
+
+// What reading gives: its answer, and the record, blank where the file is refused.
+pub struct CLoaded {
+    pub answer: CLoadAnswer,
     pub association: CAssociation,
 }
 
@@ -66,6 +74,22 @@ pub fn save(a: CAssociation, buffer: &mut [u8]) -> CSaved
     }
 }
 
+fn loaded(answer: LoadAnswer) -> CLoadAnswer
+    ensures { λ r. ⌜ r ≡ loadedAs answer ⌝ }
+{
+    let number = answer.number();
+    if answer.says_retired() {
+        return CLoadAnswer {
+            number: number as u32,
+            retired: 1,
+        };
+    }
+    CLoadAnswer {
+        number: number as u32,
+        retired: 0,
+    }
+}
+
 // The record of a file: 0, 61, 62, 63.
 pub fn load(file: &[u8]) -> CLoaded
     ensures { λ r. ⌜ r ≡ loadCall (now (file .entry)) ⌝ }
@@ -73,10 +97,10 @@ pub fn load(file: &[u8]) -> CLoaded
     let out = handover_load::load(file);
     let told = out.answer;
     let fresh = out.association;
-    let number = told.number();
+    let answer = loaded(told);
     let association = embed_record::pack(fresh);
     CLoaded {
-        number: number as u32,
+        answer,
         association,
     }
 }

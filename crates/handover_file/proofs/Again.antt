@@ -1,9 +1,9 @@
--- A file that has the capacity and is read with 0 is the file that the loaded record writes, so no two of them load as one record; a file of before, without the capacity, is read
+-- A file that has the capacity and nothing of the retired kind, and is read with 0, is the file that the loaded record writes, so no two of them load as one record; a file of before, without the capacity, is read
 -- as the file with 8 is; and a loaded record is whole, with nothing pending.
 -- Assumes nothing.
 use Prim.Native.Nat.{ℕ, zero, suc, _+_}
 use mathlib.Core.Path.{_≡_, refl, sym, ap, subst, _∙_}
-use mathlib.Core.Bool.{true, false}
+use mathlib.Core.Bool.{Bool, true, false}
 use mathlib.Core.List.{List, [], _∷_, _++_}
 use native.Mathlib.Omega.{arith}
 use borrow.Author.Tests.{eqb-true}
@@ -21,13 +21,15 @@ use Rattle.handover_groups.specs.Settings.{settingsOf, settingsKnown}
 use Rattle.handover_groups.specs.State.{versionKnown}
 use Rattle.handover_groups.proofs.OfSettings.{settings-again, settings-old, known-old}
 use Rattle.handover_groups.proofs.OfState.{effort-again, version-again, polls-again, source-again}
+use Rattle.handover_file.specs.declared.LoadAnswer.the-variants.{Loaded}
 use Rattle.handover_file.specs.declared.LoadOut.{LoadOut}
 use Rattle.handover_file.specs.Sections.{Shape, recordOf, joined, Fitting, bodyLength}
 use Rattle.handover_file.specs.Cookies.{stashFits, stashKnown, stashOf}
-use Rattle.handover_file.specs.File.{shapes, partsOf, fileOf, known, recordIn}
+use Rattle.handover_file.specs.File.{shapes, partsOf, fileOf, known, recordIn, retired, settledState, settled}
 use Rattle.handover_file.specs.Answers.{loadNumber, loadIn, onCut, loadOf}
 use Rattle.handover_file.specs.Numbers.{LoadGiven, wrong-mark, wrong-length, left-over, no-association, association}
 use Rattle.handover_file.proofs.Cookies.{read-laid, stash-again}
+use Rattle.handover_file.proofs.Settled.{settled-same, none-retired}
 use Rattle.handover_file.proofs.File.{fits-new}
 use Rattle.handover_file.proofs.Numbers.{load-given}
 use Rattle.handover_file.proofs.Sections.{length-read, cut-joined}
@@ -96,15 +98,23 @@ six (a ∷ (b ∷ (c ∷ (d ∷ (e ∷ (f ∷ (h ∷ bs))))))) g y k = absurd (g
 
 -- ---- the file
 
--- what a record that was loaded from a file is
-pub record Loads (f : List ℕ) (a : Association) : Type 0 where
-  pub file : bodyLength f ≡ 27 → fileOf a ≡ f
-  pub whole : Whole a
-  pub nothing : a .state .request ≡ noPending false
+-- what is loaded from a file: the file is the record's own where it has the capacity and the answer says nothing of the retired kind
+pub record Loads (f : List ℕ) (o : LoadOut) : Type 0 where
+  pub file : bodyLength f ≡ 27 → o .answer ≡ Loaded false → fileOf (o .association) ≡ f
+  pub whole : Whole (o .association)
+  pub nothing : o .association .state .request ≡ noPending false
 
-nothing-in : (bs : List (List ℕ)) → recordIn bs .state .request ≡ noPending false
-unfolding recordIn
+nothing-in : (bs : List (List ℕ)) → settled (recordIn bs) .state .request ≡ noPending false
+unfolding settled settledState recordIn
 nothing-in bs = refl
+
+-- a settled record has the stash that was read
+settled-typed : (a : Association) → stash.Typed (a .stash) → stash.Typed (settled a .stash)
+unfolding settled
+settled-typed a t = t
+
+unsaid : (b : Bool) → Loaded b ≡ Loaded false → b ≡ false
+unsaid b e = cc
 
 -- the length that stands first in a file is that of its settings
 first-long : (bs : List (List ℕ)) → Fitting shapes bs → bodyLength (joined shapes bs) ≡ length (getD bs 0 [])
@@ -112,23 +122,32 @@ first-long [] g = absurd g
 first-long (b ∷ bs) g = length-read 0x5345 b _ (g .0) (g .1)
 
 module _ (f : List ℕ) (y : Bytes f) where
-  loads-by : {n : ℕ} {o : LoadOut} → LoadGiven f n o → n ≡ 0 → Loads f (o .association)
+  loads-by : {n : ℕ} {o : LoadOut} → LoadGiven f n o → n ≡ 0 → Loads f o
   unfolding fileOf
   loads-by (wrong-mark ss ts s bs l e g h d) z = absurd (omega arith)
   loads-by (wrong-length ss ts s bs l e g x) z = absurd (omega arith)
   loads-by (left-over bs l g h) z = absurd (omega arith)
   loads-by (no-association bs g e w) z = absurd (omega arith)
   loads-by (association bs g e w) z =
-      let k = both (known bs) (wholeOf (recordIn bs)) w in
+      let a = recordIn bs in
+      let k = both (known bs) (wholeOf (settled a)) w in
       let s = six bs g (bodies-bytes shapes bs g (subst Bytes e y)) (k .0) in
-      record { file = λ n. ap (joined shapes) (s .parts (sym (first-long bs g) ∙ ap bodyLength (sym e) ∙ n)) ∙ sym e; whole = whole-of (recordIn bs) (s .typed) (k .1); nothing = nothing-in bs }
+      record {
+        file = λ n q.
+            ap fileOf (settled-same a (none-retired a (unsaid (retired (a .settings) (a .state)) q)))
+            ∙ ap (joined shapes) (s .parts (sym (first-long bs g) ∙ ap bodyLength (sym e) ∙ n))
+            ∙ sym e;
+        whole = whole-of (settled a) (settled-typed a (s .typed)) (k .1);
+        nothing = nothing-in bs;
+      }
 
-  pub loads : loadNumber (loadOf f .answer) ≡ 0 → Loads f (loadOf f .association)
+  pub loads : loadNumber (loadOf f .answer) ≡ 0 → Loads f (loadOf f)
   loads z = loads-by (load-given f y) z
 
--- no two files with a capacity load as one record
-pub one-file : (f g : List ℕ) → Bytes f → Bytes g → bodyLength f ≡ 27 → bodyLength g ≡ 27 → loadNumber (loadOf f .answer) ≡ 0 → loadNumber (loadOf g .answer) ≡ 0 → loadOf f .association ≡ loadOf g .association → f ≡ g
-one-file f g y z m n a b e = sym (loads f y a .file m) ∙ ap fileOf e ∙ loads g z b .file n
+-- no two files with a capacity and nothing of the retired kind load as one record
+pub one-file : (f g : List ℕ) → Bytes f → Bytes g → bodyLength f ≡ 27 → bodyLength g ≡ 27 → loadOf f .answer ≡ Loaded false → loadOf g .answer ≡ Loaded false →
+    loadOf f .association ≡ loadOf g .association → f ≡ g
+one-file f g y z m n a b e = sym (loads f y (ap loadNumber a) .file m a) ∙ ap fileOf e ∙ loads g z (ap loadNumber b) .file n b
 
 -- ---- a file of before
 

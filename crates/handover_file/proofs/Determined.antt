@@ -4,9 +4,13 @@ use mathlib.Core.Path.{_∙_, sym}
 use Rattle.words.specs.Determined.{Determined}
 use Rattle.handover_file.proofs.SaveAnswer.number.Reads as save-number
 use Rattle.handover_file.proofs.LoadAnswer.number.Reads as load-number
+use Rattle.handover_file.proofs.LoadAnswer.says_retired.Reads as says-retired
 
 pub save-number-determined : Determined save-number.Post
 save-number-determined κs a y z e f p q = p ∙ sym q
 
 pub load-number-determined : Determined load-number.Post
 load-number-determined κs a y z e f p q = p ∙ sym q
+
+pub says-retired-determined : Determined says-retired.Post
+says-retired-determined κs a y z e f p q = p ∙ sym q

@@ -33,6 +33,7 @@ emptied-whole a w =
       settings = w .settings;
       stash = empty-at-whole (a .settings .capacity) (a .stash .read) (w .stash .reads) (w .stash .most);
       counted = w .counted;
+      versions = w .versions;
       request = w .request;
       idle = idle-emptied (a .settings .nts) (a .stash .read) (a .stash .held) (a .state .request .uid) (w .idle);
     }

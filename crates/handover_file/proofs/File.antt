@@ -17,7 +17,7 @@ use Rattle.association.specs.declared.Association.{Association}
 use Rattle.association.specs.declared.Settings.{Settings}
 use Rattle.association.specs.Record.{noPending, pendingValid, idleValid}
 use Rattle.association.specs.Whole.{Whole}
-use Rattle.association.proofs.Whole.{of-whole}
+use Rattle.association.proofs.Whole.{of-whole, none-retired}
 use Rattle.handover_groups.specs.Settings.{settingsBytes, settingsOf}
 use Rattle.handover_groups.proofs.OfSettings.{SettingsFit, settings-back, settings-known, settings-long}
 use Rattle.handover_groups.proofs.OfState.{PollsFit, effort-back, effort-long, version-back, version-known, version-long, polls-back, polls-long, source-back, source-known, source-long}
@@ -27,6 +27,7 @@ use Rattle.handover_file.specs.Sections.{Fitting}
 use Rattle.handover_file.specs.Cookies.{stashBytes, stashKnown, stashOf}
 use Rattle.handover_file.specs.File.{settingsFits, shapes, partsOf, fileOf, unsent, known, recordIn}
 use Rattle.handover_file.specs.Answers as answers
+use Rattle.handover_file.proofs.Settled.{settled-same, retired-none}
 use Rattle.handover_file.proofs.Sections.{length-record, cut-joined}
 use Rattle.handover_file.proofs.Cookies.{AllFill, stash-back, stash-known, stash-fits, stash-most, stash-long, stash-longest}
 
@@ -56,6 +57,7 @@ unsent-whole a w =
       settings = w .settings;
       stash = w .stash;
       counted = w .counted;
+      versions = w .versions;
       request = none-valid;
       idle = idle-unsent (a .settings .nts) (a .stash .read) (a .stash .held) (a .state .request .uid) (w .idle);
     }
@@ -140,12 +142,14 @@ module _ (a : Association) (w : Whole a) (f : Fit a) where
       let st = ap (λ (c : ℕ). stashKnown c body) capacity-back ∙ stash-known (a .settings .capacity) (a .stash) (w .stash) (f .eight) in
       passes _ (settings-known (a .settings)) ∙ passes _ st ∙ passes _ (version-known (a .state .version)) ∙ source-known (a .state .source)
 
-  loaded : answers.loadIn (partsOf a) ≡ answers.loaded Loaded (unsent a)
+  loaded : answers.loadIn (partsOf a) ≡ answers.loaded (Loaded false) (unsent a)
   unfolding answers.loadIn
-  loaded = rw (known-back, record-back, of-whole (unsent a) (unsent-whole a w))
+  loaded =
+      let u = unsent-whole a w in
+      rw (known-back, record-back, settled-same (unsent a) (none-retired (unsent a) u), of-whole (unsent a) u, retired-none (unsent a) (none-retired (unsent a) u))
 
-  -- reading a written file gives the record as it was, with nothing sent
-  pub read-file : answers.loadOf (fileOf a) ≡ answers.loaded Loaded (unsent a)
+  -- reading a written file gives the record as it was, with nothing sent, and with nothing of the retired kind
+  pub read-file : answers.loadOf (fileOf a) ≡ answers.loaded (Loaded false) (unsent a)
   unfolding answers.loadOf fileOf
   read-file = ap answers.onCut (cut-joined shapes (partsOf a) fitting) ∙ loaded
 

@@ -2,6 +2,7 @@
 pub mod Sections
 pub mod Cookies
 pub mod Fit
+pub mod Settled
 pub mod File
 pub mod Outcome
 pub mod Numbers

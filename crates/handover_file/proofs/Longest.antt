@@ -19,7 +19,7 @@ use Rattle.cookiestash.specs.Whole as stash
 use Rattle.association.specs.declared.Association.{Association}
 use Rattle.association.specs.declared.Settings.{Settings}
 use Rattle.association.specs.Settings.{settingsValid}
-use Rattle.association.specs.Record.{freshOf, idleValid, withStash}
+use Rattle.association.specs.Record.{freshOf, versionsValid, idleValid, withStash}
 use Rattle.association.specs.Whole.{Whole}
 use Rattle.handover_file.specs.File.{fileOf}
 use Rattle.handover_file.proofs.Cookies.{AllFill}
@@ -67,8 +67,8 @@ stash-whole =
     }
 
 longest-whole : Whole longest
-unfolding longest full-stash freshOf nts-settings settingsValid idleValid
-longest-whole = record { settings = refl; stash = stash-whole; counted = sym never-unanswered; request = none-valid; idle = refl }
+unfolding longest full-stash freshOf nts-settings settingsValid versionsValid idleValid
+longest-whole = record { settings = refl; stash = stash-whole; counted = sym never-unanswered; versions = refl; request = none-valid; idle = refl }
 
 all-filled : AllFill (cookies (longest .settings .capacity) (longest .stash))
 unfolding longest freshOf nts-settings full-stash full-slot cookies queue seen stored wrap

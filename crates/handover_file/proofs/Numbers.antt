@@ -1,7 +1,7 @@
 -- Each number of the writer and of the reader is given exactly under its rule (specs/Numbers.antt), with that rule's answer and record.
 -- Assumes nothing.
 use Prim.Native.Nat.{ℕ, _≤_}
-use mathlib.Core.Path.{_≡_, refl, ap, subst, _∙_}
+use mathlib.Core.Path.{_≡_, refl, sym, ap, subst, _∙_}
 use mathlib.Core.Bool.{_&&_}
 use mathlib.Core.List.{List, [], _∷_, _++_}
 use mathlib.Core.Logic.{_↔_}
@@ -10,19 +10,20 @@ use borrow.Author.Tests.{lt-ltb, le-ltb, ltb-true, ltb-false}
 use lib.Dec.{ltb, lit<}
 use lib.ListN.{length}
 use Rattle.words.proofs.Bytes.{Bytes}
-use Rattle.words.proofs.Tests.{either}
+use Rattle.words.proofs.Tests.{either, when, unless}
 use Rattle.association.specs.declared.Association.{Association}
 use Rattle.association.specs.Record.{wholeOf}
 use Rattle.association.specs.Whole.{Whole}
 use Rattle.handover_file.specs.declared.SaveOut.{SaveOut}
 use Rattle.handover_file.specs.declared.LoadOut.{LoadOut}
 use Rattle.handover_file.specs.Sections.{Shape, Cut, missized, cutAs}
-use Rattle.handover_file.specs.File.{shapes, fileOf, known, recordIn}
-use Rattle.handover_file.specs.Answers.{saveNumber, saveOf, loadNumber, loadIn, onCut, loadOf}
+use Rattle.handover_file.specs.File.{shapes, fileOf, known, recordIn, settled}
+use Rattle.handover_file.specs.Answers.{saveNumber, saveOf, loadNumber, onCut, loadOf}
 use Rattle.handover_file.specs.Numbers as N
 use Rattle.handover_file.specs.Numbers.{SaveGiven, not-whole, short-buffer, written, Faulty, no-mark, no-length, no-body, unfit, Begins, LoadGiven, wrong-mark, wrong-length, left-over, no-association, association}
 use Rattle.handover_file.proofs.Sections.{behind, cut-prefix, cut-joined, cut-none, cut-mark, cut-length, cut-body, cut-unfit, cut-over, behind-misplaced, behind-missized}
 use Rattle.handover_file.proofs.Outcome.{Marked, Outcome, all, over, mark, fault, outcome}
+use Rattle.handover_file.proofs.Settled.{load-tests}
 use Rattle.handover_file.proofs.File.{Fit, file-longest}
 
 -- ---- writing
@@ -88,8 +89,7 @@ module _ (f : List ℕ) where
   LoadTold o = LoadGiven f (loadNumber (o .answer)) o
 
   told : (c : Cut) → Outcome shapes f c → LoadTold (onCut c)
-  unfolding loadIn
-  told _ (all bs g e) = either LoadTold (known bs && wholeOf (recordIn bs)) (association bs g e) (no-association bs g e)
+  told _ (all bs g e) = subst LoadTold (sym (load-tests bs)) (either LoadTold (known bs && wholeOf (settled (recordIn bs))) (association bs g e) (no-association bs g e))
   told _ (over bs l g h) = left-over bs l g h
   told _ (mark ps ts s bs l e g h d) = wrong-mark ps ts s bs l e g h d
   told _ (fault ps ts s bs l e g x) = wrong-length ps ts s bs l e g x
@@ -100,12 +100,12 @@ module _ (f : List ℕ) where
   load-given y = told (cutAs shapes f) (outcome shapes marked f y)
 
   pub load-only : {n : ℕ} {o : LoadOut} → LoadGiven f n o → loadOf f ≡ o
-  unfolding loadOf loadIn
+  unfolding loadOf
   load-only (wrong-mark ss ts s bs l e g h d) = ap onCut (after f ss (s ∷ ts) e bs l g ∙ ap (behind bs) (cut-mark s ts l h d) ∙ behind-misplaced bs)
   load-only (wrong-length ss ts s bs l e g x) = ap onCut (after f ss (s ∷ ts) e bs l g ∙ ap (behind bs) (faulty-cut s ts l x) ∙ behind-missized bs)
   load-only (left-over bs l g h) = ap onCut (after f shapes [] (append-none shapes) bs l g ∙ ap (behind bs) (cut-over l h) ∙ behind-missized bs)
-  load-only (no-association bs g e w) = ap (λ (q : List ℕ). onCut (cutAs shapes q)) e ∙ ap onCut (cut-joined shapes bs g) ∙ rw w
-  load-only (association bs g e w) = ap (λ (q : List ℕ). onCut (cutAs shapes q)) e ∙ ap onCut (cut-joined shapes bs g) ∙ rw w
+  load-only (no-association bs g e w) = ap (λ (q : List ℕ). onCut (cutAs shapes q)) e ∙ ap onCut (cut-joined shapes bs g) ∙ load-tests bs ∙ unless _ _ w
+  load-only (association bs g e w) = ap (λ (q : List ℕ). onCut (cutAs shapes q)) e ∙ ap onCut (cut-joined shapes bs g) ∙ load-tests bs ∙ when _ _ w
 
   load-numbered : {n : ℕ} {o : LoadOut} → LoadGiven f n o → loadNumber (o .answer) ≡ n
   load-numbered (wrong-mark ss ts s bs l e g h d) = refl

@@ -1,7 +1,7 @@
 -- What the writer and the reader of the hand-over file answer (RULES, No. 6), and what the writer leaves in the lent buffer.
 -- Assumes nothing.
 use Prim.Native.Nat.{ℕ}
-use mathlib.Core.Bool.{_&&_, cond}
+use mathlib.Core.Bool.{Bool, false, cond}
 use mathlib.Core.List.{List, _++_}
 use lib.Dec.{ltb}
 use lib.ListN.{length, drop}
@@ -14,7 +14,7 @@ use Rattle.handover_file.specs.declared.LoadAnswer.{LoadAnswer}
 use Rattle.handover_file.specs.declared.LoadAnswer.the-variants.{Loaded, WrongMark, WrongLength, NoAssociation}
 use Rattle.handover_file.specs.declared.LoadOut.{LoadOut}
 use Rattle.handover_file.specs.Sections.{Cut, bodies, misplaced, missized, cutAs}
-use Rattle.handover_file.specs.File.{shapes, fileOf, emptied, known, recordIn}
+use Rattle.handover_file.specs.File.{shapes, fileOf, emptied, known, recordIn, retired, settled}
 
 -- ---- writing
 
@@ -57,10 +57,17 @@ handedOf a buffer = handed (saveOf a (length buffer)) (bufferOf a buffer)
 
 -- 0: loaded; 61: mark or order; 62: length, bytes missing or left over; 63: a code of no kind, or an association not whole
 abbrev pub loadNumber : LoadAnswer → ℕ
-loadNumber Loaded = 0
+loadNumber (Loaded said) = 0
 loadNumber WrongMark = 61
 loadNumber WrongLength = 62
 loadNumber NoAssociation = 63
+
+-- whether it says that the retired kind was there
+abbrev pub saysRetired : LoadAnswer → Bool
+saysRetired (Loaded said) = said
+saysRetired WrongMark = false
+saysRetired WrongLength = false
+saysRetired NoAssociation = false
 
 abbrev pub loaded : LoadAnswer → Association → LoadOut
 loaded x a = record { answer = x; association = a }
@@ -69,8 +76,12 @@ loaded x a = record { answer = x; association = a }
 abbrev pub refused : LoadAnswer → LoadOut
 refused x = loaded x blankOf
 
+-- what a record that was read is loaded as: V4 stands in place of the retired kind, and the answer says whether that was there (RULES, No. 14)
+abbrev pub loadAs : Association → LoadOut
+loadAs a = cond (wholeOf (settled a)) (loaded (Loaded (retired (a .settings) (a .state))) (settled a)) (refused NoAssociation)
+
 unfoldable pub loadIn : List (List ℕ) → LoadOut
-loadIn bs = cond (known bs && wholeOf (recordIn bs)) (loaded Loaded (recordIn bs)) (refused NoAssociation)
+loadIn bs = cond (known bs) (loadAs (recordIn bs)) (refused NoAssociation)
 
 abbrev pub onCut : Cut → LoadOut
 onCut (bodies bs) = loadIn bs

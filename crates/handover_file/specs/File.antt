@@ -1,10 +1,12 @@
--- The hand-over file (RULES, No. 6 and No. 12): six records in one fixed order, written of a record, and read as one. The pending request is not written.
+-- The hand-over file (RULES, No. 6, No. 12 and No. 14): six records in one fixed order, written of a record, and read as one. The pending request is not written.
 -- Assumes nothing.
 use Prim.Native.Nat.{ℕ}
 use mathlib.Core.Bool.{Bool, _&&_, _||_, false}
 use mathlib.Core.List.{List, [], _∷_}
 use lib.Dec.{eqb}
 use lib.ListN.{length, getD}
+use Rattle.version.specs.Upgrade.{upgrading, settledOf}
+use Rattle.association.specs.declared.Settings.{Settings}
 use Rattle.association.specs.declared.State.{State}
 use Rattle.association.specs.declared.Association.{Association}
 use Rattle.association.specs.Record.{noPending, withStash}
@@ -92,3 +94,31 @@ recordIn bs =
       stash = stashOf (settingsOf (getD bs 0 []) .capacity) (getD bs 1 []);
       state = stateIn (getD bs 2 []) (getD bs 3 []) (getD bs 4 []) (getD bs 5 []);
     }
+
+-- ---- the retired kind (RULES, No. 14)
+
+-- the start version, or the version, is of it
+unfoldable pub retired : Settings → State → Bool
+retired s q = upgrading (s .start .kind) || upgrading (q .version .kind)
+
+-- V4 in its place, in the settings and in the state
+unfoldable pub settledSettings : Settings → Settings
+settledSettings s =
+    record {
+      min = s .min;
+      max = s .max;
+      startup = s .startup;
+      window = s .window;
+      upgrademark = s .upgrademark;
+      start = settledOf (s .start);
+      nts = s .nts;
+      source = s .source;
+      capacity = s .capacity;
+    }
+
+unfoldable pub settledState : State → State
+settledState q = record { effort = q .effort; version = settledOf (q .version); polls = q .polls; source = q .source; request = q .request }
+
+-- a record that was read, as it is loaded
+unfoldable pub settled : Association → Association
+settled a = record { settings = settledSettings (a .settings); stash = a .stash; state = settledState (a .state) }

@@ -4,3 +4,4 @@ pub mod Cookies
 pub mod File
 pub mod Answers
 pub mod Numbers
+pub mod Before

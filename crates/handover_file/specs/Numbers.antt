@@ -13,7 +13,7 @@ use Rattle.handover_file.specs.declared.SaveOut.{SaveOut}
 use Rattle.handover_file.specs.declared.LoadAnswer.the-variants.{Loaded, WrongMark, WrongLength, NoAssociation}
 use Rattle.handover_file.specs.declared.LoadOut.{LoadOut}
 use Rattle.handover_file.specs.Sections.{Shape, joined, Fitting, bodyLength}
-use Rattle.handover_file.specs.File.{shapes, fileOf, emptied, known, recordIn}
+use Rattle.handover_file.specs.File.{shapes, fileOf, emptied, known, recordIn, retired, settled}
 use Rattle.handover_file.specs.Answers.{saved, loaded, refused}
 
 -- ---- writing
@@ -45,5 +45,7 @@ module _ (f : List ℕ) where
         2 ≤ length l → (be (part l 0 2) ≡ s .mark → ⊥) → LoadGiven 61 (refused WrongMark)
     wrong-length : (ss ts : List Shape) (s : Shape) (bs : List (List ℕ)) (l : List ℕ) → shapes ≡ ss ++ (s ∷ ts) → Begins f ss bs l → Faulty s l → LoadGiven 62 (refused WrongLength)
     left-over : (bs : List (List ℕ)) (l : List ℕ) → Begins f shapes bs l → 0 < length l → LoadGiven 62 (refused WrongLength)
-    no-association : (bs : List (List ℕ)) → Fitting shapes bs → f ≡ joined shapes bs → known bs && wholeOf (recordIn bs) ≡ false → LoadGiven 63 (refused NoAssociation)
-    association : (bs : List (List ℕ)) → Fitting shapes bs → f ≡ joined shapes bs → known bs && wholeOf (recordIn bs) ≡ true → LoadGiven 0 (loaded Loaded (recordIn bs))
+    no-association : (bs : List (List ℕ)) → Fitting shapes bs → f ≡ joined shapes bs → known bs && wholeOf (settled (recordIn bs)) ≡ false → LoadGiven 63 (refused NoAssociation)
+    -- V4 stands in place of the retired kind, and the answer says whether that was there (RULES, No. 14)
+    association : (bs : List (List ℕ)) → Fitting shapes bs → f ≡ joined shapes bs → known bs && wholeOf (settled (recordIn bs)) ≡ true →
+        LoadGiven 0 (loaded (Loaded (retired (recordIn bs .settings) (recordIn bs .state))) (settled (recordIn bs)))

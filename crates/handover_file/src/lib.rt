@@ -1,9 +1,9 @@
 // The hand-over file: what it is, byte by byte, and what its writer and its reader answer.
 // Promises (theorems): a written file is read as its record with nothing sent; records are equal exactly when their files are; no two files load as one record.
-// Rule: RULES, No. 6; definitions in specs/Sections.antt, specs/Cookies.antt, specs/File.antt and specs/Answers.antt, number by number in specs/Numbers.antt.
+// Rule: RULES, No. 6 and No. 14; definitions in specs/Sections.antt, specs/Cookies.antt, specs/File.antt and specs/Answers.antt, number by number in specs/Numbers.antt.
 use association::Association;
 ghost use mathlib.Core.Path.{_≡_};
-ghost use Rattle.handover_file.specs.Answers.{saveNumber, loadNumber};
+ghost use Rattle.handover_file.specs.Answers.{saveNumber, loadNumber, saysRetired};
 
 // What writing answers: the file's length where it is in the buffer, or why nothing was written.
 pub enum SaveAnswer {
@@ -33,18 +33,31 @@ pub struct SaveOut {
 
 // What reading answers: the first of a wrong mark and a wrong length in the file, then that its bytes are no association.
 pub enum LoadAnswer {
-    Loaded,
+    // Whether a version of the file was of the retired kind, and was loaded as V4.
+    Loaded { retired: bool },
     WrongMark,
     WrongLength,
     NoAssociation,
 }
 
 impl LoadAnswer {
+    // Whether it says that a version of the file was of the retired kind.
+    pub fn says_retired(self) -> bool
+        ensures { λ r. ⌜ r ≡ saysRetired self ⌝ }
+    {
+        match self {
+            LoadAnswer::Loaded { retired } => retired,
+            LoadAnswer::WrongMark => false,
+            LoadAnswer::WrongLength => false,
+            LoadAnswer::NoAssociation => false,
+        }
+    }
+
     pub fn number(self) -> u8
         ensures { λ r. ⌜ r ≡ loadNumber self ⌝ }
     {
         match self {
-            LoadAnswer::Loaded => 0,
+            LoadAnswer::Loaded { retired: _ } => 0,
             LoadAnswer::WrongMark => 61,
             LoadAnswer::WrongLength => 62,
             LoadAnswer::NoAssociation => 63,

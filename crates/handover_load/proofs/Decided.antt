@@ -18,8 +18,8 @@ use Rattle.handover_groups.specs.State.{versionKnown, sourceKnown}
 use Rattle.handover_file.specs.declared.LoadAnswer.the-variants.{Loaded, WrongMark, WrongLength, NoAssociation}
 use Rattle.handover_file.specs.Sections.{bodyLength, Cut, bodies, misplaced, missized, cutAs}
 use Rattle.handover_file.specs.Cookies.{stashKnown, stashOf}
-use Rattle.handover_file.specs.File.{shapes, stateIn, known, recordIn}
-use Rattle.handover_file.specs.Answers.{loaded, refused, loadIn, onCut, loadOf}
+use Rattle.handover_file.specs.File.{shapes, stateIn, known, recordIn, retired, settledSettings, settledState, settled}
+use Rattle.handover_file.specs.Answers.{loaded, refused, loadAs, loadIn, onCut, loadOf}
 use Rattle.handover_load.specs.declared.Stashed.{Stashed}
 use Rattle.handover_cut.specs.declared.Stop.the-variants.{Misplaced, Missized}
 use Rattle.handover_cut.specs.Steps.{stopOf}
@@ -51,7 +51,7 @@ module _ (se st re ve po so : List ℕ) where
 
   none : known six ≡ false → loadIn six ≡ refused NoAssociation
   unfolding loadIn
-  none e = unless _ _ (fails _ e)
+  none e = unless _ _ e
 
   pub by-settings : settingsKnown se ≡ false → loadIn six ≡ refused NoAssociation
   unfolding known
@@ -81,13 +81,23 @@ module _ (se st re ve po so : List ℕ) where
           unfolding recordIn
           record-is = λ i. record { settings = es i; stash = ek i; state = em i }
 
-          pub by-whole : wholeOf (record { settings = s; stash = k; state = m }) ≡ false → loadIn six ≡ refused NoAssociation
+          pub is-loaded : loadAs (record { settings = s; stash = k; state = m }) ≡ loadIn six
           unfolding loadIn
-          by-whole w = unless _ _ (passes _ all-known ∙ sym (ap wholeOf record-is) ∙ w)
+          is-loaded = ap loadAs record-is ∙ sym (when _ _ all-known)
 
-          pub is-loaded : wholeOf (record { settings = s; stash = k; state = m }) ≡ true → loaded Loaded (record { settings = s; stash = k; state = m }) ≡ loadIn six
-          unfolding loadIn
-          is-loaded w = ap (loaded Loaded) record-is ∙ sym (when _ _ (passes _ all-known ∙ sym (ap wholeOf record-is) ∙ w))
+-- ---- a record that was read
+
+module _ (s : Settings) (k : CookieStash) (m : State) {g : Settings} {q : State} (eg : g ≡ settledSettings s) (eq : q ≡ settledState m) where
+  settled-is : record { settings = g; stash = k; state = q } ≡ settled (record { settings = s; stash = k; state = m })
+  unfolding settled
+  settled-is = λ i. record { settings = eg i; stash = k; state = eq i }
+
+  pub by-whole : wholeOf (record { settings = g; stash = k; state = q }) ≡ false → loadAs (record { settings = s; stash = k; state = m }) ≡ refused NoAssociation
+  by-whole w = unless _ _ (sym (ap wholeOf settled-is) ∙ w)
+
+  pub settled-loaded : {b : Bool} → b ≡ retired s m → wholeOf (record { settings = g; stash = k; state = q }) ≡ true →
+      loaded (Loaded b) (record { settings = g; stash = k; state = q }) ≡ loadAs (record { settings = s; stash = k; state = m })
+  settled-loaded e w = (λ i. loaded (Loaded (e i)) (settled-is i)) ∙ sym (when _ _ (sym (ap wholeOf settled-is) ∙ w))
 
 -- ---- a file
 

@@ -1,8 +1,9 @@
 // The reader of the hand-over file: a box that is swapped in starts with the association of the one before it.
 // Promises: of any bytes the answer that the file's definition gives; the first fault of the file decides between 61 and 62; the blank record where it is refused.
-// Rule: RULES, No. 6 and No. 12; the file is defined in `handover_file`, its records are found by `handover_cut`, and specs/Read.antt has the stash that is read.
+// Rule: RULES, No. 6, No. 12 and No. 14; the file is defined in `handover_file`, its records are found by `handover_cut`, and specs/Read.antt has the stash that is read.
 use association::Association;
 use association::Pending;
+use association::Settings;
 use association::State;
 use cookiestash::CookieStash;
 use cookiestash::Slot;
@@ -17,8 +18,8 @@ ghost use Prim.Native.Nat.{_≤_, _<_};
 ghost use lib.ListN.{length, getD};
 ghost use Rattle.cookiestash.specs.Stash.{stored, putOf};
 ghost use Rattle.handover_file.specs.Cookies.{stashFits, slotFor};
-ghost use Rattle.handover_file.specs.File.{stateIn};
-ghost use Rattle.handover_file.specs.Answers.{refused, loadIn, loadOf};
+ghost use Rattle.handover_file.specs.File.{stateIn, retired, settledSettings, settledState};
+ghost use Rattle.handover_file.specs.Answers.{refused, loadAs, loadIn, loadOf};
 ghost use Rattle.handover_cut.specs.Steps.{cookie};
 ghost use Rattle.handover_load.specs.Read.{noStash, stashedOf};
 
@@ -124,6 +125,59 @@ fn state_in(effort: &[u8], version: &[u8], polls: &[u8], source: &[u8]) -> State
     }
 }
 
+// Whether the start version or the version is of the retired kind.
+fn is_retired(settings: Settings, state: State) -> bool
+    ensures { λ r. ⌜ r ≡ retired settings state ⌝ }
+{
+    let start = settings.start;
+    if start.is_upgrading() {
+        return true;
+    }
+    let spoken = state.version;
+    spoken.is_upgrading()
+}
+
+// The settings with V4 in place of the retired kind.
+fn settled_settings(mut s: Settings) -> Settings
+    ensures { λ r. ⌜ r ≡ settledSettings s ⌝ }
+{
+    let given = s.start;
+    let start = given.settled();
+    s.start = start;
+    s
+}
+
+// The state with V4 in place of the retired kind.
+fn settled_state(mut s: State) -> State
+    ensures { λ r. ⌜ r ≡ settledState s ⌝ }
+{
+    let given = s.version;
+    let version = given.settled();
+    s.version = version;
+    s
+}
+
+// What a record that was read is loaded as: V4 stands in place of the retired kind, and the answer says whether that was there.
+fn loaded_as(settings: Settings, stash: CookieStash, state: State) -> LoadOut
+    ensures { λ r. ⌜ r ≡ loadAs (record { settings = settings; stash = stash; state = state }) ⌝ }
+{
+    let retired = is_retired(settings, state);
+    let g = settled_settings(settings);
+    let s = settled_state(state);
+    let association = Association {
+        settings: g,
+        stash,
+        state: s,
+    };
+    if !association.whole() {
+        return refused(LoadAnswer::NoAssociation);
+    }
+    LoadOut {
+        answer: LoadAnswer::Loaded { retired },
+        association,
+    }
+}
+
 // The association that six bodies are, if they are one.
 fn association_in(
     settings: &[u8],
@@ -152,18 +206,7 @@ fn association_in(
     }
     let kept = stashed.stash;
     let state = state_in(effort, version, polls, source);
-    let association = Association {
-        settings: given,
-        stash: kept,
-        state,
-    };
-    if !association.whole() {
-        return refused(LoadAnswer::NoAssociation);
-    }
-    LoadOut {
-        answer: LoadAnswer::Loaded,
-        association,
-    }
+    loaded_as(given, kept, state)
 }
 
 // Reads a file: the settings say how long they are. A loaded association has sent nothing yet.

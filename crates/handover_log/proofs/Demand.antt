@@ -1,7 +1,6 @@
 -- Demand 3 of the association, from a loaded one: whatever a file is read as, nothing is pending.
 -- Assumes nothing.
 use mathlib.Core.Path.{_≡_, refl}
-use mathlib.Core.Bool.{_&&_}
 use mathlib.Core.List.{List}
 use mathlib.Core.Option.{none}
 use Prim.Native.Nat.{ℕ}
@@ -9,7 +8,7 @@ use Rattle.words.proofs.Tests.{either}
 use Rattle.association.specs.Record.{noPending, blankOf, wholeOf}
 use Rattle.handover_file.specs.declared.LoadOut.{LoadOut}
 use Rattle.handover_file.specs.Sections.{Cut, bodies, misplaced, missized, cutAs}
-use Rattle.handover_file.specs.File.{shapes, known, recordIn}
+use Rattle.handover_file.specs.File.{shapes, known, recordIn, settledState, settled}
 use Rattle.handover_file.specs.Answers.{loadIn, onCut, loadOf}
 use Rattle.log.specs.Log.{Accepted}
 use Rattle.log.specs.Machine.{Call, logOf}
@@ -22,8 +21,8 @@ abbrev Nothing : LoadOut → Type 0
 Nothing o = pendingIn (o .association .state .request) ≡ none
 
 cut-pends-nothing : (c : Cut) → Nothing (onCut c)
-unfolding loadIn recordIn blankOf noPending
-cut-pends-nothing (bodies bs) = either Nothing (known bs && wholeOf (recordIn bs)) (λ e. refl) (λ e. refl)
+unfolding loadIn recordIn settled settledState blankOf noPending
+cut-pends-nothing (bodies bs) = either Nothing (known bs) (λ k. either Nothing (wholeOf (settled (recordIn bs))) (λ e. refl) (λ e. refl)) (λ k. refl)
 cut-pends-nothing misplaced = refl
 cut-pends-nothing missized = refl
 

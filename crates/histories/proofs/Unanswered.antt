@@ -9,7 +9,7 @@ use Rattle.association.specs.declared.Settings.{Settings}
 use Rattle.association.specs.declared.Association.{Association}
 use Rattle.association.specs.declared.NewAnswer.the-variants.{Made}
 use Rattle.association.specs.Whole.{Whole}
-use Rattle.association.specs.New.{newOf}
+use Rattle.association.specs.New.{numberOf, newOf}
 use Rattle.association.proofs.New.{new-unanswered}
 use Rattle.timer.proofs.After.{rang}
 use Rattle.timer.proofs.Kept.{timer-whole}
@@ -41,7 +41,7 @@ pub new-count-along : (s : Settings) (list : List ℕ) → newOf s list .answer 
     unansweredIn (M.after machine a calls) ≡ countAfter 8 (M.logOf machine a calls)
 new-count-along s list e calls =
     let a = newOf s list .association in
-    count-along a calls ∙ ap (λ (n : ℕ). countAfter n (M.logOf machine a calls)) (new-unanswered s list e)
+    count-along a calls ∙ ap (λ (n : ℕ). countAfter n (M.logOf machine a calls)) (new-unanswered s list (ap numberOf e))
 
 -- and over any run of the code's calls
 pub code-counts : {a b : Association} {calls : List (M.Call rule)} {done : List (M.Done machine)} → Ran a calls done b → unansweredIn b ≡ countAfter (unansweredIn a) (M.logOf machine a calls)
@@ -49,7 +49,7 @@ code-counts {a} {calls} r = rw (ran-is-run r .1) (count-along a calls)
 
 -- ---- and they are those of reach
 
-call-whole : (a : Association) (c : M.Call rule) → Whole a → Whole (M.step machine a c)
+pub call-whole : (a : Association) (c : M.Call rule) → Whole a → Whole (M.step machine a c)
 call-whole a (M.timer t) w = timer-whole a w (t .poll) (length (t .buffer))
 call-whole a (M.reply r) w = reply-whole a (read-by a r) (arrivalOf r) w
 

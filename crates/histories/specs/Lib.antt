@@ -1,4 +1,5 @@
 -- Statements over logs, and the association by the crate's rule of RATE.
 pub mod Along
 pub mod Rate
+pub mod Retired
 pub mod Unanswered

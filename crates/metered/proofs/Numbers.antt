@@ -6,10 +6,11 @@ use mathlib.Core.Logic.{_↔_}
 use Prim.Native.Nat.{ℕ}
 use Rattle.words.proofs.Tests.{either}
 use Rattle.cookielist.specs.List.{listBroken}
+use Rattle.version.specs.Upgrade.{upgrading}
 use Rattle.association.specs.declared.Settings.{Settings}
 use Rattle.association.specs.Settings.{settingsValid}
 use Rattle.metered.specs.declared.ProfileAnswer.{ProfileAnswer}
-use Rattle.metered.specs.Profile.{numberOf, lowPollMin, highStartup, isUpgrading, longCookie, profileOf}
+use Rattle.metered.specs.Profile.{numberOf, lowPollMin, highStartup, longCookie, profileOf}
 use Rattle.metered.specs.Numbers as N
 use Rattle.metered.specs.Numbers.{bad-settings, broken-list, low-poll-min, high-startup, upgrading-start, long-cookie, met}
 
@@ -31,7 +32,7 @@ module _ (s : Settings) (list : List ℕ) where
       (λ m. let w : N.Slow s list = record { plain = p; min = m } in
       either Told (highStartup s) (high-startup w)
       (λ h. let f : N.Brief s list = record { slow = w; startup = h } in
-      either Told (isUpgrading (s .start .kind)) (upgrading-start f)
+      either Told (upgrading (s .start .kind)) (upgrading-start f)
       (λ u. let d : N.Settled s list = record { brief = f; start = u } in
       either Told (longCookie (s .nts) list) (long-cookie d) (met d))))))
       bad-settings

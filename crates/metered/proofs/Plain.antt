@@ -13,8 +13,6 @@ use Rattle.words.proofs.Tests.{when, unless}
 use Rattle.association.specs.declared.Settings.{Settings}
 use Rattle.association.specs.declared.Association.{Association}
 use Rattle.association.specs.declared.NewOut.{NewOut}
-use Rattle.association.specs.declared.NewAnswer.{NewAnswer}
-use Rattle.association.specs.declared.NewAnswer.the-variants.{Made, BadSettings, BrokenList}
 use Rattle.association.specs.Settings.{settingsValid}
 use Rattle.association.specs.Record.{blankOf}
 use Rattle.association.specs.Numbers.{bad-settings, made}
@@ -64,22 +62,16 @@ module _ (s : Settings) (list : List ℕ) where
 
   -- and there the plain call answers 0 too
   pub plain-made : numberOf (profileOf s list) ≡ 0 → new.numberOf (new.newOf s list .answer) ≡ 0
-  plain-made e = let p = settled e .brief .slow .plain in plain.number s list 0 .1 (_, made (p .valid) (p .unbroken))
+  plain-made e = let d = settled e in let p = d .brief .slow .plain in plain.number s list 0 .1 (_, made (p .valid) (p .unbroken) (d .start))
 
   -- with a whole record
   pub metered-whole : numberOf (profileOf s list) ≡ 0 → Whole (meteredOf s list .association)
   metered-whole e = subst Whole (sym (same-record e)) (by (new-gives s list))
     where
-      other : (r : NewAnswer) → new.newOf s list .answer ≡ r → (new.numberOf r ≡ 0 → ⊥) → ⊥
-      other r f u = u (sym (ap new.numberOf f) ∙ plain-made e)
-
-      by :
-          ((new.newOf s list .answer ≡ Made) × Whole (new.newOf s list .association))
-          ⊎ (((new.newOf s list .answer ≡ BadSettings) ⊎ (new.newOf s list .answer ≡ BrokenList)) × (new.newOf s list .association ≡ blankOf))
-          → Whole (new.newOf s list .association)
+      by : ((new.numberOf (new.newOf s list .answer) ≡ 0) × Whole (new.newOf s list .association)) ⊎ ((new.numberOf (new.newOf s list .answer) ≡ 0 → ⊥) × (new.newOf s list .association ≡ blankOf)) →
+          Whole (new.newOf s list .association)
       by (inl w) = w .1
-      by (inr (inl f, b)) = absurd (other BadSettings f (λ z. omega arith))
-      by (inr (inr f, b)) = absurd (other BrokenList f (λ z. omega arith))
+      by (inr w) = absurd (w .0 (plain-made e))
 
 -- a record that the plain call gives, of some settings and list
 pub record OfNew (a : Association) : Type 0 where

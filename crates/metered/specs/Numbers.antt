@@ -5,16 +5,17 @@ use mathlib.Core.Bool.{true, false}
 use mathlib.Core.List.{List}
 use Prim.Native.Nat.{ℕ}
 use Rattle.cookielist.specs.List.{listBroken}
+use Rattle.version.specs.Upgrade.{upgrading}
 use Rattle.association.specs.declared.Settings.{Settings}
 use Rattle.association.specs.Settings.{settingsValid}
 use Rattle.metered.specs.declared.ProfileAnswer.{ProfileAnswer}
 use Rattle.metered.specs.declared.ProfileAnswer.the-variants.{Met, BadSettings, BrokenList, LowPollMin, HighStartup, UpgradingStart, LongCookie}
-use Rattle.metered.specs.Profile.{lowPollMin, highStartup, isUpgrading, longCookie}
+use Rattle.metered.specs.Profile.{lowPollMin, highStartup, longCookie}
 
 module _ (s : Settings) (list : List ℕ) where
   -- ---- the tests that settings and list have passed, each with those before it
 
-  -- neither 30 nor 33: the plain call makes an association of them
+  -- neither 30 nor 33
   pub record Plain : Type 0 where
     pub valid : settingsValid s ≡ true
     pub unbroken : listBroken (s .nts) list ≡ false
@@ -29,10 +30,10 @@ module _ (s : Settings) (list : List ℕ) where
     pub slow : Slow
     pub startup : highStartup s ≡ false
 
-  -- nor 36
+  -- nor 36: the plain call makes an association of them
   pub record Settled : Type 0 where
     pub brief : Brief
-    pub start : isUpgrading (s .start .kind) ≡ false
+    pub start : upgrading (s .start .kind) ≡ false
 
   -- ---- the numbers, each with its answer
   pub data Given : ℕ → ProfileAnswer → Type 0 where
@@ -40,6 +41,6 @@ module _ (s : Settings) (list : List ℕ) where
     broken-list : settingsValid s ≡ true → listBroken (s .nts) list ≡ true → Given 33 BrokenList
     low-poll-min : Plain → lowPollMin s ≡ true → Given 34 LowPollMin
     high-startup : Slow → highStartup s ≡ true → Given 35 HighStartup
-    upgrading-start : Brief → isUpgrading (s .start .kind) ≡ true → Given 36 UpgradingStart
+    upgrading-start : Brief → upgrading (s .start .kind) ≡ true → Given 36 UpgradingStart
     long-cookie : Settled → longCookie (s .nts) list ≡ true → Given 37 LongCookie
     met : Settled → longCookie (s .nts) list ≡ false → Given 0 Met

@@ -9,8 +9,7 @@ use lib.ListN.{length}
 use lib.Signed.{ltZ}
 use Rattle.cookielist.specs.List.{Listed, whole, broken, cookiesIn, listBroken}
 use Rattle.cookiestash.specs.Falling.{noneDropped}
-use Rattle.version.specs.declared.ProtocolVersion.{ProtocolVersion}
-use Rattle.version.specs.declared.ProtocolVersion.the-variants.{V4, Upgrading, Upgraded, V5}
+use Rattle.version.specs.Upgrade.{upgrading}
 use Rattle.association.specs.declared.Settings.{Settings}
 use Rattle.association.specs.Settings.{settingsValid}
 use Rattle.association.specs.Record.{blankOf}
@@ -37,13 +36,6 @@ lowPollMin s = ltZ (s .min .0) (pos 8)
 abbrev pub highStartup : Settings → Bool
 highStartup s = ltb 3 (s .startup)
 
--- 36: an upgrading start version
-abbrev pub isUpgrading : ProtocolVersion → Bool
-isUpgrading V4 = false
-isUpgrading (Upgrading tries) = true
-isUpgrading Upgraded = false
-isUpgrading V5 = false
-
 -- a cookie among those of a list is over so many bytes
 abbrev pub anyLonger : ℕ → List (List ℕ) → Bool
 anyLonger most [] = false
@@ -58,15 +50,15 @@ abbrev pub longCookie : Bool → List ℕ → Bool
 longCookie nts list = nts && longerIn 100 (cookiesIn list)
 
 -- the first of the four rules that is broken
-abbrev pub firstBroken : (low high upgrading long : Bool) → ProfileAnswer
-firstBroken low high upgrading long = cond low LowPollMin (cond high HighStartup (cond upgrading UpgradingStart (cond long LongCookie Met)))
+abbrev pub firstBroken : (low high retired long : Bool) → ProfileAnswer
+firstBroken low high retired long = cond low LowPollMin (cond high HighStartup (cond retired UpgradingStart (cond long LongCookie Met)))
 
--- the check: 30 and 33 as `new` has them, then the four rules
+-- the check: 30 and 33 as `new` has them, then the four rules. 36 is an upgrading start version, so nothing is left for the 38 that `new` gives it (RULES, No. 14)
 unfoldable pub profileOf : Settings → List ℕ → ProfileAnswer
 profileOf s list =
     cond (settingsValid s)
     (cond (listBroken (s .nts) list) BrokenList
-    (firstBroken (lowPollMin s) (highStartup s) (isUpgrading (s .start .kind)) (longCookie (s .nts) list)))
+    (firstBroken (lowPollMin s) (highStartup s) (upgrading (s .start .kind)) (longCookie (s .nts) list)))
     BadSettings
 
 -- the call: the check's answer; on 0 the record is the one that `new` makes, with what it says fell out (RULES, No. 5); on any other number it is the blank one

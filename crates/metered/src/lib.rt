@@ -5,11 +5,9 @@ use association::Association;
 use association::Settings;
 use cookielist::Entry;
 use cookiestash::Dropped;
-use version::ProtocolVersion;
-use version::Version;
 ghost use mathlib.Core.Path.{_≡_};
-ghost use Rattle.cookielist.specs.List.{cookiesIn, listBroken};
-ghost use Rattle.metered.specs.Profile.{numberOf, isUpgrading, longerIn, longCookie, profileOf, meteredOf};
+ghost use Rattle.cookielist.specs.List.{cookiesIn};
+ghost use Rattle.metered.specs.Profile.{numberOf, longerIn, longCookie, profileOf, meteredOf};
 
 // The least that the lower poll limit may be: a poll in some four minutes.
 pub const LEAST_POLL: i8 = 8;
@@ -44,30 +42,6 @@ impl ProfileAnswer {
             ProfileAnswer::UpgradingStart => 36,
             ProfileAnswer::LongCookie => 37,
         }
-    }
-}
-
-// Whether a version is on the way from V4 to V5.
-fn is_upgrading(version: Version) -> bool
-    ensures { λ r. ⌜ r ≡ isUpgrading (version .kind) ⌝ }
-{
-    let kind = version.kind;
-    match kind {
-        ProtocolVersion::V4 => false,
-        ProtocolVersion::Upgrading(_) => true,
-        ProtocolVersion::Upgraded => false,
-        ProtocolVersion::V5 => false,
-    }
-}
-
-// Whether a list is broken, which matters with NTS only.
-fn is_broken(nts: bool, list: &[u8]) -> bool
-    ensures { λ r. ⌜ r ≡ listBroken nts (now (list .entry)) ⌝ }
-{
-    if nts {
-        !cookielist::list_whole(list)
-    } else {
-        false
     }
 }
 
@@ -113,7 +87,7 @@ pub fn profile(settings: Settings, list: &[u8]) -> ProfileAnswer
     if !settings.valid() {
         return ProfileAnswer::BadSettings;
     }
-    if is_broken(settings.nts, list) {
+    if association::list_broken(settings.nts, list) {
         return ProfileAnswer::BrokenList;
     }
     let min = settings.min;
@@ -124,7 +98,7 @@ pub fn profile(settings: Settings, list: &[u8]) -> ProfileAnswer
         return ProfileAnswer::HighStartup;
     }
     let start = settings.start;
-    if is_upgrading(start) {
+    if start.is_upgrading() {
         return ProfileAnswer::UpgradingStart;
     }
     if has_long_cookie(settings.nts, list) {

@@ -131,7 +131,7 @@ new-polls : (s : Settings) (list : List ℕ) → new.numberOf (new.newOf s list 
 new-polls s list e = by (plain-numbers.number s list 0 .0 e)
   where
     by : ((o : NewOut) × plain.Given s list 0 o) → new.newOf s list .association .state .polls ≡ record { last = s .min; remote = s .min }
-    by (_, made v b) = ap (λ (o : NewOut). o .association .state .polls) (plain-numbers.only s list (made v b)) ∙ made-polls s list
+    by (_, made v b u) = ap (λ (o : NewOut). o .association .state .polls) (plain-numbers.only s list (made v b u)) ∙ made-polls s list
 
 -- over any log from the plain call no poll is below poll min
 pub new-sparing : (s : Settings) (list : List ℕ) → new.numberOf (new.newOf s list .answer) ≡ 0 → (calls : List (M.Call rule)) →

@@ -1,4 +1,4 @@
--- What a reply leaves: on 1, 2, 4, 12, 13, 14, 32 and 33 the record; on 7 to 11 all but the version; on all but 0 the pending request and the fact beside it (No. 3), which 0 clears and makes yes, and the unanswered polls (No. 8), of which 0 leaves none; always the settings.
+-- What a reply leaves: on 1, 2, 4, 12, 13, 14, 32 and 33 the record; on 7 to 11 all but the version; on all but 0 the pending request and the fact beside it (No. 3), which 0 clears and makes yes, and the unanswered polls (No. 8), of which 0 leaves none, with reach and tries; always the settings.
 -- And the poll values: the last one stays, and the remote minimum never falls; on all but 0 and 5 it stays too.
 -- Assumes nothing.
 use mathlib.Core.Path.{_≡_, refl, sym, ap, _∙_}
@@ -22,6 +22,7 @@ use Rattle.reply.specs.Numbers.{Given, not-whole, undecodable, broken-li
 pub record Heard (a : Association) (n : ℕ) (o : ReplyOut) : Type 0 where
   pub settings : o .association .settings ≡ a .settings
   pub request : o .association .state .request ≡ cond (eqb n 0) (noPending true) (a .state .request)
+  pub effort : (n ≡ 0 → ⊥) → o .association .state .effort ≡ a .state .effort
   pub unanswered : o .association .state .effort .unanswered ≡ cond (eqb n 0) 0 (a .state .effort .unanswered)
   pub same : T ((leb 1 n && leb n 4) || leb 12 n) → o .association ≡ a
   pub version : T (leb 7 n && leb n 11) → ((upgrade : Bool) × (o .association ≡ withState a (stepped (a .state) upgrade)))
@@ -29,22 +30,22 @@ pub record Heard (a : Association) (n : ℕ) (o : ReplyOut) : Type 0 where
 module _ (a : Association) (read : ReplyRead) (t : Arrival) where
   pub heard : {n : ℕ} {o : ReplyOut} → Given a read t n o → Heard a n o
   unfolding stepped afterRateKiss afterDenial afterMeasured
-  heard (not-whole e) = record { settings = refl; request = refl; unanswered = refl; same = λ _. refl; version = absurd }
-  heard (undecodable w e) = record { settings = refl; request = refl; unanswered = refl; same = λ _. refl; version = absurd }
-  heard (broken-list d e) = record { settings = refl; request = refl; unanswered = refl; same = λ _. refl; version = absurd }
-  heard (unexpected-version l e) = record { settings = refl; request = refl; unanswered = refl; same = λ _. refl; version = absurd }
-  heard (never-sent x e) = record { settings = refl; request = refl; unanswered = refl; same = λ _. refl; version = absurd }
-  heard (already-measured x e) = record { settings = refl; request = refl; unanswered = refl; same = λ _. refl; version = absurd }
-  heard (late x e) = record { settings = refl; request = refl; unanswered = refl; same = λ _. refl; version = absurd }
-  heard (no-match i e) = record { settings = refl; request = refl; unanswered = refl; same = λ _. refl; version = absurd }
-  heard (rate m e) = record { settings = refl; request = refl; unanswered = refl; same = absurd; version = absurd }
-  heard (denied u e f) = record { settings = refl; request = refl; unanswered = refl; same = absurd; version = absurd }
-  heard (denied-nts {r} u e f) = record { settings = refl; request = refl; unanswered = refl; same = absurd; version = λ _. (r .upgrade, refl) }
-  heard (ntsn {r} v e) = record { settings = refl; request = refl; unanswered = refl; same = absurd; version = λ _. (r .upgrade, refl) }
-  heard (other-kiss {r} w e) = record { settings = refl; request = refl; unanswered = refl; same = absurd; version = λ _. (r .upgrade, refl) }
-  heard (bad-stratum {r} k e) = record { settings = refl; request = refl; unanswered = refl; same = absurd; version = λ _. (r .upgrade, refl) }
-  heard (not-server {r} s e) = record { settings = refl; request = refl; unanswered = refl; same = absurd; version = λ _. (r .upgrade, refl) }
-  heard (measured s e) = record { settings = refl; request = refl; unanswered = refl; same = absurd; version = absurd }
+  heard (not-whole e) = record { settings = refl; request = refl; effort = λ _. refl; unanswered = refl; same = λ _. refl; version = absurd }
+  heard (undecodable w e) = record { settings = refl; request = refl; effort = λ _. refl; unanswered = refl; same = λ _. refl; version = absurd }
+  heard (broken-list d e) = record { settings = refl; request = refl; effort = λ _. refl; unanswered = refl; same = λ _. refl; version = absurd }
+  heard (unexpected-version l e) = record { settings = refl; request = refl; effort = λ _. refl; unanswered = refl; same = λ _. refl; version = absurd }
+  heard (never-sent x e) = record { settings = refl; request = refl; effort = λ _. refl; unanswered = refl; same = λ _. refl; version = absurd }
+  heard (already-measured x e) = record { settings = refl; request = refl; effort = λ _. refl; unanswered = refl; same = λ _. refl; version = absurd }
+  heard (late x e) = record { settings = refl; request = refl; effort = λ _. refl; unanswered = refl; same = λ _. refl; version = absurd }
+  heard (no-match i e) = record { settings = refl; request = refl; effort = λ _. refl; unanswered = refl; same = λ _. refl; version = absurd }
+  heard (rate m e) = record { settings = refl; request = refl; effort = λ _. refl; unanswered = refl; same = absurd; version = absurd }
+  heard (denied u e f) = record { settings = refl; request = refl; effort = λ _. refl; unanswered = refl; same = absurd; version = absurd }
+  heard (denied-nts {r} u e f) = record { settings = refl; request = refl; effort = λ _. refl; unanswered = refl; same = absurd; version = λ _. (r .upgrade, refl) }
+  heard (ntsn {r} v e) = record { settings = refl; request = refl; effort = λ _. refl; unanswered = refl; same = absurd; version = λ _. (r .upgrade, refl) }
+  heard (other-kiss {r} w e) = record { settings = refl; request = refl; effort = λ _. refl; unanswered = refl; same = absurd; version = λ _. (r .upgrade, refl) }
+  heard (bad-stratum {r} k e) = record { settings = refl; request = refl; effort = λ _. refl; unanswered = refl; same = absurd; version = λ _. (r .upgrade, refl) }
+  heard (not-server {r} s e) = record { settings = refl; request = refl; effort = λ _. refl; unanswered = refl; same = absurd; version = λ _. (r .upgrade, refl) }
+  heard (measured s e) = record { settings = refl; request = refl; effort = λ u. absurd (u refl); unanswered = refl; same = absurd; version = absurd }
 
 -- ---- the poll values
 

@@ -10,9 +10,12 @@ use Rattle.words.specs.Bytes.{zeros}
 use Rattle.words.proofs.Tests.{passes, both}
 use Rattle.cookiestash.specs.Stash.{getOf}
 use Rattle.cookiestash.proofs.Kept.{get-whole}
+use Rattle.version.specs.Upgrade.{fallenBackOf}
+use Rattle.version.proofs.Retired.{fallen-stays}
 use Rattle.association.specs.declared.Association.{Association}
 use Rattle.association.specs.Record.{pendingValid, idleValid, withState, withStash}
 use Rattle.association.specs.Whole.{Whole}
+use Rattle.association.proofs.Whole.{versions-kept}
 use Rattle.timer_rules.specs.declared.TimerInput.{TimerInput}
 use Rattle.timer_rules.specs.Poll.{triedOf, pendingOf, sentOf}
 use Rattle.timer_rules.proofs.Unanswered.{polled-counted}
@@ -23,7 +26,17 @@ use Rattle.timer.proofs.Numbers.{given}
 
 tried-whole : (a : Association) → Whole a → Whole (withState a (triedOf (a .state)))
 unfolding triedOf
-tried-whole a w = record { settings = w .settings; stash = w .stash; counted = polled-counted (a .state .effort) (w .counted); request = w .request; idle = w .idle }
+tried-whole a w =
+    let v = a .state .version in
+    let n = a .state .effort .unanswered in
+    record {
+      settings = w .settings;
+      stash = w .stash;
+      counted = polled-counted (a .state .effort) (w .counted);
+      versions = versions-kept (a .settings .start) v (fallenBackOf v n) (fallen-stays (v .kind) n) (w .versions);
+      request = w .request;
+      idle = w .idle;
+    }
 
 -- with NTS nothing is asked of what is idle without it
 busy : (nts : Bool) (read held : ℕ) (uid : List ℕ) → nts ≡ true → idleValid nts read held uid ≡ true
@@ -31,7 +44,7 @@ unfolding idleValid
 busy nts read held uid e = rw e
 
 taken-whole : (a : Association) → Whole a → a .settings .nts ≡ true → Whole (withStash a (getOf (a .settings .capacity) (a .stash) .stash))
-taken-whole a w n = record { settings = w .settings; stash = get-whole (a .settings .capacity) (a .stash) (w .stash); counted = w .counted; request = w .request; idle = busy _ _ _ _ n }
+taken-whole a w n = record { settings = w .settings; stash = get-whole (a .settings .capacity) (a .stash) (w .stash); counted = w .counted; versions = w .versions; request = w .request; idle = busy _ _ _ _ n }
 
 no-uid : zeros (replicate 32 0) ≡ true
 unfolding zeros
@@ -48,7 +61,7 @@ idle-kept false read held old uid e =
 
 sent-whole : (a : Association) → Whole a → (i : TimerInput) → Whole (withState a (sentOf (a .settings) (a .state) i))
 unfolding sentOf pendingOf pendingValid
-sent-whole a w i = record { settings = w .settings; stash = w .stash; counted = w .counted; request = refl; idle = idle-kept (a .settings .nts) _ _ (a .state .request .uid) (i .uid) (w .idle) }
+sent-whole a w i = record { settings = w .settings; stash = w .stash; counted = w .counted; versions = w .versions; request = refl; idle = idle-kept (a .settings .nts) _ _ (a .state .request .uid) (i .uid) (w .idle) }
 
 module _ (a : Association) (w : Whole a) (i : TimerInput) (room : ℕ) where
   -- the tried record, without its oldest cookie

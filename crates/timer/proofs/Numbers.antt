@@ -34,7 +34,7 @@ stash-whole : (a : Association) → wholeOf a ≡ true → stash.wholeOf (a .set
 unfolding wholeOf wholeSeen
 stash-whole a w = both (stash.wholeOf (a .settings .capacity) (a .stash)) _ (both (settingsValid (a .settings)) _ w .1) .0
 
-in-range : (a : Association) → wholeOf a ≡ true → inRange (a .settings .capacity) (a .stash) ≡ true
+pub in-range : (a : Association) → wholeOf a ≡ true → inRange (a .settings .capacity) (a .stash) ≡ true
 unfolding stash.wholeOf
 in-range a w = both (inRange (a .settings .capacity) (a .stash)) _ (stash-whole a w) .0
 

@@ -20,6 +20,8 @@ pub struct Step {
     pub of_crate: (Answer, State),
     pub of_rules: (Answer, State),
     pub drawn: Option<Drawn>,
+    /// The association's version when the step was made; of a new one, that which it starts with.
+    pub version: Version,
     /// Why the two may differ here, if they do.
     pub reason: Option<&'static str>,
     /// They differ and no reason is listed.
@@ -69,10 +71,11 @@ impl Both {
             Op::Poke(pairs) => rules.poke(pairs),
         };
         let of_rules = (answer, rules.state.clone());
+        let version = before.as_ref().filter(|_| !matches!(op, Op::New { .. })).map_or(of_rules.1.version, |b| b.version);
         let collected = drawn
             .as_ref()
             .is_none_or(|d| !d.decoded || d.v5.is_some() || rules::collect(&d.plain).is_some_and(|list| list == d.cookies));
-        let mut step = Step { of_crate, of_rules, drawn, reason: None, failed: !collected, left_out };
+        let mut step = Step { of_crate, of_rules, drawn, version, reason: None, failed: !collected, left_out };
         if step.of_crate != step.of_rules {
             step.reason = before.as_ref().and_then(|before| match op {
                 Op::Reply { packet, .. } => listed_reply(packet, &step, before, rules.max),
@@ -315,7 +318,8 @@ mod tests {
         let listed = |stratum, local: &[u32], bloom, numbers: (u8, u8), after: &State| {
             let side = |number| (Answer { number, ..Answer::default() }, after.clone());
             let (of_crate, of_rules) = (side(numbers.0), side(numbers.1));
-            let step = Step { of_crate, of_rules, drawn: None, reason: None, failed: false, left_out: false };
+            let version = before.version;
+            let step = Step { of_crate, of_rules, drawn: None, version, reason: None, failed: false, left_out: false };
             listed_accept(stratum, local, bloom, SOURCE, &step, &before)
         };
         // A new association: stratum 16, XNON, not reached.

@@ -10,12 +10,12 @@ use std::fs::File;
 use std::io::{BufWriter, Write};
 use std::path::{Path, PathBuf};
 
-fn version(v: Version) -> String {
+pub fn version(v: Version) -> &'static str {
     match v {
-        Version::V4 => "v4".into(),
-        Version::V4UpgradingToV5 { tries_left } => format!("upgrading:{tries_left}"),
-        Version::UpgradedToV5 => "upgraded".into(),
-        Version::V5 => "v5".into(),
+        Version::V4 => "v4",
+        Version::UpgradedToV5 => "upgraded",
+        Version::V5 => "v5",
+        Version::V4UpgradingToV5 { .. } => panic!("upgrading is retired (RULES, No. 14)"),
     }
 }
 
@@ -173,6 +173,8 @@ pub struct Log {
     pub metered: bool,
     /// How often each command and number is there.
     pub numbers: BTreeMap<String, u64>,
+    /// How many steps, and of which version the association was then.
+    versions: BTreeMap<&'static str, u64>,
     failures: u64,
 }
 
@@ -190,6 +192,7 @@ impl Log {
             shown: (1, 1),
             metered: false,
             numbers: BTreeMap::new(),
+            versions: BTreeMap::new(),
             failures: 0,
         })
     }
@@ -244,6 +247,7 @@ impl Log {
             self.put("cookies", &cookies(&c.1), &cookies(&r.1), step.reason);
         }
         self.steps += 1;
+        *self.versions.entry(version(step.version)).or_default() += 1;
         step
     }
 
@@ -261,8 +265,12 @@ impl Log {
         }
     }
 
-    /// Ends the log and gives the number of steps where crate and rules differ for no listed reason.
+    /// Ends the log, says how many steps there are of each version, and gives the number of those where crate and rules differ for
+    /// no listed reason.
     pub fn finish(mut self) -> u64 {
+        for (version, count) in &self.versions {
+            println!("steps {version}: {count}");
+        }
         for f in [&mut self.drill, &mut self.expected, &mut self.reasons] {
             f.flush().unwrap();
         }

@@ -9,7 +9,6 @@ use std::net::{IpAddr, Ipv4Addr, Ipv6Addr};
 const ID: u64 = 0x0102030405060708;
 const UID: [u8; 32] = *b"\x00\x01\x02\x03\x04\x05\x06\x07\x08\x09\x0a\x0b\x0c\x0d\x0e\x0f\x10\x11\x12\x13\x14\x15\x16\x17\x18\x19\x1a\x1b\x1c\x1d\x1e\x1f";
 const SECOND: u64 = 1 << 32;
-const UPGRADING: Version = Version::V4UpgradingToV5 { tries_left: 8 };
 
 /// The header of a reply, answering ID with stratum 2 unless told otherwise.
 #[derive(Clone, Copy)]
@@ -165,6 +164,11 @@ impl Cases<'_> {
     fn accept(&mut self, stratum: u8, local: &[IpAddr], bloom: Bloom) {
         self.step(Op::Accept { stratum, local: local.to_vec(), bloom });
     }
+    /// Upgraded, with its last poll answered: as a hand-over file may bring it.
+    fn upgraded(&mut self, title: &str, s: Start) {
+        self.begin(title, Start { start: Version::UpgradedToV5, ..s });
+        self.poke(&reach(1));
+    }
     /// One poll, one reply.
     fn asked(&mut self, title: &str, s: Start, packet: Vec<u8>) {
         self.begin(title, s);
@@ -219,7 +223,9 @@ impl Cases<'_> {
         }
         for version in [3, 4, 5] {
             let p = Header { version, ..V5 }.v5();
-            self.asked(&format!("version {version}, upgrading"), Start { start: UPGRADING, ..plain() }, p.clone());
+            self.upgraded(&format!("version {version}, upgraded"), plain());
+            self.timer();
+            self.reply(p.clone());
             self.asked(&format!("version {version}, V5"), Start { start: Version::V5, ..plain() }, p);
         }
     }
@@ -453,27 +459,36 @@ impl Cases<'_> {
             self.timer();
             self.timer();
         }
-        for tries_left in [255, 2, 1, 0] {
-            for (mark, name) in [(0, "a plain reply"), (UPGRADE_MARK, "an upgrade reply")] {
-                let start = Version::V4UpgradingToV5 { tries_left };
-                let p = Header { refts: mark, ..V4 }.bytes();
-                self.asked(&format!("upgrading with tries {tries_left} and {name}"), Start { start, ..plain() }, p);
-                self.timer();
-            }
-        }
-        self.asked("an upgrade reply, not upgrading", plain(), Header { refts: UPGRADE_MARK, ..V4 }.bytes());
-        let ntsn = Header { refts: UPGRADE_MARK, ..V4.kiss(b"NTSN") }.bytes();
-        self.asked("upgrading, NTSN that is an upgrade reply", Start { start: UPGRADING, ..plain() }, ntsn);
+        self.asked("a V4 reply with the upgrade mark", plain(), Header { refts: UPGRADE_MARK, ..V4 }.bytes());
         self.timer();
-        self.begin("upgraded, answered in V5", Start { start: Version::UpgradedToV5, ..plain() });
-        self.poke(&reach(1));
+        let ntsn = Header { refts: UPGRADE_MARK, ..V4.kiss(b"NTSN") }.bytes();
+        self.asked("NTSN with the upgrade mark", plain(), ntsn);
+        self.timer();
+        self.begin("starts upgraded, and falls back with its first poll", Start { start: Version::UpgradedToV5, ..plain() });
+        self.timer();
+        self.reply(V5.v5());
+        self.reply(V4.bytes());
+        self.timer();
+        self.reply(V4.bytes());
+        self.upgraded("upgraded, answered in V5", plain());
         self.timer();
         self.reply(V5.v5());
         self.timer();
-        self.begin("upgrading with NTS sends V5 and expects V4", Start { start: UPGRADING, ..nts(eight()) });
+        self.upgraded("upgraded, a kiss in V5", plain());
         self.timer();
-        self.reply(sealed(V5, &[]));
+        self.reply(Header { poll: 7, stratum: 0, ..V5 }.v5());
+        self.timer();
+        self.upgraded("upgraded, two polls not answered, then V4", plain());
+        self.timer();
+        self.reply(V4.bytes());
+        self.timer();
+        self.timer();
+        self.reply(V5.v5());
+        self.reply(V4.bytes());
+        self.upgraded("upgraded with NTS sends V5 and expects V5", nts(eight()));
+        self.timer();
         self.reply(sealed(V4, &[]));
+        self.reply(sealed(V5, &[]));
         self.timer();
     }
 

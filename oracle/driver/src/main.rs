@@ -63,6 +63,7 @@ fn write_cases(log: &mut Log, seed: u64, count: u64, steps: u64, manner: Manner)
 fn check(seed: u64, count: u64, steps: u64, manner: Manner) -> ExitCode {
     let mut numbers: BTreeMap<(&str, u8), u64> = BTreeMap::new();
     let mut reasons: BTreeMap<&str, u64> = BTreeMap::new();
+    let mut versions: BTreeMap<&str, u64> = BTreeMap::new();
     let (mut passed, mut failed, mut left_out) = (0u64, 0u64, 0u64);
     cases(seed, count, steps, manner, |both, op, _| {
         let step = both.step(op);
@@ -74,6 +75,7 @@ fn check(seed: u64, count: u64, steps: u64, manner: Manner) -> ExitCode {
             Op::Poke(_) => "poke",
         };
         *numbers.entry((word, step.of_rules.0.number)).or_default() += 1;
+        *versions.entry(drill::version(step.version)).or_default() += 1;
         left_out += step.left_out as u64;
         if let Some(reason) = step.reason {
             *reasons.entry(reason).or_default() += 1;
@@ -93,6 +95,9 @@ fn check(seed: u64, count: u64, steps: u64, manner: Manner) -> ExitCode {
     }
     for (reason, text) in both::REASONS {
         println!("listed {reason}: {} ({text})", reasons.get(reason).unwrap_or(&0));
+    }
+    for (version, count) in &versions {
+        println!("steps {version}: {count}");
     }
     println!("V5 packets without a decoded form: {left_out}");
     println!("{passed} passed, {failed} failed");
@@ -114,12 +119,13 @@ fn sample(log: &mut Log) {
     own::capacities(log);
     log.comment("random steps: nts true, capacity true");
     write_cases(log, 6, 9, 40, Manner { nts: Some(true), small: true, capacity: true, ..Manner::default() });
+    own::retired(log);
     let reached = |word: &str, numbers: &[u8]| {
         for n in numbers {
             assert!(log.numbers.contains_key(&format!("{word} {n}")), "{word} {n} is not reached");
         }
     };
-    reached("new", &[0, 30, 33]);
+    reached("new", &[0, 30, 33, 38]);
     reached("timer", &[20, 21, 22, 23, 24, 31, 32]);
     reached("reply", &[0, 1, 2, 4, 5, 6, 7, 8, 9, 10, 11, 12, 13, 14, 32, 33]);
     reached("reply5", &[0, 2, 4, 5, 6, 7, 8, 9, 10, 11, 12, 13, 14, 32, 33]);
@@ -158,6 +164,7 @@ fn main() -> ExitCode {
         (["own", drill, expected], _) => write_log(drill, expected, |log| {
             own::write(log);
             own::capacities(log);
+            own::retired(log);
         }),
         (["requests", _, _, drill, expected], [seed, count]) => {
             write_log(drill, expected, |log| requests::write(log, *seed, *count))

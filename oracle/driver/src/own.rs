@@ -1,6 +1,6 @@
 //! What RULES says of its own, so that no crate answers it: settings, lists, buffers and records that are refused
-//! (30 to 33), the caller's part of a reply, the collector's limit, another upgrade mark, stashes of less than eight slots. The
-//! answers are written by hand.
+//! (30 to 33, 38), the caller's part of a reply, the collector's limit, stashes of less than eight slots. The answers are written
+//! by hand.
 use crate::drill::Log;
 use crate::state::hex;
 
@@ -267,11 +267,11 @@ fn callers_part(log: &mut Log) {
         &format!("reply {MEASURED}"),
     );
     log.own("cookies", "cookies 1 02030405");
-    log.comment("another upgrade mark");
-    log.own(&PLAIN.replace("4e54503544524654", "0000000000000001").replace("start=v4", "start=upgrading:2"), NEW_0);
-    log.own(TIMER, "timer 20 send=v4-upgrade poll=6 cookie=- asked=0");
+    log.comment("another upgrade mark: a reply with it is one like any other");
+    log.own(&PLAIN.replace("4e54503544524654", "0000000000000001"), NEW_0);
+    log.own(TIMER, SENT);
     log.own(&reply(&packet(0x24, 1, &[]), ""), &format!("reply {MEASURED}"));
-    log.own(TIMER, "timer 20 send=v5 poll=6 cookie=- asked=0");
+    log.own(TIMER, SENT);
 }
 
 fn decoded_form(log: &mut Log) {
@@ -381,6 +381,35 @@ pub fn capacities(log: &mut Log) {
         } else {
             refused_32(log);
         }
+    }
+}
+
+/// The retired version (RULES, No. 14): settings with it are refused, and records that hold it.
+pub fn retired(log: &mut Log) {
+    log.comment("the upgrading start version is refused, after the settings and the list");
+    for tries in [0, 1, 2, 8, 255] {
+        for new in [PLAIN, NTS] {
+            let new = new.replace("start=v4", &format!("start=upgrading:{tries}"));
+            log.own(&new, "new 38");
+            log.own("show", BLANK);
+            refused_32(log);
+            log.own(&new.replace("startup=3", "startup=0"), "new 30");
+            log.own(&format!("{new} list={BROKEN_LIST}"), if new.contains("nts=yes") { "new 33" } else { "new 38" });
+        }
+    }
+    log.comment("a record that holds it, as version or as start version, is not whole");
+    for (key, retired, stays) in [
+        ("version", "upgrading:0", "v4"),
+        ("version", "upgrading:8", "v4"),
+        ("start", "upgrading:0", "v4"),
+        ("start", "upgrading:255", "upgraded"),
+        ("start", "upgrading:1", "v5"),
+    ] {
+        log.own(PLAIN, NEW_0);
+        log.own(&format!("poke key={key} value={retired}"), "poke");
+        refused_32(log);
+        log.own(&format!("poke key={key} value={stays}"), "poke");
+        log.own(TIMER, SENT);
     }
 }
 

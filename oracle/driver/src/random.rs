@@ -69,6 +69,7 @@ pub struct Random {
     sent: Vec<(u64, [u8; 32])>,
     pending: Option<(u64, [u8; 32], u64)>,
     version: Version,
+    unanswered: u8,
     stratum: u8,
     refid: u32,
     denial: bool,
@@ -96,6 +97,7 @@ impl Random {
             sent: vec![],
             pending: None,
             version: Version::V4,
+            unanswered: 8,
             stratum: 16,
             refid: XNON,
             denial: false,
@@ -126,14 +128,9 @@ impl Random {
         out
     }
 
+    /// One of the versions that stay (RULES, No. 14).
     fn version(&mut self) -> Version {
-        match self.r.below(6) {
-            0 | 1 => Version::V4,
-            2 => Version::V4UpgradingToV5 { tries_left: self.r.pick(&[8, 3, 2, 1, 0, 255]) },
-            3 => Version::V4UpgradingToV5 { tries_left: 8 },
-            4 => Version::UpgradedToV5,
-            _ => Version::V5,
-        }
+        self.r.pick(&[Version::V4, Version::V4, Version::UpgradedToV5, Version::UpgradedToV5, Version::V5])
     }
 
     fn address(&mut self) -> IpAddr {
@@ -156,12 +153,11 @@ impl Random {
         let startup = if self.r.one_in(2) { 3 } else { 1 + self.r.below(8) as u8 };
         let start = self.version();
         let mut cookies = if self.nts { self.cookies(11, false, HELD) } else { vec![] };
-        let (min, max, startup, start) = if self.manner.metered {
+        let (min, max, startup) = if self.manner.metered {
             cookies.iter_mut().for_each(|c| c.truncate(100));
-            let start = if matches!(start, Version::V4UpgradingToV5 { .. }) { Version::V4 } else { start };
-            (min.max(8), max.max(8), startup.min(3), start)
+            (min.max(8), max.max(8), startup.min(3))
         } else {
-            (min, max, startup, start)
+            (min, max, startup)
         };
         let capacity = if self.manner.capacity { 1 + self.r.below(8) as u8 } else { 8 };
         Op::New { nts: self.nts, min, max, startup, window, start, source: self.source, cookies, capacity }
@@ -176,6 +172,7 @@ impl Random {
         }
         self.pending = s.pending;
         self.version = s.version;
+        self.unanswered = s.unanswered;
         self.stratum = s.stratum;
         self.refid = s.refid;
         self.denial = s.denial;
@@ -185,6 +182,8 @@ impl Random {
         let timers = if self.pending.is_none() { 12 } else { 5 };
         match self.r.below(20) {
             _ if self.rate_next => self.reply(),
+            // Only a hand-over file brings an upgraded association with polls answered; its reach is set here as that would.
+            _ if self.version == Version::UpgradedToV5 && self.unanswered >= 2 && !self.r.one_in(8) => self.answered_poll(),
             // After a denial the polls often stay unanswered.
             _ if self.denial && !self.r.one_in(3) => self.timer(),
             19 => self.accept(),
@@ -245,6 +244,12 @@ impl Random {
         }
         self.rate_next = pairs.contains(&("remote", 127));
         Op::Poke(pairs)
+    }
+
+    /// The last poll was answered, or the one before it.
+    fn answered_poll(&mut self) -> Op {
+        let older = self.r.next() as u8;
+        Op::Poke(reach(if self.r.one_in(4) { older << 2 | 2 } else { older | 1 }).to_vec())
     }
 
     fn time(&mut self) -> u64 {
@@ -313,7 +318,7 @@ impl Random {
         }
         let mut version = match self.version {
             Version::V4 if self.r.one_in(4) => 3,
-            Version::V4 | Version::V4UpgradingToV5 { .. } => 4,
+            Version::V4 => 4,
             _ => 5,
         };
         if self.nts && version == 3 && !self.r.one_in(8) {

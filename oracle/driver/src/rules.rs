@@ -118,15 +118,7 @@ impl Rules {
         s.reach <<= 1;
         s.unanswered = (s.unanswered + 1).min(8);
         s.tries = s.tries.saturating_add(1);
-        let (mut kind, mut cookie, mut asked) = (
-            match s.version {
-                Version::V4 => "v4",
-                Version::V4UpgradingToV5 { .. } => "v4-upgrade",
-                _ => "v5",
-            },
-            vec![],
-            0,
-        );
+        let (mut kind, mut cookie, mut asked) = (if s.version == Version::V4 { "v4" } else { "v5" }, vec![], 0);
         if self.nts {
             if s.cookies.is_empty() {
                 return number(23);
@@ -154,9 +146,8 @@ impl Rules {
             None => Answer { number: 1, ..Answer::default() },
             Some(d) => {
                 let v = (p[0] >> 3) & 7;
-                let mark = u64::from_be_bytes(p[16..24].try_into().unwrap());
                 let refid = u32::from_be_bytes(p[12..16].try_into().unwrap());
-                self.matched(v, v == 4 && mark == UPGRADE_MARK, refid, &d, list, t1, t4, now)
+                self.matched(v, refid, &d, list, t1, t4, now)
             }
         }
     }
@@ -199,29 +190,15 @@ impl Rules {
 
     /// RULES, part 11, decoded form; the reference identifier stays XNON, as in the crate.
     pub fn reply5(&mut self, d: &Decoded, list: &[Vec<u8>], t1: u64, t4: u64, now: u64) -> Answer {
-        self.matched(5, false, name(b"XNON"), d, list, t1, t4, now)
+        self.matched(5, name(b"XNON"), d, list, t1, t4, now)
     }
 
     #[expect(clippy::too_many_arguments)]
-    fn matched(
-        &mut self,
-        v: u8,
-        upgrade: bool,
-        refid: u32,
-        d: &Decoded,
-        list: &[Vec<u8>],
-        t1: u64,
-        t4: u64,
-        now: u64,
-    ) -> Answer {
+    fn matched(&mut self, v: u8, refid: u32, d: &Decoded, list: &[Vec<u8>], t1: u64, t4: u64, now: u64) -> Answer {
         let number = |number| Answer { number, ..Answer::default() };
         let s = &mut self.state;
-        let expected = match s.version {
-            Version::V4 => v == 3 || v == 4,
-            Version::V4UpgradingToV5 { .. } => v == 4,
-            _ => v == 5,
-        };
-        if !expected {
+        let expected: &[u8] = if s.version == Version::V4 { &[3, 4] } else { &[5] };
+        if !expected.contains(&v) {
             return number(2);
         }
         let Some((id, _, deadline)) = s.pending else { return number(if s.answered { 13 } else { 12 }) };
@@ -237,13 +214,9 @@ impl Rules {
         if d.identifier != id || (self.nts && !uid_agrees) {
             return number(4);
         }
-        s.version = match s.version {
-            Version::V4UpgradingToV5 { .. } if upgrade => Version::UpgradedToV5,
-            Version::V4UpgradingToV5 { tries_left: 0 | 1 } => Version::V4,
-            Version::V4UpgradingToV5 { tries_left } => Version::V4UpgradingToV5 { tries_left: tries_left - 1 },
-            Version::UpgradedToV5 => Version::V5,
-            other => other,
-        };
+        if s.version == Version::UpgradedToV5 {
+            s.version = Version::V5;
+        }
         if rate {
             let more = (s.remote as i32 + 1).min(self.max as i32) as i8;
             s.remote = s.remote.max(more).max(s.last);

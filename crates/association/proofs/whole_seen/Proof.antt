@@ -4,7 +4,7 @@ use mathlib.Core.Path.{_≡_, sym, _∙_}
 use mathlib.Core.Bool.{true}
 use borrow.Author.Tests.{not-true, not-false}
 use Rattle.association.specs.Settings.{settingsValid}
-use Rattle.association.specs.Record.{effortValid, wholeSeen}
+use Rattle.association.specs.Record.{effortValid, versionsValid, wholeSeen}
 use borrow.Author.Needs.{needs}
 use Rattle.association.proofs.whole_seen.Statement.{statement}
 use Rattle.association.proofs.whole_seen.Tie as tie
@@ -18,6 +18,9 @@ seen-whole c = not-false _ (c .if2 .left)
 
 counted : (c : tie.Else3) → effortValid (c .before .before .before .before .before .before .before .args .state .effort) ≡ true
 counted c = sym (c .before .valid2 .ensures) ∙ not-false _ (c .if3 .left)
+
+spoken : (c : tie.Else4) → let a = c .before .before .before .before .before .before .before .before .before .args in versionsValid (a .settings .start) (a .state .version) ≡ true
+spoken c = sym (c .before .versions-valid .ensures) ∙ not-false _ (c .if4 .left)
 
 valid-requires : tie.Need-valid-requires
 valid-requires c κs = search needs
@@ -39,26 +42,51 @@ returns-3 c =
     let k = c .before .before .before in
     rw (settled (k .before .before), seen-whole k, sym (c .before .valid2 .ensures) ∙ not-true _ (c .if3 .taken))
 
-valid-requires-3 : tie.Need-valid-requires-3
-valid-requires-3 c κs = search needs
+versions-valid-requires : tie.Need-versions-valid-requires
+versions-valid-requires c κs = search needs
 
 returns-4 : tie.Need-returns-4
 unfolding wholeSeen
 returns-4 c =
-    let e = c .before .before .before in
+    let e = c .before .before in
     let k = e .before .before .before in
-    rw (settled (k .before .before), seen-whole k, counted e, sym (c .before .valid3 .ensures) ∙ not-true _ (c .if4 .taken))
+    rw (settled (k .before .before), seen-whole k, counted e, sym (c .before .versions-valid .ensures) ∙ not-true _ (c .if4 .taken))
 
-idle-valid-requires : tie.Need-idle-valid-requires
-idle-valid-requires c κs = search needs
+valid-requires-3 : tie.Need-valid-requires-3
+valid-requires-3 c κs = search needs
 
 returns-5 : tie.Need-returns-5
 unfolding wholeSeen
 returns-5 c =
-    let r = c .before .before in
-    let e = r .before .before .before in
+    let v = c .before .before .before in
+    let e = v .before .before in
     let k = e .before .before .before in
-    rw (settled (k .before .before), seen-whole k, counted e, sym (r .before .valid3 .ensures) ∙ not-false _ (r .if4 .left)) (c .idle-valid .ensures)
+    rw (settled (k .before .before), seen-whole k, counted e, spoken v, sym (c .before .valid3 .ensures) ∙ not-true _ (c .if5 .taken))
+
+idle-valid-requires : tie.Need-idle-valid-requires
+idle-valid-requires c κs = search needs
+
+returns-6 : tie.Need-returns-6
+unfolding wholeSeen
+returns-6 c =
+    let r = c .before .before in
+    let v = r .before .before .before in
+    let e = v .before .before in
+    let k = e .before .before .before in
+    rw (settled (k .before .before), seen-whole k, counted e, spoken v, sym (r .before .valid3 .ensures) ∙ not-false _ (r .if5 .left)) (c .idle-valid .ensures)
 
 pub whole-seen-spec : {M : Type 1} → statement M
-whole-seen-spec = tie.close (tie.spec valid-requires returns returns-2 valid-requires-2 returns-3 valid-requires-3 returns-4 idle-valid-requires returns-5)
+whole-seen-spec =
+    tie.close
+    (tie.spec
+    valid-requires
+    returns
+    returns-2
+    valid-requires-2
+    returns-3
+    versions-valid-requires
+    returns-4
+    valid-requires-3
+    returns-5
+    idle-valid-requires
+    returns-6)

@@ -7,7 +7,7 @@ use borrow.Author.Tests.{not-true, not-false}
 use Rattle.association.specs.declared.Settings.{Settings}
 use Rattle.handover_load.specs.declared.Stashed.{Stashed}
 use Rattle.handover_load.specs.Read.{stashedOf}
-use Rattle.handover_load.proofs.Decided.{known-by, kept-by, by-settings, by-stash, by-version, by-source, by-whole, is-loaded}
+use Rattle.handover_load.proofs.Decided.{known-by, kept-by, by-settings, by-stash, by-version, by-source, is-loaded}
 use borrow.Author.Needs.{needs}
 use Rattle.handover_load.proofs.association_in.Statement.{statement}
 use Rattle.handover_load.proofs.association_in.Tie as tie
@@ -64,24 +64,15 @@ returns-4 c =
 state-in-requires : tie.Need-state-in-requires
 state-in-requires c κs = search needs
 
-whole-requires : tie.Need-whole-requires
-whole-requires c κs = search needs
-
-refused-requires-5 : tie.Need-refused-requires-5
-refused-requires-5 c κs = search needs
+loaded-as-requires : tie.Need-loaded-as-requires
+loaded-as-requires c κs = search needs
 
 returns-5 : tie.Need-returns-5
 returns-5 c =
-    let e = stashed (c .before .before .before .before .before .before .before .before .before .before .before .before .before .before .before .before .before .before .before .before .before .args .stash .now) (c .before .before .before .before .before .before .before .before .before .before .before .stash-in .ensures) (c .before .before .before .before .before .before .before .before .before .before .before .before .settings-of .ensures) in
-    c .refused5 .ensures
-    ∙ sym (by-whole (c .before .before .before .before .before .before .before .before .before .before .before .before .before .before .before .before .before .before .before .before .before .args .settings .now) (c .before .before .before .before .before .before .before .before .before .before .before .before .before .before .before .before .before .before .before .before .before .args .stash .now) (c .before .before .before .before .before .before .before .before .before .before .before .before .before .before .before .before .before .before .before .before .before .args .effort .now) (c .before .before .before .before .before .before .before .before .before .before .before .before .before .before .before .before .before .before .before .before .before .args .version .now) (c .before .before .before .before .before .before .before .before .before .before .before .before .before .before .before .before .before .before .before .before .before .args .polls .now) (c .before .before .before .before .before .before .before .before .before .before .before .before .before .before .before .before .before .before .before .before .before .args .source .now) (sym (c .before .before .before .before .before .before .before .before .before .before .before .before .before .before .settings-known .ensures) ∙ not-false _ (c .before .before .before .before .before .before .before .before .before .before .before .before .before .if1 .left)) (known-by _ _ _ e (not-false _ (c .before .before .before .before .before .before .before .before .before .if2 .left))) (sym (c .before .before .before .before .before .before .before .before .version-known .ensures) ∙ not-false _ (c .before .before .before .before .before .before .before .if3 .left)) (sym (c .before .before .before .before .before .before .source-known .ensures) ∙ not-false _ (c .before .before .before .before .before .if4 .left))
-    (c .before .before .before .before .before .before .before .before .before .before .before .before .settings-of .ensures) (kept-by _ _ _ e (known-by _ _ _ e (not-false _ (c .before .before .before .before .before .before .before .before .before .if2 .left)))) (c .before .before .before .state-in .ensures) (sym (c .before .before .whole .ensures) ∙ not-true _ (c .before .if5 .taken)))
-
-returns-6 : tie.Need-returns-6
-returns-6 c =
-    let e = stashed (c .before .before .before .before .before .before .before .before .before .before .before .before .before .before .before .before .before .before .before .before .args .stash .now) (c .before .before .before .before .before .before .before .before .before .before .stash-in .ensures) (c .before .before .before .before .before .before .before .before .before .before .before .settings-of .ensures) in
-    is-loaded (c .before .before .before .before .before .before .before .before .before .before .before .before .before .before .before .before .before .before .before .before .args .settings .now) (c .before .before .before .before .before .before .before .before .before .before .before .before .before .before .before .before .before .before .before .before .args .stash .now) (c .before .before .before .before .before .before .before .before .before .before .before .before .before .before .before .before .before .before .before .before .args .effort .now) (c .before .before .before .before .before .before .before .before .before .before .before .before .before .before .before .before .before .before .before .before .args .version .now) (c .before .before .before .before .before .before .before .before .before .before .before .before .before .before .before .before .before .before .before .before .args .polls .now) (c .before .before .before .before .before .before .before .before .before .before .before .before .before .before .before .before .before .before .before .before .args .source .now) (sym (c .before .before .before .before .before .before .before .before .before .before .before .before .before .settings-known .ensures) ∙ not-false _ (c .before .before .before .before .before .before .before .before .before .before .before .before .if1 .left)) (known-by _ _ _ e (not-false _ (c .before .before .before .before .before .before .before .before .if2 .left))) (sym (c .before .before .before .before .before .before .before .version-known .ensures) ∙ not-false _ (c .before .before .before .before .before .before .if3 .left)) (sym (c .before .before .before .before .before .source-known .ensures) ∙ not-false _ (c .before .before .before .before .if4 .left))
-    (c .before .before .before .before .before .before .before .before .before .before .before .settings-of .ensures) (kept-by _ _ _ e (known-by _ _ _ e (not-false _ (c .before .before .before .before .before .before .before .before .if2 .left)))) (c .before .before .state-in .ensures) (sym (c .before .whole .ensures) ∙ not-false _ (c .if5 .left))
+    let e = stashed (c .before .before .before .before .before .before .before .before .before .before .before .before .before .before .before .before .before .before .before .args .stash .now) (c .before .before .before .before .before .before .before .before .before .stash-in .ensures) (c .before .before .before .before .before .before .before .before .before .before .settings-of .ensures) in
+    c .loaded-as .ensures
+    ∙ is-loaded (c .before .before .before .before .before .before .before .before .before .before .before .before .before .before .before .before .before .before .before .args .settings .now) (c .before .before .before .before .before .before .before .before .before .before .before .before .before .before .before .before .before .before .before .args .stash .now) (c .before .before .before .before .before .before .before .before .before .before .before .before .before .before .before .before .before .before .before .args .effort .now) (c .before .before .before .before .before .before .before .before .before .before .before .before .before .before .before .before .before .before .before .args .version .now) (c .before .before .before .before .before .before .before .before .before .before .before .before .before .before .before .before .before .before .before .args .polls .now) (c .before .before .before .before .before .before .before .before .before .before .before .before .before .before .before .before .before .before .before .args .source .now) (sym (c .before .before .before .before .before .before .before .before .before .before .before .before .settings-known .ensures) ∙ not-false _ (c .before .before .before .before .before .before .before .before .before .before .before .if1 .left)) (known-by _ _ _ e (not-false _ (c .before .before .before .before .before .before .before .if2 .left))) (sym (c .before .before .before .before .before .before .version-known .ensures) ∙ not-false _ (c .before .before .before .before .before .if3 .left)) (sym (c .before .before .before .before .source-known .ensures) ∙ not-false _ (c .before .before .before .if4 .left))
+    (c .before .before .before .before .before .before .before .before .before .before .settings-of .ensures) (kept-by _ _ _ e (known-by _ _ _ e (not-false _ (c .before .before .before .before .before .before .before .if2 .left)))) (c .before .state-in .ensures)
 
 pub association-in-spec : {M : Type 1} → statement M
 association-in-spec =
@@ -101,7 +92,5 @@ association-in-spec =
     refused-requires-4
     returns-4
     state-in-requires
-    whole-requires
-    refused-requires-5
-    returns-5
-    returns-6)
+    loaded-as-requires
+    returns-5)

@@ -22,7 +22,7 @@ valid : (c : tie.Else1) → settingsValid (c .before .before .before .args .sett
 valid c = sym (c .before .valid .ensures) ∙ not-false _ (c .if1 .left)
 
 plain : (c : tie.Else2) → let a = c .before .before .before .before .before .args in N.Plain (a .settings) (a .list .now)
-plain c = record { valid = valid (c .before .before); unbroken = sym (c .before .is-broken .ensures) ∙ c .if2 .left }
+plain c = record { valid = valid (c .before .before); unbroken = sym (c .before .list-broken .ensures) ∙ c .if2 .left }
 
 slow : (c : tie.Else3) → let a = c .before .before .before .before .before .before .before .before .before .args in N.Slow (a .settings) (a .list .now)
 slow c =
@@ -48,11 +48,11 @@ valid-requires c κs = search needs
 returns : tie.Need-returns
 returns c = sym (only _ _ (bad-settings (sym (c .before .valid .ensures) ∙ not-true _ (c .if1 .taken))))
 
-is-broken-requires : tie.Need-is-broken-requires
-is-broken-requires c κs = search needs
+list-broken-requires : tie.Need-list-broken-requires
+list-broken-requires c κs = search needs
 
 returns-2 : tie.Need-returns-2
-returns-2 c = sym (only _ _ (broken-list (valid (c .before .before)) (sym (c .before .is-broken .ensures) ∙ c .if2 .taken)))
+returns-2 c = sym (only _ _ (broken-list (valid (c .before .before)) (sym (c .before .list-broken .ensures) ∙ c .if2 .taken)))
 
 returns-3 : tie.Need-returns-3
 returns-3 c =
@@ -84,7 +84,7 @@ profile-spec =
     (tie.spec
     valid-requires
     returns
-    is-broken-requires
+    list-broken-requires
     returns-2
     returns-3
     returns-4

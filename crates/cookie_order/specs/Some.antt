@@ -1,0 +1,23 @@
+-- Some of a list, in order, each place of it used at most once (RULES, No. 14).
+-- Assumes nothing.
+use mathlib.Core.Path.{_≡_}
+use mathlib.Core.List.{List, [], _∷_, map}
+use Prim.Native.Nat.{ℕ, suc, _≤_}
+use lib.ListN.{getD}
+
+-- by walking along the list: what stands at a place is taken, or passed over, and then those behind it
+pub data SomeOf {A : Type 0} : List A → List A → Type 0 where
+  none : SomeOf [] []
+  take : {x : A} {xs ys : List A} → SomeOf xs ys → SomeOf (x ∷ xs) (x ∷ ys)
+  pass : {y : A} {xs ys : List A} → SomeOf xs ys → SomeOf xs (y ∷ ys)
+
+-- places, each above the one before it
+abbrev pub Rising : ℕ → List ℕ → Type 0
+Rising least [] = Unit {0}
+Rising least (p ∷ ps) = (least ≤ p) × Rising (suc p) ps
+
+-- by the places: they rise, so none is used twice, and what is taken stands there
+pub record Placed {A : Type 0} (d : A) (xs ys : List A) : Type 0 where
+  pub places : List ℕ
+  pub rising : Rising 0 places
+  pub there : xs ≡ map (λ p. getD ys p d) places

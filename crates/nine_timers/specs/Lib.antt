@@ -1,0 +1,2 @@
+-- Nine timers in a row.
+pub mod Nine
