@@ -528,7 +528,7 @@ impl Association {
     /// let before = old.clone();
     /// let mut file = [0; FILE_BYTES];
     /// let length = old.save(&mut file).unwrap();
-    /// assert_eq!((length, &file[..2], old.cookies()), (68, &b"SE"[..], 0));
+    /// assert_eq!((length, &file[..2], old.cookies()), (69, &b"SE"[..], 0));
     /// // The box that is swapped in: the same association, as long as nothing was sent.
     /// assert_eq!(Association::load(&file[..length]).unwrap().association, before);
     /// ```
