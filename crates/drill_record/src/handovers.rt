@@ -1,12 +1,12 @@
 // The calls save and load.
-use crate::FILLER;
-use crate::Ran;
 use association::Association;
 use drill_text::keys;
 use drill_text::print;
+use drill_text::run::Ran;
 use drill_text::text;
 use drill_text::value;
 use drill_text::value::FILE_ROOM;
+use drill_text::value::FILLER;
 use handover_file::SaveAnswer;
 
 // The key of each call, by its place in its table.
@@ -25,8 +25,7 @@ fn put_saved(out: &mut [u8], answer: SaveAnswer, buffer: &[u8]) -> usize {
         return at;
     };
     let at = print::number(out, at, b" len=", len as u64);
-    let at = print::text(out, at, b" file=");
-    print::bytes(out, at, text::part(buffer, 0, len))
+    print::field(out, at, b" file=", text::part(buffer, 0, len))
 }
 
 // The association goes into a buffer of so many bytes, and comes back without its cookies where it did.
@@ -56,11 +55,7 @@ fn put_retired(out: &mut [u8], at: usize, number: u8, retired: bool) -> usize {
     if number != 0 {
         return at;
     }
-    if retired {
-        print::text(out, at, b" retired=yes")
-    } else {
-        print::text(out, at, b" retired=no")
-    }
+    print::choice(out, at, b" retired=", retired)
 }
 
 // The association of a file takes the place of the one before it, the blank record where the file is refused.

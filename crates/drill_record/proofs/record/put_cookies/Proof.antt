@@ -4,8 +4,8 @@ use Prim.Native.Nat.{_-_}
 use mathlib.Core.Path.{_≡_}
 use borrow.Author.Needs.{needs}
 use lib.ListN.{length}
-use Rattle.drill_calls.proofs.record.put_cookies.Statement.{statement}
-use Rattle.drill_calls.proofs.record.put_cookies.Tie as tie
+use Rattle.drill_record.proofs.record.put_cookies.Statement.{statement}
+use Rattle.drill_record.proofs.record.put_cookies.Tie as tie
 
 abbrev Inv-loop : tie.InvT-loop
 Inv-loop out₀ from capacity rest₀ at₀ separator₀ i₀ out rest at separator i = length out ≡ length out₀

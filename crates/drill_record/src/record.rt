@@ -1,8 +1,8 @@
 // The commands on the record itself: show, cookies, blank, poke.
-use crate::Ran;
-use crate::calls;
 use association::Association;
+use association::Effort;
 use association::Pending;
+use association::Polls;
 use association::Settings;
 use association::Source;
 use association::State;
@@ -12,6 +12,8 @@ use cookiestash::SLOT_BYTES;
 use cookiestash::Slot;
 use drill_text::keys;
 use drill_text::print;
+use drill_text::run;
+use drill_text::run::Ran;
 use drill_text::text;
 use drill_text::text::Found;
 use drill_text::value;
@@ -103,16 +105,8 @@ fn put_request(out: &mut [u8], at: usize, request: Pending) -> usize {
     print::decimal(out, at, request.deadline)
 }
 
-fn put_denial(out: &mut [u8], at: usize, denial: bool) -> usize {
-    if denial {
-        print::text(out, at, b" denial=yes")
-    } else {
-        print::text(out, at, b" denial=no")
-    }
-}
-
 fn put_source(out: &mut [u8], at: usize, source: Source) -> usize {
-    let at = put_denial(out, at, source.denial);
+    let at = print::choice(out, at, b" denial=", source.denial);
     let at = print::number(out, at, b" stratum=", source.stratum as u64);
     let refid = source.refid;
     print::identifier(out, at, b" refid=", refid.0)
@@ -139,27 +133,27 @@ fn put_stash(out: &mut [u8], at: usize, stash: CookieStash) -> usize {
     put_lengths(out, at, stash)
 }
 
-fn put_answered(out: &mut [u8], at: usize, answered: bool) -> usize {
-    if answered {
-        print::text(out, at, b" answered=yes")
-    } else {
-        print::text(out, at, b" answered=no")
-    }
+fn put_effort(out: &mut [u8], effort: Effort) -> usize {
+    let reach = effort.reach;
+    let at = print::number(out, 0, b"record reach=", reach.0 as u64);
+    print::number(out, at, b" tries=", effort.tries as u64)
+}
+
+fn put_polls(out: &mut [u8], at: usize, polls: Polls) -> usize {
+    let last = polls.last;
+    let at = print::small(out, at, b" last=", last.0);
+    let remote = polls.remote;
+    print::small(out, at, b" remote=", remote.0)
 }
 
 // How the polls went, and how the next ones go.
 fn put_polling(out: &mut [u8], state: State) -> usize {
     let effort = state.effort;
-    let reach = effort.reach;
-    let at = print::number(out, 0, b"record reach=", reach.0 as u64);
-    let at = print::number(out, at, b" tries=", effort.tries as u64);
+    let at = put_effort(out, effort);
     let version = state.version;
     let at = put_version(out, at, version);
     let polls = state.polls;
-    let last = polls.last;
-    let at = print::small(out, at, b" last=", last.0);
-    let remote = polls.remote;
-    print::small(out, at, b" remote=", remote.0)
+    put_polls(out, at, polls)
 }
 
 // What is awaited, and what came.
@@ -173,19 +167,12 @@ fn put_answers(out: &mut [u8], at: usize, state: State) -> usize {
 // Whether a reply was measured since the last sent poll, and how many polls were sent since the newest answer.
 fn put_since(out: &mut [u8], at: usize, state: State) -> usize {
     let request = state.request;
-    let at = put_answered(out, at, request.answered);
+    let at = print::choice(out, at, b" answered=", request.answered);
     let effort = state.effort;
     print::number(out, at, b" unanswered=", effort.unanswered as u64)
 }
 
-pub fn show(a: Association, line: &[u8], number: u64, out: &mut [u8]) -> Ran {
-    let v = keys::read(line, number, b"", out);
-    if v.refused {
-        return Ran {
-            association: a,
-            end: v.end,
-        };
-    }
+fn put_record(out: &mut [u8], a: Association) -> usize {
     let state = a.state;
     let at = put_polling(out, state);
     let at = put_answers(out, at, state);
@@ -193,11 +180,15 @@ pub fn show(a: Association, line: &[u8], number: u64, out: &mut [u8]) -> Ran {
     let at = put_stash(out, at, stash);
     let at = put_since(out, at, state);
     let settings = a.settings;
-    let end = print::number(out, at, b" capacity=", settings.capacity as u64);
-    Ran {
-        association: a,
-        end,
+    print::number(out, at, b" capacity=", settings.capacity as u64)
+}
+
+pub fn show(a: Association, line: &[u8], number: u64, out: &mut [u8]) -> usize {
+    let v = keys::read(line, number, b"", out);
+    if v.refused {
+        return v.end;
     }
+    put_record(out, a)
 }
 
 // The stored bytes of a cookie, of which one that is longer than a slot has none.
@@ -228,29 +219,23 @@ fn put_cookies(out: &mut [u8], from: usize, stash: CookieStash, capacity: u8) ->
     at
 }
 
-pub fn cookies(a: Association, line: &[u8], number: u64, out: &mut [u8]) -> Ran {
-    let v = keys::read(line, number, b"", out);
-    if v.refused {
-        return Ran {
-            association: a,
-            end: v.end,
-        };
-    }
+// How many cookies a record holds, and each; none where the record is not whole.
+fn put_held(out: &mut [u8], a: Association) -> usize {
     if !a.whole() {
-        let end = print::text(out, 0, b"cookies 0");
-        return Ran {
-            association: a,
-            end,
-        };
+        return print::text(out, 0, b"cookies 0");
     }
     let stash = a.stash;
     let at = print::number(out, 0, b"cookies ", stash.held as u64);
     let settings = a.settings;
-    let end = put_cookies(out, at, stash, settings.capacity);
-    Ran {
-        association: a,
-        end,
+    put_cookies(out, at, stash, settings.capacity)
+}
+
+pub fn cookies(a: Association, line: &[u8], number: u64, out: &mut [u8]) -> usize {
+    let v = keys::read(line, number, b"", out);
+    if v.refused {
+        return v.end;
     }
+    put_held(out, a)
 }
 
 pub fn blank(a: Association, line: &[u8], number: u64, out: &mut [u8]) -> Ran {
@@ -297,7 +282,7 @@ fn poke_state(state: State, key: usize, n: u64) -> State {
             polls.last = poll;
         }
         field::VERSION => {
-            version = calls::version_of(n);
+            version = run::version_of(n);
         }
         _ => {
             polls.remote = poll;
@@ -402,13 +387,21 @@ fn poke_settings(settings: Settings, key: usize, n: u64) -> Settings {
             next.capacity = small;
         }
         field::START => {
-            let start = calls::version_of(n);
+            let start = run::version_of(n);
             next.start = start;
         }
         _ => {
             next.window = n;
         }
     }
+    next
+}
+
+fn poke_pending(state: State, key: usize, n: u64, digits: &[u8]) -> State {
+    let mut next = state;
+    let request = state.request;
+    let request = poke_request(request, key, n, digits);
+    next.request = request;
     next
 }
 
@@ -422,10 +415,8 @@ fn poked(a: Association, key: usize, n: u64, digits: &[u8]) -> Association {
             next.state = state;
         }
         field::ID..=field::ANSWERED => {
-            let mut state = a.state;
-            let request = state.request;
-            let request = poke_request(request, key, n, digits);
-            state.request = request;
+            let state = a.state;
+            let state = poke_pending(state, key, n, digits);
             next.state = state;
         }
         field::READ..=field::SLOTBYTE => {
@@ -442,6 +433,25 @@ fn poked(a: Association, key: usize, n: u64, digits: &[u8]) -> Association {
     next
 }
 
+// A poke that is refused leaves the record as it was.
+fn refused(a: Association, number: u64, what: &[u8], out: &mut [u8]) -> Ran {
+    let end = print::error(out, number, what, b"");
+    Ran {
+        association: a,
+        end,
+    }
+}
+
+// Sets the number of a key to a value, which has to be of the key's kind.
+fn poke_to(a: Association, key: usize, kind: u8, value: &[u8], number: u64, out: &mut [u8]) -> Ran {
+    let Number::Is(n) = value::parse(kind, value) else {
+        return refused(a, number, b"bad value", out);
+    };
+    let association = poked(a, key, n, value);
+    let end = print::text(out, 0, b"poke");
+    Ran { association, end }
+}
+
 // Sets one number of the record. `table` has the keys that it takes, with the kind of each.
 fn poke_by(
     a: Association,
@@ -452,22 +462,9 @@ fn poke_by(
     out: &mut [u8],
 ) -> Ran {
     let Found::At(i) = text::index_of(table, key) else {
-        let end = print::error(out, number, b"bad key", b"");
-        return Ran {
-            association: a,
-            end,
-        };
+        return refused(a, number, b"bad key", out);
     };
-    let Number::Is(n) = value::parse(keys::kind_of(table, i), value) else {
-        let end = print::error(out, number, b"bad value", b"");
-        return Ran {
-            association: a,
-            end,
-        };
-    };
-    let association = poked(a, i, n, value);
-    let end = print::text(out, 0, b"poke");
-    Ran { association, end }
+    poke_to(a, i, keys::kind_of(table, i), value, number, out)
 }
 
 // The keys of poke: reach, tries, unanswered, stratum, startup and capacity are unsigned 8-bit numbers, refid is 8 hexadecimal digits, last, remote, min

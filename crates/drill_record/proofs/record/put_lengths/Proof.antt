@@ -4,8 +4,8 @@ use Prim.Native.Nat.{_-_}
 use mathlib.Core.Path.{_≡_}
 use borrow.Author.Needs.{needs}
 use lib.ListN.{length}
-use Rattle.drill_calls.proofs.record.put_lengths.Statement.{statement}
-use Rattle.drill_calls.proofs.record.put_lengths.Tie as tie
+use Rattle.drill_record.proofs.record.put_lengths.Statement.{statement}
+use Rattle.drill_record.proofs.record.put_lengths.Tie as tie
 
 abbrev Inv-loop : tie.InvT-loop
 Inv-loop out₀ from stash at₀ i₀ out at i = length out ≡ length out₀

@@ -1,6 +1,4 @@
 // The call salvage.
-use crate::Ran;
-use association::Association;
 use drill_text::keys;
 use drill_text::print;
 use drill_text::text;
@@ -44,9 +42,8 @@ fn put_report(out: &mut [u8], at: usize, s: Salvaged, buffer: &[u8]) -> usize {
     let at = print::number(out, at, b" gaps=", s.gaps as u64);
     let at = print::text(out, at, b" at=");
     let at = put_places(out, at, s);
-    let at = print::text(out, at, b" list=");
     let len = s.len;
-    print::bytes(out, at, text::part(buffer, 0, len))
+    print::field(out, at, b" list=", text::part(buffer, 0, len))
 }
 
 fn put_salvaged(out: &mut [u8], list: &[u8], buffer: &mut [u8]) -> usize {
@@ -58,21 +55,14 @@ fn put_salvaged(out: &mut [u8], list: &[u8], buffer: &mut [u8]) -> usize {
     put_report(out, at, s, buffer)
 }
 
-pub fn salvage(a: Association, line: &[u8], number: u64, out: &mut [u8]) -> Ran {
+pub fn salvage(line: &[u8], number: u64, out: &mut [u8]) -> usize {
     let v = keys::read(line, number, b"list:h room:w=4096", out);
     if v.refused {
-        return Ran {
-            association: a,
-            end: v.end,
-        };
+        return v.end;
     }
     let mut list = [0u8; MAX_BYTES];
     let len = v.bytes(key::LIST, line, &mut list);
     let mut buffer = [0u8; COLLECT_ROOM];
     let room = value::at_most(v.number(key::ROOM), COLLECT_ROOM);
-    let end = put_salvaged(out, text::part(&list, 0, len), &mut buffer[0..room]);
-    Ran {
-        association: a,
-        end,
-    }
+    put_salvaged(out, text::part(&list, 0, len), &mut buffer[0..room])
 }

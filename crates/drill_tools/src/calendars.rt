@@ -1,9 +1,8 @@
-// The calls calendar and plan, which neither read nor change the association.
-use crate::Ran;
-use association::Association;
+// The calls calendar and plan.
 use calendar::CheckAnswer;
 use calendar::PlanAnswer;
 use drill_text::keys;
+use drill_text::keys::Values;
 use drill_text::print;
 use drill_text::value;
 use drill_text::value::MAX_ENTRIES;
@@ -21,25 +20,28 @@ mod plan_key {
     pub const REPEATS: usize = 1;
 }
 
+// The entry that an answer names.
+fn put_entry(out: &mut [u8], at: usize, k: usize) -> usize {
+    print::number(out, at, b" entry=", k as u64)
+}
+
+fn put_minute(out: &mut [u8], at: usize, m: usize) -> usize {
+    print::number(out, at, b" minute=", m as u64)
+}
+
 fn put_checked(out: &mut [u8], answer: CheckAnswer) -> usize {
     let at = print::number(out, 0, b"calendar ", answer.number() as u64);
     match answer {
-        CheckAnswer::BadRepeat(k) => print::number(out, at, b" entry=", k as u64),
-        CheckAnswer::LateStart(k) => print::number(out, at, b" entry=", k as u64),
-        CheckAnswer::OverCap(m) => print::number(out, at, b" minute=", m as u64),
+        CheckAnswer::BadRepeat(k) => put_entry(out, at, k),
+        CheckAnswer::LateStart(k) => put_entry(out, at, k),
+        CheckAnswer::OverCap(m) => put_minute(out, at, m),
         CheckAnswer::TooMany => at,
         CheckAnswer::Accepted => at,
     }
 }
 
-pub fn calendar(a: Association, line: &[u8], number: u64, out: &mut [u8]) -> Ran {
-    let v = keys::read(line, number, b"cap:u entries:j", out);
-    if v.refused {
-        return Ran {
-            association: a,
-            end: v.end,
-        };
-    }
+// The answer to a calendar whose line is read.
+fn checked(v: Values, line: &[u8], out: &mut [u8]) -> usize {
     let mut starts = [0u16; MAX_ENTRIES];
     let mut repeats = [0u16; MAX_ENTRIES];
     value::entries(
@@ -53,11 +55,20 @@ pub fn calendar(a: Association, line: &[u8], number: u64, out: &mut [u8]) -> Ran
         &starts[0..count],
         &repeats[0..count],
     );
-    let end = put_checked(out, answer);
-    Ran {
-        association: a,
-        end,
+    put_checked(out, answer)
+}
+
+pub fn calendar(line: &[u8], number: u64, out: &mut [u8]) -> usize {
+    let v = keys::read(line, number, b"cap:u entries:j", out);
+    if v.refused {
+        return v.end;
     }
+    checked(v, line, out)
+}
+
+fn put_starts(out: &mut [u8], at: usize, starts: &[u16]) -> usize {
+    let at = print::text(out, at, b" starts=");
+    print::joined(out, at, starts)
 }
 
 // The planner's answer, with a buffer of as many starts as there are repeats lent.
@@ -65,37 +76,32 @@ fn put_planned(out: &mut [u8], cap: u8, repeats: &[u16], starts: &mut [u16]) -> 
     let answer = calendar::plan(cap, repeats, starts);
     let at = print::number(out, 0, b"plan ", answer.number() as u64);
     match answer {
-        PlanAnswer::Planned => {
-            let at = print::text(out, at, b" starts=");
-            print::joined(out, at, starts)
-        }
-        PlanAnswer::BadRepeat(k) => print::number(out, at, b" entry=", k as u64),
-        PlanAnswer::NoFit(k) => print::number(out, at, b" entry=", k as u64),
+        PlanAnswer::Planned => put_starts(out, at, starts),
+        PlanAnswer::BadRepeat(k) => put_entry(out, at, k),
+        PlanAnswer::NoFit(k) => put_entry(out, at, k),
         PlanAnswer::TooMany => at,
         PlanAnswer::NoRoom => at,
     }
 }
 
-pub fn plan(a: Association, line: &[u8], number: u64, out: &mut [u8]) -> Ran {
-    let v = keys::read(line, number, b"cap:u repeats:z", out);
-    if v.refused {
-        return Ran {
-            association: a,
-            end: v.end,
-        };
-    }
+// The answer to a plan whose line is read.
+fn planned(v: Values, line: &[u8], out: &mut [u8]) -> usize {
     let mut repeats = [0u16; MAX_ENTRIES];
     value::repeats(v.text(plan_key::REPEATS, line), &mut repeats);
     let count = value::at_most(v.number(plan_key::REPEATS), MAX_ENTRIES);
     let mut starts = [0u16; MAX_ENTRIES];
-    let end = put_planned(
+    put_planned(
         out,
         v.unsigned8(plan_key::CAP),
         &repeats[0..count],
         &mut starts[0..count],
-    );
-    Ran {
-        association: a,
-        end,
+    )
+}
+
+pub fn plan(line: &[u8], number: u64, out: &mut [u8]) -> usize {
+    let v = keys::read(line, number, b"cap:u repeats:z", out);
+    if v.refused {
+        return v.end;
     }
+    planned(v, line, out)
 }

@@ -1,13 +1,11 @@
 // The call request.
-use crate::FILLER;
-use crate::Ran;
-use association::Association;
 use drill_text::keys;
 use drill_text::keys::Values;
 use drill_text::names::send;
 use drill_text::print;
 use drill_text::text;
 use drill_text::value;
+use drill_text::value::FILLER;
 use drill_text::value::MAX_BYTES;
 use drill_text::value::REQUEST_ROOM;
 use drill_text::value::UID_BYTES;
@@ -52,8 +50,7 @@ fn put_requested(out: &mut [u8], answer: Requested, buffer: &[u8]) -> usize {
         return at;
     };
     let at = print::number(out, at, b" len=", len as u64);
-    let at = print::text(out, at, b" packet=");
-    print::bytes(out, at, text::part(buffer, 0, len))
+    print::field(out, at, b" packet=", text::part(buffer, 0, len))
 }
 
 fn request_over(
@@ -77,7 +74,7 @@ fn request_over(
     put_requested(out, answer, buffer)
 }
 
-pub fn request(a: Association, line: &[u8], number: u64, out: &mut [u8]) -> Ran {
+pub fn request(line: &[u8], number: u64, out: &mut [u8]) -> usize {
     let v = keys::read(
         line,
         number,
@@ -85,10 +82,7 @@ pub fn request(a: Association, line: &[u8], number: u64, out: &mut [u8]) -> Ran 
         out,
     );
     if v.refused {
-        return Ran {
-            association: a,
-            end: v.end,
-        };
+        return v.end;
     }
     let mut uid = [0u8; UID_BYTES];
     v.bytes(key::UID, line, &mut uid);
@@ -96,15 +90,11 @@ pub fn request(a: Association, line: &[u8], number: u64, out: &mut [u8]) -> Ran 
     let len = v.bytes(key::COOKIE, line, &mut cookie);
     let mut buffer = [FILLER; REQUEST_ROOM];
     let room = value::at_most(v.number(key::ROOM), REQUEST_ROOM);
-    let end = request_over(
+    request_over(
         v,
         uid,
         text::part(&cookie, 0, len),
         &mut buffer[0..room],
         out,
-    );
-    Ran {
-        association: a,
-        end,
-    }
+    )
 }
