@@ -24,7 +24,7 @@ LOCK = os.path.join(TARGET, 'drill.lock')
 # Seconds that each crate's check took by the clock, two at a time on two idle cores (docs/LANDINGS.md). They serve to say how much is left, and nothing else.
 SECONDS = dict(words=8, identifiers=2, reach=3, cookielist=5, cookiestash=21, lent_stash=26, version=5, time_types=6, header=16, fields=8, uid_groups=9,
                collector=11, association=13, timer_rules=15, timer=14, incoming=16, reply_clauses=12, reply_rules=22, reply=19, accept=9, request=20, walker=6,
-               salvage=10, calendar=22, drill_text=65, drill_calls=126, drill=62)
+               salvage=10, calendar=22, drill_text=71, drill_tools=50, drill_record=66, drill_calls=65, drill=71)
 TOGETHER = 0.8  # two crates at a time, but for those that wait for each other
 PROVED = re.compile(r'rt: (\w+) proved \((unchanged)?')
 
@@ -51,8 +51,8 @@ def kit():
     return os.environ.get('RATTLE_HOME') or os.path.dirname(os.path.dirname(os.path.realpath(rt)))
 
 
-def command():
-    """what runs the program: it is for x86-64 Linux, so the toolchain's loader and C library run it, and elsewhere an emulator runs those"""
+def command(program=PROGRAM):
+    """what runs a program: it is for x86-64 Linux, so the toolchain's loader and C library run it, and elsewhere an emulator runs those"""
     home, machine = kit(), platform.machine()
     tools = os.path.join(home, 'on', machine, 'toolchain')
     if not os.path.isdir(tools):
@@ -68,7 +68,7 @@ def command():
         elif not emulator:
             die('the program is for x86-64, this machine is %s, and there is no emulator: neither %s nor qemu-x86_64 on the PATH (Debian: apt-get install qemu-user)'
                 % (machine, os.path.join(tools, 'bin', 'qemu-x86_64')))
-    return ([emulator] if emulator else []) + [loader, '--library-path', os.path.join(tools, 'lib'), PROGRAM]
+    return ([emulator] if emulator else []) + [loader, '--library-path', os.path.join(tools, 'lib'), program]
 
 
 # ---- what was proved

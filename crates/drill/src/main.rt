@@ -2,19 +2,20 @@
 // Promises: it ends and stays in its bounds. What it prints is tested, not proved: tools/reference and the crate have the same answers (docs/EXCEPTIONS.md).
 // Rule: the language is docs/DRILL.md's, the numbers are those of RULES.
 use association::Association;
-use drill_calls::Ran;
-use drill_calls::calendars;
 use drill_calls::calls;
-use drill_calls::handovers;
 use drill_calls::polls;
 use drill_calls::profiles;
-use drill_calls::record;
 use drill_calls::replies;
-use drill_calls::requests;
-use drill_calls::salvages;
+use drill_record::handovers;
+use drill_record::record;
 use drill_text::print;
+use drill_text::run::Ran;
 use drill_text::text;
 use drill_text::text::Found;
+use drill_tools::calendars;
+use drill_tools::collects;
+use drill_tools::requests;
+use drill_tools::salvages;
 use libc::STDIN_FILENO;
 use libc::STDOUT_FILENO;
 
@@ -26,43 +27,43 @@ const MAX_ANSWER: usize = 16384;
 // The first argument that names a log; before it stands the program's own name.
 const FIRST_LOG: usize = 1;
 
-// The commands, by their places in their table.
+// The commands, by their places in their table: first those that give the next association, then those that leave it as it is.
 mod command {
     pub const NEW: usize = 0;
 
-    pub const TIMER: usize = 1;
+    pub const METERED: usize = 1;
 
-    pub const REPLY: usize = 2;
+    pub const LOAD: usize = 2;
 
-    pub const REPLY5: usize = 3;
+    pub const BLANK: usize = 3;
 
-    pub const ACCEPT: usize = 4;
+    pub const TIMER: usize = 4;
 
-    pub const COLLECT: usize = 5;
+    pub const REPLY: usize = 5;
 
-    pub const SHOW: usize = 6;
+    pub const REPLY5: usize = 6;
 
-    pub const COOKIES: usize = 7;
+    pub const POKE: usize = 7;
 
-    pub const BLANK: usize = 8;
+    pub const SAVE: usize = 8;
 
-    pub const POKE: usize = 9;
+    pub const ACCEPT: usize = 9;
 
-    pub const REQUEST: usize = 10;
+    pub const SHOW: usize = 10;
 
-    pub const SALVAGE: usize = 11;
+    pub const COOKIES: usize = 11;
 
-    pub const CALENDAR: usize = 12;
+    pub const COLLECT: usize = 12;
 
-    pub const PLAN: usize = 13;
+    pub const REQUEST: usize = 13;
 
-    pub const METERED: usize = 14;
+    pub const SALVAGE: usize = 14;
 
-    pub const PROFILE: usize = 15;
+    pub const CALENDAR: usize = 15;
 
-    pub const SAVE: usize = 16;
+    pub const PLAN: usize = 16;
 
-    pub const LOAD: usize = 17;
+    pub const PROFILE: usize = 17;
 
     pub const UNKNOWN: usize = 18;
 }
@@ -93,7 +94,7 @@ fn start() -> Log {
 // Which command a line's word is.
 fn command_of(word: &[u8]) -> usize {
     match text::index_of(
-        b"new timer reply reply5 accept collect show cookies blank poke request salvage calendar plan metered profile save load",
+        b"new metered load blank timer reply reply5 poke save accept show cookies collect request salvage calendar plan profile",
         word,
     ) {
         Found::At(i) => i,
@@ -101,34 +102,46 @@ fn command_of(word: &[u8]) -> usize {
     }
 }
 
-fn answer(a: Association, line: &[u8], number: u64, out: &mut [u8]) -> Ran {
-    let word = text::part(line, 0, text::find(line, 0, b' ', b' '));
-    match command_of(word) {
+// The commands that give the next association.
+fn change(command: usize, a: Association, line: &[u8], number: u64, out: &mut [u8]) -> Ran {
+    match command {
         command::NEW => calls::new(a, line, number, out),
+        command::METERED => profiles::metered(a, line, number, out),
+        command::LOAD => handovers::load(a, line, number, out),
+        command::BLANK => record::blank(a, line, number, out),
         command::TIMER => polls::timer(a, line, number, out),
         command::REPLY => replies::reply(a, line, number, out),
         command::REPLY5 => replies::reply5(a, line, number, out),
+        command::POKE => record::poke(a, line, number, out),
+        _ => handovers::save(a, line, number, out),
+    }
+}
+
+// The commands that only read the association, or have none: where the answer ends.
+fn told(command: usize, a: Association, line: &[u8], number: u64, out: &mut [u8]) -> usize {
+    match command {
         command::ACCEPT => calls::accept(a, line, number, out),
-        command::COLLECT => calls::collect(a, line, number, out),
         command::SHOW => record::show(a, line, number, out),
         command::COOKIES => record::cookies(a, line, number, out),
-        command::BLANK => record::blank(a, line, number, out),
-        command::POKE => record::poke(a, line, number, out),
-        command::REQUEST => requests::request(a, line, number, out),
-        command::SALVAGE => salvages::salvage(a, line, number, out),
-        command::CALENDAR => calendars::calendar(a, line, number, out),
-        command::PLAN => calendars::plan(a, line, number, out),
-        command::METERED => profiles::metered(a, line, number, out),
-        command::PROFILE => profiles::profile(a, line, number, out),
-        command::SAVE => handovers::save(a, line, number, out),
-        command::LOAD => handovers::load(a, line, number, out),
-        _ => {
-            let end = print::error(out, number, b"unknown command", b"");
-            Ran {
-                association: a,
-                end,
-            }
-        }
+        command::COLLECT => collects::collect(line, number, out),
+        command::REQUEST => requests::request(line, number, out),
+        command::SALVAGE => salvages::salvage(line, number, out),
+        command::CALENDAR => calendars::calendar(line, number, out),
+        command::PLAN => calendars::plan(line, number, out),
+        command::PROFILE => profiles::profile(line, number, out),
+        _ => print::error(out, number, b"unknown command", b""),
+    }
+}
+
+fn answer(a: Association, line: &[u8], number: u64, out: &mut [u8]) -> Ran {
+    let command = command_of(text::part(line, 0, text::find(line, 0, b' ', b' ')));
+    if command < command::ACCEPT {
+        return change(command, a, line, number, out);
+    }
+    let end = told(command, a, line, number, out);
+    Ran {
+        association: a,
+        end,
     }
 }
 

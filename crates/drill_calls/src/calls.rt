@@ -1,23 +1,20 @@
-// The calls new, accept and collect.
-use crate::Ran;
+// The calls new and accept.
 use crate::replies;
 use accept::Bloom;
 use association::Association;
 use association::Settings;
-use collector::Collected;
 use cookiestash::Dropped;
 use drill_text::keys;
 use drill_text::keys::Values;
 use drill_text::names;
 use drill_text::print;
+use drill_text::run;
+use drill_text::run::Ran;
 use drill_text::text;
 use drill_text::value;
-use drill_text::value::COLLECT_ROOM;
 use drill_text::value::MAX_BYTES;
 use identifiers::ReferenceId;
 use time_types::PollInterval;
-use version::ProtocolVersion;
-use version::Version;
 
 // More identifiers than a line has room for.
 const MAX_IDENTIFIERS: usize = 4096;
@@ -53,30 +50,6 @@ mod accept_key {
     pub const BLOOM: usize = 2;
 }
 
-mod collect_key {
-    pub const PLAIN: usize = 0;
-
-    pub const ROOM: usize = 1;
-}
-
-// The version that a value's number names.
-pub fn version_of(n: u64) -> Version {
-    match n {
-        names::start::V4 => Version {
-            kind: ProtocolVersion::V4,
-        },
-        names::start::UPGRADED => Version {
-            kind: ProtocolVersion::Upgraded,
-        },
-        names::start::V5 => Version {
-            kind: ProtocolVersion::V5,
-        },
-        _ => Version {
-            kind: ProtocolVersion::Upgrading(value::low8(n)),
-        },
-    }
-}
-
 pub fn settings_of(v: Values) -> Settings {
     Settings {
         min: PollInterval(v.signed8(new_key::MIN)),
@@ -84,7 +57,7 @@ pub fn settings_of(v: Values) -> Settings {
         startup: v.unsigned8(new_key::STARTUP),
         window: v.number(new_key::WINDOW),
         upgrademark: v.number(new_key::MARK),
-        start: version_of(v.number(new_key::START)),
+        start: run::version_of(v.number(new_key::START)),
         nts: v.number(new_key::NTS) == names::choice::YES,
         source: ReferenceId(v.unsigned32(new_key::SOURCE)),
         capacity: v.unsigned8(new_key::CAPACITY),
@@ -140,14 +113,8 @@ fn bloom_of(n: u64) -> Bloom {
     }
 }
 
-pub fn accept(a: Association, line: &[u8], number: u64, out: &mut [u8]) -> Ran {
-    let v = keys::read(line, number, b"stratum:u local:d=- bloom:m=none", out);
-    if v.refused {
-        return Ran {
-            association: a,
-            end: v.end,
-        };
-    }
+// The answer over an association whose line is read.
+fn accepted(a: Association, v: Values, line: &[u8], out: &mut [u8]) -> usize {
     let mut local = [0u32; MAX_IDENTIFIERS];
     value::identifiers(v.text(accept_key::LOCAL, line), &mut local);
     let count = v.number(accept_key::LOCAL) as usize;
@@ -157,11 +124,15 @@ pub fn accept(a: Association, line: &[u8], number: u64, out: &mut [u8]) -> Ran {
         part32(&local, count),
         bloom_of(v.number(accept_key::BLOOM)),
     );
-    let end = print::number(out, 0, b"accept ", answer.number() as u64);
-    Ran {
-        association: a,
-        end,
+    print::number(out, 0, b"accept ", answer.number() as u64)
+}
+
+pub fn accept(a: Association, line: &[u8], number: u64, out: &mut [u8]) -> usize {
+    let v = keys::read(line, number, b"stratum:u local:d=- bloom:m=none", out);
+    if v.refused {
+        return v.end;
     }
+    accepted(a, v, line, out)
 }
 
 // The first so many of a list.
@@ -170,35 +141,5 @@ fn part32(s: &[u32], count: usize) -> &[u32] {
         &s[0..count]
     } else {
         &s[0..0]
-    }
-}
-
-// The collector's answer over decrypted bytes, with a buffer of so many bytes lent.
-fn put_collected(out: &mut [u8], decrypted: &[u8], buffer: &mut [u8]) -> usize {
-    let collected = collector::collect(decrypted, buffer);
-    let at = print::number(out, 0, b"collect ", collected.number() as u64);
-    let Collected::Done(len) = collected else {
-        return at;
-    };
-    let at = print::text(out, at, b" list=");
-    print::bytes(out, at, text::part(buffer, 0, len))
-}
-
-pub fn collect(a: Association, line: &[u8], number: u64, out: &mut [u8]) -> Ran {
-    let v = keys::read(line, number, b"plain:h room:w=4096", out);
-    if v.refused {
-        return Ran {
-            association: a,
-            end: v.end,
-        };
-    }
-    let mut decrypted = [0u8; MAX_BYTES];
-    let len = v.bytes(collect_key::PLAIN, line, &mut decrypted);
-    let mut buffer = [0u8; COLLECT_ROOM];
-    let room = value::at_most(v.number(collect_key::ROOM), COLLECT_ROOM);
-    let end = put_collected(out, text::part(&decrypted, 0, len), &mut buffer[0..room]);
-    Ran {
-        association: a,
-        end,
     }
 }

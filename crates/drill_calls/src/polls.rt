@@ -1,12 +1,13 @@
 // The call timer.
-use crate::FILLER;
-use crate::Ran;
 use association::Association;
 use drill_text::keys;
 use drill_text::keys::Values;
+use drill_text::names::send;
 use drill_text::print;
+use drill_text::run::Ran;
 use drill_text::text;
 use drill_text::value;
+use drill_text::value::FILLER;
 use drill_text::value::TIMER_ROOM;
 use drill_text::value::UID_BYTES;
 use time_types::PollInterval;
@@ -26,14 +27,40 @@ mod key {
     pub const ROOM: usize = 4;
 }
 
-fn put_kind(out: &mut [u8], at: usize, kind: SendKind) -> usize {
+// The number of a kind among the words of its kind of value.
+fn number_of(kind: SendKind) -> u64 {
     match kind {
-        SendKind::V4 => print::text(out, at, b" send=v4"),
-        SendKind::V4Upgrade => print::text(out, at, b" send=v4-upgrade"),
-        SendKind::V5 => print::text(out, at, b" send=v5"),
-        SendKind::NtsV4 => print::text(out, at, b" send=nts-v4"),
-        SendKind::NtsV5 => print::text(out, at, b" send=nts-v5"),
+        SendKind::V4 => send::V4,
+        SendKind::V4Upgrade => send::V4_UPGRADE,
+        SendKind::V5 => send::V5,
+        SendKind::NtsV4 => send::NTS_V4,
+        SendKind::NtsV5 => send::NTS_V5,
     }
+}
+
+fn put_kind(out: &mut [u8], at: usize, kind: SendKind) -> usize {
+    let at = print::text(out, at, b" send=");
+    let place = number_of(kind) as usize;
+    print::text(
+        out,
+        at,
+        text::word(b"v4 v4-upgrade v5 nts-v4 nts-v5", place),
+    )
+}
+
+// A poll that is sent, with the cookie that it takes.
+fn put_sent(
+    out: &mut [u8],
+    at: usize,
+    kind: SendKind,
+    poll: PollInterval,
+    cookie: &[u8],
+    asked: u8,
+) -> usize {
+    let at = put_kind(out, at, kind);
+    let at = print::small(out, at, b" poll=", poll.0);
+    let at = print::field(out, at, b" cookie=", cookie);
+    print::number(out, at, b" asked=", asked as u64)
 }
 
 // The timer's answer; where a poll is sent its cookie stands at the start of the buffer.
@@ -48,11 +75,8 @@ fn put_timer(out: &mut [u8], answer: TimerAnswer, buffer: &[u8]) -> usize {
     else {
         return at;
     };
-    let at = put_kind(out, at, kind);
-    let at = print::small(out, at, b" poll=", poll.0);
-    let at = print::text(out, at, b" cookie=");
-    let at = print::bytes(out, at, text::part(buffer, 0, len as usize));
-    print::number(out, at, b" asked=", asked as u64)
+    let cookie = text::part(buffer, 0, len as usize);
+    put_sent(out, at, kind, poll, cookie, asked)
 }
 
 fn timer_over(

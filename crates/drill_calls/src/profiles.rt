@@ -1,9 +1,9 @@
 // The calls metered and profile: an association for a metered link, and whether settings and list will do for one.
-use crate::Ran;
 use crate::calls;
 use association::Association;
 use association::Settings;
 use drill_text::print;
+use drill_text::run::Ran;
 use drill_text::text;
 use drill_text::value::MAX_BYTES;
 
@@ -29,20 +29,13 @@ pub fn metered(a: Association, line: &[u8], number: u64, out: &mut [u8]) -> Ran 
     made(calls::settings_of(v), text::part(&list, 0, len), out)
 }
 
-pub fn profile(a: Association, line: &[u8], number: u64, out: &mut [u8]) -> Ran {
+pub fn profile(line: &[u8], number: u64, out: &mut [u8]) -> usize {
     let v = calls::new_values(line, number, out);
     if v.refused {
-        return Ran {
-            association: a,
-            end: v.end,
-        };
+        return v.end;
     }
     let mut list = [0u8; MAX_BYTES];
     let len = v.bytes(calls::new_key::LIST, line, &mut list);
     let answer = metered::profile(calls::settings_of(v), text::part(&list, 0, len));
-    let end = print::number(out, 0, b"profile ", answer.number() as u64);
-    Ran {
-        association: a,
-        end,
-    }
+    print::number(out, 0, b"profile ", answer.number() as u64)
 }

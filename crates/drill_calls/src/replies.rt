@@ -1,5 +1,4 @@
 // The calls reply and reply5.
-use crate::Ran;
 use association::Association;
 use collector::Collected;
 use cookiestash::Dropped;
@@ -10,6 +9,7 @@ use drill_text::names::leap;
 use drill_text::names::mode;
 use drill_text::names::uid;
 use drill_text::print;
+use drill_text::run::Ran;
 use drill_text::text;
 use drill_text::value::COLLECT;
 use drill_text::value::MAX_BYTES;

@@ -176,20 +176,14 @@ pub fn kind_of(table: &[u8], key: usize) -> u8 {
     }
 }
 
-// A key's word in the table.
-fn name(table: &[u8], key: usize) -> &[u8] {
-    let at = text::entry_at(table, key);
-    text::part(table, at, text::find(table, at, b':', b' '))
-}
-
 fn refusal(out: &mut [u8], number: u64, table: &[u8], fault: Fault) -> usize {
     match fault {
         Fault::Fine => 0,
         Fault::NoPair => print::error(out, number, b"no pair", b""),
         Fault::Unknown => print::error(out, number, b"unknown key", b""),
-        Fault::Repeated(key) => print::error(out, number, b"repeated ", name(table, key)),
-        Fault::Missing(key) => print::error(out, number, b"missing ", name(table, key)),
-        Fault::Bad(key) => print::error(out, number, b"bad ", name(table, key)),
+        Fault::Repeated(key) => print::error(out, number, b"repeated ", text::word(table, key)),
+        Fault::Missing(key) => print::error(out, number, b"missing ", text::word(table, key)),
+        Fault::Bad(key) => print::error(out, number, b"bad ", text::word(table, key)),
     }
 }
 

@@ -4,5 +4,6 @@
 pub mod keys;
 pub mod names;
 pub mod print;
+pub mod run;
 pub mod text;
 pub mod value;

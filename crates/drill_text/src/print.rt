@@ -104,6 +104,22 @@ pub fn number(out: &mut [u8], at: usize, key: &[u8], n: u64) -> usize {
     decimal(out, next, n)
 }
 
+// The same of bytes.
+pub fn field(out: &mut [u8], at: usize, key: &[u8], s: &[u8]) -> usize {
+    let next = text(out, at, key);
+    bytes(out, next, s)
+}
+
+// The same of yes or no.
+pub fn choice(out: &mut [u8], at: usize, key: &[u8], yes: bool) -> usize {
+    let next = text(out, at, key);
+    if yes {
+        text(out, next, b"yes")
+    } else {
+        text(out, next, b"no")
+    }
+}
+
 pub fn small(out: &mut [u8], at: usize, key: &[u8], n: i8) -> usize {
     let next = text(out, at, key);
     let bits = words::i8_as_u8(n);

@@ -87,3 +87,9 @@ pub fn entry_at(table: &[u8], number: usize) -> usize {
     }
     at
 }
+
+// The word of the entry of a number.
+pub fn word(table: &[u8], number: usize) -> &[u8] {
+    let at = entry_at(table, number);
+    part(table, at, find(table, at, b':', b' '))
+}

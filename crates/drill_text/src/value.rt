@@ -42,6 +42,9 @@ pub const MAX_ENTRIES: usize = 128;
 // The most bytes that a hand-over file may have, and the most that its writer is lent.
 pub const FILE_ROOM: usize = 8192;
 
+// What the buffer of a timer, of a request or of a hand-over file is filled with before it is lent.
+pub const FILLER: u8 = 0xAA;
+
 // The bytes of a request's unique identifier.
 pub const UID_BYTES: usize = 32;
 

@@ -130,6 +130,29 @@ said-first : (f : List ℕ) → lengthAt f 0 ≡ bodyLength f
 unfolding lengthAt bodyLength
 said-first f = refl
 
+-- where the bodies start, by the sizes of the six and the file's length: over numbers alone, since `omega` is slow among the records
+record Starts (long k z₀ z₁ z₂ z₃ z₄ : ℕ) : Type 0 where
+  most : 36 + k ≤ long
+  held : z₁ ≡ long - 28 - (8 + k)
+  second : 0 + 4 + z₀ + 4 ≡ 8 + k
+  third : 0 + 4 + z₀ + 4 + z₁ + 4 ≡ long - 28 + 4
+  fourth : 0 + 4 + z₀ + 4 + z₁ + 4 + z₂ + 4 ≡ long - 28 + 10
+  fifth : 0 + 4 + z₀ + 4 + z₁ + 4 + z₂ + 4 + z₃ + 4 ≡ long - 28 + 16
+  sixth : 0 + 4 + z₀ + 4 + z₁ + 4 + z₂ + 4 + z₃ + 4 + z₄ + 4 ≡ long - 28 + 22
+
+starts : (long k z₀ z₁ z₂ z₃ z₄ z₅ : ℕ) → z₀ ≡ k → z₂ ≡ 2 → z₃ ≡ 2 → z₄ ≡ 2 → z₅ ≡ 6
+    → 0 + 4 + z₀ + 4 + z₁ + 4 + z₂ + 4 + z₃ + 4 + z₄ + 4 + z₅ ≤ long → long ≤ 0 + 4 + z₀ + 4 + z₁ + 4 + z₂ + 4 + z₃ + 4 + z₄ + 4 + z₅ → Starts long k z₀ z₁ z₂ z₃ z₄
+starts long k z₀ z₁ z₂ z₃ z₄ z₅ s₀ s₂ s₃ s₄ s₅ least most =
+    record {
+      most = omega arith;
+      held = omega arith;
+      second = omega arith;
+      third = omega arith;
+      fourth = omega arith;
+      fifth = omega arith;
+      sixth = omega arith;
+    }
+
 pub six : (f : List ℕ) → stopOf (cutAs shapes f) ≡ Good → Six f
 six f g =
     let bs = listOf (cutAs shapes f) in
@@ -152,17 +175,15 @@ six f g =
     let s₃ : r₃ .size ≡ 2 = size-is f a₃ 0x5645 2 from₄ (r₂ .others) r₃ in
     let s₄ : r₄ .size ≡ 2 = size-is f a₄ 0x504F 2 from₅ (r₃ .others) r₄ in
     let s₅ : r₅ .size ≡ 6 = size-is f a₅ 0x534F 6 [] (r₄ .others) r₅ in
-    let in₅ : a₅ + 4 + r₅ .size ≤ length f = r₅ .inside in
-    let out₅ : length f ≤ a₅ + 4 + r₅ .size = l .1 in
-    let n : r₁ .size ≡ e - (8 + k) = omega arith in
-    let b₀ : part f (0 + 4) (r₀ .size) ≡ part f 4 k = part-same f (omega arith) s₀ in
-    let b₁ : part f (a₁ + 4) (r₁ .size) ≡ part f (8 + k) (e - (8 + k)) = part-same f (omega arith) n in
-    let b₂ : part f (a₂ + 4) (r₂ .size) ≡ part f (e + 4) 2 = part-same f (omega arith) s₂ in
-    let b₃ : part f (a₃ + 4) (r₃ .size) ≡ part f (e + 10) 2 = part-same f (omega arith) s₃ in
-    let b₄ : part f (a₄ + 4) (r₄ .size) ≡ part f (e + 16) 2 = part-same f (omega arith) s₄ in
-    let b₅ : part f (a₅ + 4) (r₅ .size) ≡ part f (e + 22) 6 = part-same f (omega arith) s₅ in
+    let p = starts (length f) k (r₀ .size) (r₁ .size) (r₂ .size) (r₃ .size) (r₄ .size) (r₅ .size) s₀ s₂ s₃ s₄ s₅ (r₅ .inside) (l .1) in
+    let b₀ : part f (0 + 4) (r₀ .size) ≡ part f 4 k = part-same f refl s₀ in
+    let b₁ : part f (a₁ + 4) (r₁ .size) ≡ part f (8 + k) (e - (8 + k)) = part-same f (p .second) (p .held) in
+    let b₂ : part f (a₂ + 4) (r₂ .size) ≡ part f (e + 4) 2 = part-same f (p .third) s₂ in
+    let b₃ : part f (a₃ + 4) (r₃ .size) ≡ part f (e + 10) 2 = part-same f (p .fourth) s₃ in
+    let b₄ : part f (a₄ + 4) (r₄ .size) ≡ part f (e + 16) 2 = part-same f (p .fifth) s₄ in
+    let b₅ : part f (a₅ + 4) (r₅ .size) ≡ part f (e + 22) 6 = part-same f (p .sixth) s₅ in
     record {
-      long = omega arith;
+      long = p .most;
       cuts = stop-good (cutAs shapes f) g ∙ ap bodies (linked (r₀ .is) b₀ (linked (r₁ .is) b₁ (linked (r₂ .is) b₂ (linked (r₃ .is) b₃ (linked (r₄ .is) b₄ (linked (r₅ .is) b₅ (l .0)))))));
       stash = sym (ap stashFits b₁) ∙ r₁ .fits;
     }
