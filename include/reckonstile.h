@@ -14,6 +14,7 @@
      reckonstile_save           the association as a file, at power-down
      reckonstile_load           once, instead of reckonstile_new: the association of such a file
    Beside it, with no record at all:
+     reckonstile_compare        two such files compared, of boxes that behave differently
      reckonstile_salvage        a damaged cookie list made clean
      reckonstile_check_calendar whether a calendar of polls keeps to a modem's cap
      reckonstile_plan_calendar  a start for each entry of such a calendar
@@ -47,6 +48,9 @@ extern "C" {
 #define RECKONSTILE_REQUEST_BYTES 852
 /* A buffer of this size holds the hand-over file of any association. */
 #define RECKONSTILE_FILE_BYTES 5872
+/* An entry of a comparison, and a buffer that holds the list of any two files. */
+#define RECKONSTILE_ENTRY_BYTES 19
+#define RECKONSTILE_LIST_BYTES 494
 /* How many gaps of a damaged cookie list have their places told. */
 #define RECKONSTILE_PLACES 32
 /* The most entries of a calendar, and the minutes of its day. */
@@ -55,7 +59,7 @@ extern "C" {
 
 /* ---- numbers: what a call answers */
 
-#define RECKONSTILE_OK 0            /* new, metered: made. profile: met. reply: measured. accept, check_calendar: accepted. collect, write_request, salvage, plan_calendar, save: written. load: loaded */
+#define RECKONSTILE_OK 0            /* new, metered: made. profile: met. reply: measured. accept, check_calendar: accepted. collect, write_request, salvage, plan_calendar, save, compare: written. load: loaded */
 #define RECKONSTILE_UNDECODABLE 1   /* reply: not a reply. collect: broken fields */
 #define RECKONSTILE_VERSION 2       /* reply: of a version that is not expected */
 #define RECKONSTILE_NO_MATCH 4      /* reply: it answers another request */
@@ -90,10 +94,11 @@ extern "C" {
 #define RECKONSTILE_SHORT_OUT 51    /* write_request: the buffer is too short */
 #define RECKONSTILE_ASK 52          /* write_request: with NTS, a cookie over 724 bytes, or not 1 to 8 new ones asked for */
 #define RECKONSTILE_SHORT_FILE 60   /* save: the buffer is shorter than the file */
-#define RECKONSTILE_FILE_MARK 61    /* load: a record of the file does not have the mark that is due */
-#define RECKONSTILE_FILE_LENGTH 62  /* load: a wrong length, or bytes that are missing or left over */
-#define RECKONSTILE_FILE_CONTENT 63 /* load: a code of no kind, or an association that is not whole */
+#define RECKONSTILE_FILE_MARK 61    /* load, compare: a record of the file does not have the mark that is due */
+#define RECKONSTILE_FILE_LENGTH 62  /* load, compare: a wrong length, or bytes that are missing or left over */
+#define RECKONSTILE_FILE_CONTENT 63 /* load, compare: a code of no kind, or an association that is not whole */
 #define RECKONSTILE_SALVAGE_ROOM 70 /* salvage: the buffer is shorter than the damaged list */
+#define RECKONSTILE_COMPARE_ROOM 71 /* compare: the buffer is shorter than the list */
 #define RECKONSTILE_TOO_MANY 80     /* check_calendar, plan_calendar: more than 64 entries */
 #define RECKONSTILE_BAD_REPEAT 81   /* check_calendar, plan_calendar: a repeat is 0 or does not divide 1440 */
 #define RECKONSTILE_LATE_START 82   /* check_calendar: a start is at or past its repeat */
@@ -259,6 +264,13 @@ struct reckonstile_salvaged {
     size_t places[RECKONSTILE_PLACES]; /* where the first gaps start in the damaged list, in order; 0 past those told */
 };
 
+/* What comparing two hand-over files answers. */
+struct reckonstile_compared {
+    uint32_t number; /* 0, 61, 62, 63, 71; on all but 0 the buffer is as it was */
+    uint32_t side;   /* on 61, 62 and 63 which file is refused: 1 the left one, 2 the right one; else 0 */
+    size_t entries;  /* how many fields differ: each has an entry of 19 bytes, from the buffer's start on; 0 unless the number is 0 */
+};
+
 struct reckonstile_calendar_answer {
     uint32_t number; /* check_calendar: 0, 80, 81, 82, 83; plan_calendar: 0, 80, 81, 84, 31 */
     uint32_t named;  /* 1 where the answer names an entry (81, 82, 84) or a minute (83); else 0 */
@@ -291,6 +303,8 @@ RECKONSTILE_ASSERT(sizeof(struct reckonstile_load_answer) == 8 && offsetof(struc
                    "reckonstile: layout of load's answer");
 RECKONSTILE_ASSERT(sizeof(struct reckonstile_salvaged) == 296 && offsetof(struct reckonstile_salvaged, kept) == 8 &&
                    offsetof(struct reckonstile_salvaged, places) == 40, "reckonstile: layout of a salvage's report");
+RECKONSTILE_ASSERT(sizeof(struct reckonstile_compared) == 16 && offsetof(struct reckonstile_compared, entries) == 8,
+                   "reckonstile: layout of a comparison's answer");
 RECKONSTILE_ASSERT(sizeof(struct reckonstile_calendar_answer) == 16 && offsetof(struct reckonstile_calendar_answer, place) == 8,
                    "reckonstile: layout of a calendar's answer");
 
@@ -366,6 +380,12 @@ struct reckonstile_written reckonstile_save(struct reckonstile_association *a, u
    The retired version, RECKONSTILE_UPGRADING, becomes RECKONSTILE_V4, and the answer says so.
    0 loaded; 61 a mark, 62 a length, whichever is first in the file; then 63 what it says is no association. On these three the record is blank. */
 struct reckonstile_load_answer reckonstile_load(struct reckonstile_association *a, const uint8_t *file, size_t file_len);
+
+/* Two hand-over files compared, of boxes that behave differently: an entry for each field that differs, in the file's order, is written to the buffer. An
+   entry is 19 bytes, big-endian: the field's code 1, the left reading 8, the right reading 8, the place 2 (docs/COMPARE.md has the codes). Of a cookie only the
+   length and the place of the first differing byte are told. Bytes of the buffer past the list stay as they were. No entry: what the two load is equal.
+   In this order: 61, 62, 63 of the left file, as reckonstile_load has them; then of the right one; 71 the buffer is shorter than the list; 0 written. */
+struct reckonstile_compared reckonstile_compare(const uint8_t *left, size_t left_len, const uint8_t *right, size_t right_len, uint8_t *out, size_t room);
 
 /* A damaged cookie list, of which cheap flash has lost bytes, made clean: what is left of it is written to the buffer, as a list for reckonstile_new. Each
    place is tried in turn. Where a mark (C0 0E), a length of two bytes and that many bytes fit, and the end or another mark follows, the record is kept and

@@ -2,9 +2,10 @@
 //! logs without bad lines from standard input and answers a line at a time. What the drill does not show is looked at here: a refusal leaves record and buffer as they
 //! were, and nothing is written past what is handed out; else the answer ends with `CHANGED`.
 use reckonstile::{
-    check_calendar, collect, plan_calendar, salvage, write_request, Association, Bloom, CheckRefused, DecodedReply, Kisses,
-    Measurement, NtpDuration, NtpInstant, NtpLeapIndicator, NtpTimestamp, Packet, PlanRefused, PollInterval,
-    PollIntervalLimits, ProtocolVersion, Record, ReferenceId, SendKind, Settings, Times, Uid,
+    check_calendar, collect, compare, plan_calendar, salvage, write_request, Association, Bloom, CheckRefused, CompareRefused,
+    DecodedReply, Difference, Kisses, Measurement, NtpDuration, NtpInstant, NtpLeapIndicator, NtpTimestamp, Packet,
+    PlanRefused, PollInterval, PollIntervalLimits, ProtocolVersion, Record, ReferenceId, SendKind, Settings, Times, Uid,
+    NO_COOKIE,
 };
 use std::collections::HashMap;
 use std::fmt::Write as _;
@@ -128,6 +129,50 @@ fn kept(same: bool) -> &'static str {
 
 fn filled(bytes: &[u8]) -> bool {
     bytes.iter().all(|b| *b == FILL)
+}
+
+/// A field that differs, as the drill tells it.
+fn difference(d: &Difference) -> String {
+    let name = match d.code {
+        1 => "min",
+        2 => "max",
+        3 => "startup",
+        4 => "window",
+        5 => "mark",
+        6 => "start",
+        7 => "nts",
+        8 => "source",
+        9 => "capacity",
+        16 => "read",
+        48 => "reach",
+        49 => "tries",
+        50 => "version",
+        51 => "last",
+        52 => "remote",
+        53 => "stratum",
+        54 => "refid",
+        55 => "denial",
+        _ => "cookie",
+    };
+    let reading = |n: u64| match name {
+        "min" | "max" | "last" | "remote" => i64::from_be_bytes(n.to_be_bytes()).to_string(),
+        "mark" => format!("{n:016x}"),
+        "source" | "refid" => format!("{n:08x}"),
+        "nts" | "denial" => if n == 1 { "yes" } else { "no" }.into(),
+        "start" | "version" => match n / 256 {
+            0 => "v4".into(),
+            1 => format!("upgrading:{}", n % 256),
+            2 => "upgraded".into(),
+            _ => "v5".into(),
+        },
+        "cookie" if n == NO_COOKIE => "-".into(),
+        _ => n.to_string(),
+    };
+    let (left, right) = (reading(d.left), reading(d.right));
+    if name == "cookie" {
+        return format!(" cookie{}:{left}/{right}@{}", d.code.wrapping_sub(32), d.place);
+    }
+    format!(" {name}:{left}/{right}")
 }
 
 struct Drill {
@@ -361,6 +406,25 @@ impl Drill {
         }
     }
 
+    fn compare(p: &Pairs) -> String {
+        let mut out = vec![FILL; number(p.or("room", "4096"))];
+        let (line, length) = match compare(&p.bytes("left"), &p.bytes("right"), &mut out) {
+            Ok(differ) => {
+                let words: String = differ.iter().map(|d| difference(&d)).collect();
+                (format!("compare 0 {}{words}", differ.len()), differ.list.len())
+            }
+            Err(refused) => {
+                let side = match refused {
+                    CompareRefused::Left(_) => " side=left",
+                    CompareRefused::Right(_) => " side=right",
+                    _ => "",
+                };
+                (format!("compare {}{side}", refused.number()), 0)
+            }
+        };
+        line + kept(filled(&out[length..]))
+    }
+
     fn salvage(p: &Pairs) -> String {
         let mut out = vec![FILL; number(p.or("room", "4096"))];
         let said = match salvage(&p.bytes("list"), &mut out) {
@@ -522,6 +586,7 @@ impl Drill {
             "request" => Drill::request(&p),
             "save" => self.save(&p),
             "load" => self.load(&p),
+            "compare" => Drill::compare(&p),
             "salvage" => Drill::salvage(&p),
             "calendar" => Drill::calendar(&p),
             "plan" => Drill::plan(&p),

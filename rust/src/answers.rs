@@ -201,6 +201,60 @@ numbered! {
     }
 }
 
+/// Why two hand-over files are not compared; nothing is written. Where both files are refused it is the left one that is told.
+///
+/// ```
+/// use reckonstile::{compare, CompareRefused, LoadRefused};
+/// let refused = compare(b"no file", b"", &mut []).unwrap_err();
+/// assert_eq!((refused, refused.number()), (CompareRefused::Left(LoadRefused::Mark), 61));
+/// assert_eq!(refused.to_string(), "the left file: a record of the file does not have the mark that is due (61)");
+/// ```
+#[derive(Clone, Copy, Debug, PartialEq, Eq, Hash)]
+#[non_exhaustive]
+#[must_use]
+pub enum CompareRefused {
+    /// **61**, **62**, **63**: the left file cannot be read.
+    Left(LoadRefused),
+    /// **61**, **62**, **63**: the left file can be read, and the right one cannot.
+    Right(LoadRefused),
+    /// **71**: the buffer is shorter than the list.
+    ShortBuffer,
+    /// A number that this crate does not know: the library is of another version.
+    Other(u32),
+}
+
+impl CompareRefused {
+    pub(crate) fn from_answer(number: u32, side: u32) -> Self {
+        match (number, side) {
+            (61..=63, 1) => CompareRefused::Left(LoadRefused::from_number(number)),
+            (61..=63, 2) => CompareRefused::Right(LoadRefused::from_number(number)),
+            (71, _) => CompareRefused::ShortBuffer,
+            _ => CompareRefused::Other(number),
+        }
+    }
+
+    /// The number, as docs/NUMBERS.md has it.
+    #[must_use]
+    pub fn number(self) -> u32 {
+        match self {
+            CompareRefused::Left(refused) | CompareRefused::Right(refused) => refused.number(),
+            CompareRefused::ShortBuffer => 71,
+            CompareRefused::Other(number) => number,
+        }
+    }
+}
+
+impl fmt::Display for CompareRefused {
+    fn fmt(&self, f: &mut fmt::Formatter<'_>) -> fmt::Result {
+        match self {
+            CompareRefused::Left(refused) => write!(f, "the left file: {refused}"),
+            CompareRefused::Right(refused) => write!(f, "the right file: {refused}"),
+            CompareRefused::ShortBuffer => write!(f, "the buffer is shorter than the list (71)"),
+            CompareRefused::Other(number) => write!(f, "a number of another version of the library ({number})"),
+        }
+    }
+}
+
 numbered! {
     /// Why a cookie list is not salvaged; nothing is written.
     ///
@@ -526,8 +580,8 @@ impl Measurement {
 #[cfg(feature = "std")]
 mod errors {
     use super::{
-        AcceptRefused, CheckRefused, CollectRefused, LoadRefused, MeteredRefused, NewRefused, PlanRefused, ReplyRefused,
-        RequestRefused, SalvageRefused, SaveRefused, TimerRefused,
+        AcceptRefused, CheckRefused, CollectRefused, CompareRefused, LoadRefused, MeteredRefused, NewRefused, PlanRefused,
+        ReplyRefused, RequestRefused, SalvageRefused, SaveRefused, TimerRefused,
     };
     impl std::error::Error for MeteredRefused {}
     impl std::error::Error for NewRefused {}
@@ -538,6 +592,7 @@ mod errors {
     impl std::error::Error for RequestRefused {}
     impl std::error::Error for SaveRefused {}
     impl std::error::Error for LoadRefused {}
+    impl std::error::Error for CompareRefused {}
     impl std::error::Error for SalvageRefused {}
     impl std::error::Error for CheckRefused {}
     impl std::error::Error for PlanRefused {}

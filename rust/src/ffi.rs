@@ -240,6 +240,14 @@ pub(crate) struct Salvaged {
 
 #[repr(C)]
 #[derive(Clone, Copy, Default)]
+pub(crate) struct Compared {
+    pub number: u32,
+    pub side: u32,
+    pub entries: usize,
+}
+
+#[repr(C)]
+#[derive(Clone, Copy, Default)]
 pub(crate) struct Scheduled {
     pub number: u32,
     pub named: u32,
@@ -276,12 +284,13 @@ const _: () = {
     assert!(size_of::<Decoded>() == 56 && offset_of!(Decoded, mode) == 40 && offset_of!(Decoded, untrusted) == 55);
     assert!(size_of::<Written>() == 16 && offset_of!(Written, length) == 8);
     assert!(size_of::<Loaded>() == 8 && offset_of!(Loaded, retired) == 4);
+    assert!(size_of::<Compared>() == 16 && offset_of!(Compared, entries) == 8);
     assert!(size_of::<Salvaged>() == 296 && offset_of!(Salvaged, kept) == 8 && offset_of!(Salvaged, places) == 40);
     assert!(size_of::<Scheduled>() == 16 && offset_of!(Scheduled, place) == 8);
 };
 
 mod c {
-    use super::{Decoded, Loaded, Made, Record, Replied, Salvaged, Scheduled, Settings, Timed, Uid, Written};
+    use super::{Compared, Decoded, Loaded, Made, Record, Replied, Salvaged, Scheduled, Settings, Timed, Uid, Written};
     extern "C" {
         pub fn reckonstile_size() -> usize;
         pub fn reckonstile_align() -> usize;
@@ -335,6 +344,14 @@ mod c {
         ) -> Written;
         pub fn reckonstile_save(a: *mut Record, out: *mut u8, room: usize) -> Written;
         pub fn reckonstile_load(a: *mut Record, file: *const u8, file_len: usize) -> Loaded;
+        pub fn reckonstile_compare(
+            left: *const u8,
+            left_len: usize,
+            right: *const u8,
+            right_len: usize,
+            out: *mut u8,
+            room: usize,
+        ) -> Compared;
         pub fn reckonstile_salvage(list: *const u8, list_len: usize, out: *mut u8, room: usize) -> Salvaged;
         pub fn reckonstile_check_calendar(
             cap: u8,
@@ -459,6 +476,11 @@ pub(crate) fn write_request(
             out.len(),
         )
     }
+}
+
+pub(crate) fn compare(left: &[u8], right: &[u8], out: &mut [u8]) -> Compared {
+    // SAFETY: `out` is lent exclusively, so it does not overlap with the files; no more than its length is written.
+    unsafe { c::reckonstile_compare(left.as_ptr(), left.len(), right.as_ptr(), right.len(), out.as_mut_ptr(), out.len()) }
 }
 
 pub(crate) fn salvage(list: &[u8], out: &mut [u8]) -> Salvaged {

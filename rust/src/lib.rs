@@ -27,8 +27,9 @@ mod time;
 mod tools;
 
 pub use answers::{
-    AcceptRefused, Action, CheckRefused, CollectRefused, Dropped, LoadRefused, Measurement, MeteredRefused, NewRefused,
-    NtpLeapIndicator, PlanRefused, Poll, ReplyRefused, RequestRefused, SalvageRefused, SaveRefused, SendKind, TimerRefused,
+    AcceptRefused, Action, CheckRefused, CollectRefused, CompareRefused, Dropped, LoadRefused, Measurement, MeteredRefused,
+    NewRefused, NtpLeapIndicator, PlanRefused, Poll, ReplyRefused, RequestRefused, SalvageRefused, SaveRefused, SendKind,
+    TimerRefused,
 };
 pub use association::{
     collect, cookie_list, layout, write_request, Association, Bloom, DecodedReply, Kisses, Loaded, Packet, ProtocolVersion,
@@ -36,7 +37,9 @@ pub use association::{
 };
 pub use ffi::Record;
 pub use time::{NtpDuration, NtpInstant, NtpTimestamp, PollInterval, PollIntervalLimits};
-pub use tools::{check_calendar, plan_calendar, salvage, Salvaged, ENTRIES};
+pub use tools::{
+    check_calendar, compare, plan_calendar, salvage, Difference, Differences, Salvaged, ENTRIES, LIST_BYTES, NO_COOKIE,
+};
 
 /// The parts of a [`Record`].
 pub mod record {

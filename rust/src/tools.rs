@@ -1,9 +1,93 @@
-//! The tools beside the association, which neither read nor change a record: salvage of a damaged cookie list, and the poll calendar of a modem.
-use crate::answers::{CheckRefused, PlanRefused, SalvageRefused};
+//! The tools beside the association, which neither read nor change a record: two hand-over files compared, salvage of a damaged cookie list, and the poll
+//! calendar of a modem.
+use crate::answers::{CheckRefused, CompareRefused, PlanRefused, SalvageRefused};
 use crate::ffi;
 
 /// The most entries of a calendar.
 pub const ENTRIES: usize = 64;
+
+/// A buffer of this size holds the list of any two files.
+pub const LIST_BYTES: usize = 494;
+
+/// The reading of a cookie that a box does not have.
+pub const NO_COOKIE: u64 = 65536;
+
+/// The bytes of an entry.
+const ENTRY_BYTES: usize = 19;
+
+/// A field in which two boxes differ (docs/COMPARE.md has the codes).
+#[derive(Clone, Copy, Debug, PartialEq, Eq, Hash)]
+pub struct Difference {
+    /// Which field it is; 32 to 39 are the cookies, the oldest first.
+    pub code: u8,
+    /// Its reading in the left file: a number, a signed one as 64-bit two's complement, of a cookie its length or [`NO_COOKIE`].
+    pub left: u64,
+    /// And in the right file.
+    pub right: u64,
+    /// Of two cookies, where the first stored byte differs, or the shorter one ends; else 0.
+    pub place: u16,
+}
+
+/// The fields in which two boxes differ.
+#[derive(Clone, Copy, Debug, PartialEq, Eq)]
+#[must_use]
+pub struct Differences<'b> {
+    /// The list, at the beginning of the buffer that was lent: 19 bytes for each entry.
+    pub list: &'b [u8],
+}
+
+impl Differences<'_> {
+    /// How many fields differ; none where the two loaded records are equal.
+    #[must_use]
+    pub fn len(&self) -> usize {
+        self.list.len() / ENTRY_BYTES
+    }
+
+    /// Whether nothing differs.
+    #[must_use]
+    pub fn is_empty(&self) -> bool {
+        self.list.is_empty()
+    }
+
+    /// The fields, in the order of the file.
+    pub fn iter(&self) -> impl Iterator<Item = Difference> + '_ {
+        let number = |bytes: &[u8]| bytes.iter().fold(0, |x, b| x << 8 | u64::from(*b));
+        self.list.chunks_exact(ENTRY_BYTES).map(move |e| Difference {
+            code: e[0],
+            left: number(&e[1..9]),
+            right: number(&e[9..17]),
+            place: u16::from_be_bytes([e[17], e[18]]),
+        })
+    }
+}
+
+/// Compares two hand-over files, of boxes that behave differently: an entry for each field that differs is written to `out`, in the file's order. Of a cookie
+/// only the length and a place are told. A buffer of [`LIST_BYTES`] is always enough. What is loaded is compared: a file of before has capacity 8, and the
+/// retired version is V4.
+///
+/// # Errors
+/// [`CompareRefused`]: 61 to 63 of the left file, then of the right one, then 71; then nothing is written.
+///
+/// ```
+/// use reckonstile::{compare, Association, Settings, LIST_BYTES};
+/// let file = |startup_tries| {
+///     let (mut a, _) = Association::new(&Settings { startup_tries, ..Settings::default() }, &[]).unwrap();
+///     let mut out = [0; reckonstile::FILE_BYTES];
+///     let length = a.save(&mut out).unwrap();
+///     out[..length].to_vec()
+/// };
+/// let mut out = [0; LIST_BYTES];
+/// assert!(compare(&file(3), &file(3), &mut out).unwrap().is_empty());
+/// let differ: Vec<_> = compare(&file(3), &file(8), &mut out).unwrap().iter().map(|d| (d.code, d.left, d.right)).collect();
+/// assert_eq!(differ, [(3, 3, 8)]);
+/// ```
+pub fn compare<'b>(left: &[u8], right: &[u8], out: &'b mut [u8]) -> Result<Differences<'b>, CompareRefused> {
+    let said = ffi::compare(left, right, out);
+    match (said.number, out.get(..ENTRY_BYTES * said.entries)) {
+        (0, Some(list)) => Ok(Differences { list }),
+        (number, _) => Err(CompareRefused::from_answer(number, said.side)),
+    }
+}
 
 /// What is left of a damaged cookie list, and what was lost of it.
 #[derive(Clone, Copy, Debug, PartialEq, Eq)]

@@ -276,6 +276,60 @@ static void salvage(void) {
     end(zero && filled(out + s.length, sizeof out - s.length) && same());
 }
 
+/* the name of a field that is compared, by its code, and how its reading is written: n a number, s a signed one, m and i 16 and 8 digits, v a version, y yes or no */
+static const struct { uint8_t code; const char *name, *how; } fields[] = {
+    { 1, "min", "s" }, { 2, "max", "s" }, { 3, "startup", "n" }, { 4, "window", "n" }, { 5, "mark", "m" }, { 6, "start", "v" }, { 7, "nts", "y" }, { 8, "source", "i" },
+    { 9, "capacity", "n" }, { 16, "read", "n" }, { 48, "reach", "n" }, { 49, "tries", "n" }, { 50, "version", "v" }, { 51, "last", "s" }, { 52, "remote", "s" }, { 53, "stratum", "n" },
+    { 54, "refid", "i" }, { 55, "denial", "y" },
+};
+
+static uint64_t big_endian(const uint8_t *b, size_t n) {
+    uint64_t x = 0;
+    for (size_t k = 0; k < n; k++) x = x << 8 | b[k];
+    return x;
+}
+
+static void reading(char how, uint64_t n) {
+    static const char *kinds[] = { "v4", "upgrading", "upgraded", "v5" };
+    if (how == 's') printf("%" PRId64, (int64_t)n);
+    else if (how == 'm') printf("%016" PRIx64, n);
+    else if (how == 'i') printf("%08" PRIx64, n);
+    else if (how == 'y') printf("%s", n ? "yes" : "no");
+    else if (how == 'v' && n >> 8 == 1) printf("upgrading:%" PRIu64, n & 255);
+    else if (how == 'v') printf("%s", n >> 8 < 4 ? kinds[n >> 8] : "?");
+    else if (how == 'c' && n == 65536) putchar('-');
+    else printf("%" PRIu64, n);
+}
+
+static void entry(const uint8_t *e) {
+    char how = 'c';
+    if (e[0] >= 32 && e[0] < 40) printf(" cookie%d:", e[0] - 32);
+    for (size_t k = 0; k < sizeof fields / sizeof *fields; k++)
+        if (fields[k].code == e[0]) {
+            how = *fields[k].how;
+            printf(" %s:", fields[k].name);
+        }
+    reading(how, big_endian(e + 1, 8));
+    putchar('/');
+    reading(how, big_endian(e + 9, 8));
+    if (how == 'c') printf("@%" PRIu64, big_endian(e + 17, 2));
+}
+
+static void compare(void) {
+    static uint8_t left[MOST], right[MOST], out[MOST];
+    size_t m = bytes(text("left"), left), n = bytes(text("right"), right);
+    memset(out, FILL, sizeof out);
+    struct reckonstile_compared r = reckonstile_compare(left, m, right, n, out, natural(or_text("room", "4096")));
+    printf("compare %" PRIu32, r.number);
+    int refused = r.number >= RECKONSTILE_FILE_MARK && r.number <= RECKONSTILE_FILE_CONTENT;
+    if (refused) printf(" side=%s", r.side == 1 ? "left" : "right");
+    if (r.number == RECKONSTILE_OK) printf(" %zu", r.entries);
+    for (size_t k = 0; k < r.entries; k++) entry(out + RECKONSTILE_ENTRY_BYTES * k);
+    int right_side = refused ? r.side == 1 || r.side == 2 : r.side == 0;
+    size_t length = RECKONSTILE_ENTRY_BYTES * r.entries;
+    end(right_side && (!r.number || !r.entries) && filled(out + length, sizeof out - length) && same());
+}
+
 /* numbers joined by commas, each perhaps with a second one behind a stroke; how many there are */
 static size_t minutes(const char *s, uint16_t *first, uint16_t *second) {
     size_t n = 0;
@@ -394,7 +448,7 @@ static void blank(void) { puts(reckonstile_blank(&a) == RECKONSTILE_OK ? "blank"
 int main(void) {
     static const struct { const char *word; void (*call)(void); } commands[] = {
         { "new", new_ }, { "metered", metered }, { "profile", profile }, { "timer", timer }, { "reply", reply }, { "reply5", reply5 }, { "accept", accept_ }, { "collect", collect },
-        { "request", request }, { "save", save }, { "load", load }, { "salvage", salvage }, { "calendar", calendar }, { "plan", plan },
+        { "request", request }, { "save", save }, { "load", load }, { "salvage", salvage }, { "compare", compare }, { "calendar", calendar }, { "plan", plan },
         { "show", show }, { "cookies", cookies }, { "poke", poke }, { "blank", blank },
     };
     static char line[65536];

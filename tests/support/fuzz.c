@@ -397,6 +397,18 @@ int main(int argc, char **argv) {
             if (which & 2) settled.state.version = RECKONSTILE_V4;
             l = reckonstile_load(&lent.a, old, w.length);
             expect(l.number == 0 && l.retired == 1 && !memcmp(&lent.a, &settled, sizeof settled), "load of a file with the retired version", l.number);
+            static uint8_t other[RECKONSTILE_FILE_BYTES];
+            memcpy(other, file, w.length);
+            if (below(4)) other[below(w.length)] = (uint8_t)next();
+            memset(out.bytes, 0xAA, sizeof out.bytes);
+            size_t room = below(2) ? RECKONSTILE_LIST_BYTES : below(100), length, untouched = 1;
+            struct reckonstile_compared r = reckonstile_compare(file, w.length, other, w.length, out.bytes, room);
+            expect(r.number == 0 || r.number == 71 || (r.number >= 61 && r.number <= 63), "compare", r.number);
+            expect(r.side == (r.number >= 61 && r.number <= 63 ? 2 : 0) && (r.number == 0 || !r.entries), "compare's answer", r.number);
+            l = reckonstile_load(&lent.a, other, w.length);
+            expect(r.number || !r.entries == !memcmp(&lent.a, &kept_of, sizeof kept_of), "compare: nothing differs exactly where the loaded records are equal", r.number);
+            for (size_t i = length = RECKONSTILE_ENTRY_BYTES * r.entries; i < sizeof out.bytes; i++) untouched &= out.bytes[i] == 0xAA;
+            expect(untouched && length <= room, "compare: the buffer past the list changed", r.number);
             if (below(2)) file[below(w.length)] = (uint8_t)next();
             else w.length = below(w.length);
             l = reckonstile_load(&lent.a, file, w.length);

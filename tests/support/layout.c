@@ -288,6 +288,21 @@ int main(void) {
     v = reckonstile_salvage(damaged, sizeof damaged, out, sizeof out - 1);
     EXPECT(v.number == RECKONSTILE_SALVAGE_ROOM && !v.kept && !v.skipped && !v.gaps && !v.told && !v.length && out[15] == 0xEE);
 
+    /* compare: each field of the answer in its place, and the files in their order. A file of 63 bytes, of before there was a capacity, without NTS; one with another startup limit; one that is cut. */
+    uint8_t here[] = "SE\0\x1A\x04\x0A\x03\0\0\0\0\0\0\0\x01\0\0\0\0\0\0\0\0\0\0\0\0\0\0\0ST\0\x01\0RE\0\x02\0\0VE\0\x02\0\0PO\0\x02\x04\x04SO\0\x06\x10XNON\0", there[63], list_of_two[20];
+    memcpy(there, here, 63);
+    there[6] = 8;
+    memset(list_of_two, 0xEE, sizeof list_of_two);
+    struct reckonstile_compared told = reckonstile_compare(here, 63, there, 63, list_of_two, sizeof list_of_two);
+    EXPECT(told.number == RECKONSTILE_OK && !told.side && told.entries == 1);
+    EXPECT(list_of_two[0] == 3 && list_of_two[8] == 3 && list_of_two[16] == 8 && !list_of_two[17] && !list_of_two[18] && list_of_two[19] == 0xEE);
+    told = reckonstile_compare(here, 63, there, 62, list_of_two, sizeof list_of_two);
+    EXPECT(told.number == RECKONSTILE_FILE_LENGTH && told.side == 2 && !told.entries);
+    told = reckonstile_compare(here, 62, there, 62, list_of_two, sizeof list_of_two);
+    EXPECT(told.number == RECKONSTILE_FILE_LENGTH && told.side == 1 && !told.entries);
+    told = reckonstile_compare(here, 63, there, 63, list_of_two, 18);
+    EXPECT(told.number == RECKONSTILE_COMPARE_ROOM && !told.side && !told.entries && list_of_two[0] == 3);
+
     /* the calendar: the lists in their order, the numbers, and what each answer names */
     uint16_t starts[] = { 0, 15, 1439 }, repeats[] = { 60, 720, 1440 }, same[] = { 0, 15, 15 }, hourly[] = { 60, 720, 60 }, zero[] = { 60, 0, 7 }, planned[] = { 7, 7, 7, 7 };
     struct reckonstile_calendar_answer c = reckonstile_check_calendar(1, starts, 3, repeats, 3);

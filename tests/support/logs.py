@@ -199,6 +199,18 @@ class Logs:
             f = rng.choice((f[:at] + self.bytes(1) + f[at + 1:], f[:at], f + self.bytes(1), f[:4] + self.bytes(1) + f[5:], b'S' + f[:at]))
         return 'load file=' + hexed(f)
 
+    def compare(self):
+        """the last file that was written and the file of the record as it is, one of them damaged at times"""
+        rng = self.rng
+        now = self.model.handover(self.record) if self.record.whole() else self.file
+        pair = [self.file, rng.choice((now, now, self.file))]
+        if rng.random() < 0.3:
+            k = rng.randrange(2)
+            at = rng.randrange(len(pair[k]))
+            pair[k] = rng.choice((pair[k][:at] + self.bytes(1) + pair[k][at + 1:], pair[k][:at], pair[k] + self.bytes(1)))
+        rng.shuffle(pair)
+        return 'compare left=%s right=%s room=%d' % (hexed(pair[0]), hexed(pair[1]), rng.choice((4096, 494, 494, rng.randrange(100))))
+
     # ---- a log
 
     def steps(self, count):
@@ -211,7 +223,7 @@ class Logs:
             else:
                 line = rng.choice((self.timer,) * 5 + (self.reply,) * 9 + (self.reply5,) * (8 if self.record.version[0] in ('upgraded', 'v5') else 1)
                                   + (self.accept,) * 2 + (self.collect, self.request, self.salvage, self.calendar, self.plan, lambda: self.new('profile'), self.save)
-                                  + ((self.load,) if self.file else ()))()
+                                  + ((self.load, self.compare) if self.file else ()))()
                 if rng.random() < 0.02:
                     line = rng.choice((self.poke, self.poke, self.poke, lambda: 'blank'))()
                 elif self.record.version[0] == 'upgraded' and self.record.unanswered >= 2 and rng.random() < 0.7:

@@ -40,6 +40,7 @@ static void save(void) {
     number = w.number;
     file_len = w.length;
 }
+static void compare(void) { number = reckonstile_compare(file, file_len, file, file_len, out, sizeof out).number; }
 static void load(void) { number = reckonstile_load(&a, file, file_len).number; }
 
 static size_t deepest(void (*call)(void)) {
@@ -59,7 +60,7 @@ int main(void) {
     static const struct { const char *name; void (*call)(void); uint32_t number; } calls[] = {
         { "new", new_, 0 }, { "profile", profile, 0 }, { "metered", metered, 0 }, { "timer", timer, 20 }, { "reply", reply, 0 }, { "timer", timer, 20 }, { "reply_decoded", reply_decoded, 2 },
         { "accept", accept_, 0 }, { "collect", collect, 0 }, { "write_request", request, 0 }, { "salvage", salvage, 0 }, { "check_calendar", check_calendar, 0 },
-        { "plan_calendar", plan_calendar, 0 }, { "save", save, 0 }, { "load", load, 0 },
+        { "plan_calendar", plan_calendar, 0 }, { "save", save, 0 }, { "compare", compare, 0 }, { "load", load, 0 },
     };
     int passed = 0, failed = 0;
     settings.window = 5000;

@@ -17,13 +17,16 @@ USAGE = '''drill: replay a log of calls against the proved association
                             one page for a whole morning, a strip for each log, to look at in a browser and to print
   ./drill --capture FILE.pcap [--box ADDRESS] [--server ADDRESS] >FILE.drill
                             make a log from a capture (pcap or pcapng) of a box's NTP traffic
+  ./drill --compare LEFT RIGHT
+                            tell in plain words in which fields two hand-over files differ, of boxes that behave differently
   ./drill --strike FILE     strike the replies that answer nothing, by the log alone, and replay the shorter log beside the whole one
   ./drill --raw [FILE]      the proved program alone: no forms for people, no word about errors, and always the program's own status
   ./drill --ready           say whether the program is proved and built; build nothing
   ./drill --help            this text
 
-It ends with 0 where every line was answered, 1 where a line was answered `error` (--strike: also where demand 3 is not seen to hold; --ready: where
-it is not), and 2 on bad usage or where reading or writing failed. Answers go to standard output, all else to standard error.
+It ends with 0 where every line was answered, 1 where a line was answered `error` (--strike: also where demand 3 is not seen to hold; --compare: where
+a file cannot be read as one; --ready: where it is not), and 2 on bad usage or where reading or writing failed. Answers go to standard output, all
+else to standard error.
 
 A log has a command to a line; empty lines and lines that begin with # are skipped:
 
@@ -41,6 +44,7 @@ A log has a command to a line; empty lines and lines that begin with # are skipp
   metered, profile: the keys of new
   save room=[8192]
   load file=
+  compare left= right= room=[4096]
   show, cookies, blank, poke key= value=
 
 Times may be written as 03:00:00, 5s or 250ms, wall clocks as 2026-11-15T03:00:00.04Z, addresses as 192.0.2.1.
@@ -105,6 +109,12 @@ def main(args):
     if word == '--explain':
         import explain
         return explain.main(one(options(args, ())[1], word))
+    if word == '--compare':
+        import compare
+        names = options(args, ())[1]
+        if len(names) != 2:
+            misused('--compare takes two files')
+        return compare.main(*names)
     if word == '--page':
         import page
         names = options(args, ())[1]

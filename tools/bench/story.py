@@ -16,7 +16,8 @@ TOLD = {'new': ('association made', 'association refused'), 'timer': ('poll sent
         'request': ('request written', 'request refused'), 'salvage': ('list salvaged', 'salvage refused'),
         'calendar': ('calendar accepted', 'calendar refused'), 'plan': ('starts planned', 'no plan'),
         'metered': ('metered association made', 'metered association refused'), 'profile': ('the metered profile is met', 'the metered profile is not met'),
-        'save': ('hand-over file written', 'hand-over file not written'), 'load': ('association loaded', 'hand-over file refused')}
+        'save': ('hand-over file written', 'hand-over file not written'), 'load': ('association loaded', 'hand-over file refused'),
+        'compare': ('boxes compared', 'boxes not compared')}
 REPLIES = ('reply', 'reply5')
 
 
@@ -158,9 +159,9 @@ PROFILE = {34: lambda s: 'the lower poll limit is %s, and has to be 8 (256 s) or
 FILE = ((b'SE', 'settings', (27, 26)), (b'ST', 'stash', None), (b'RE', 'reach and tries', (2,)), (b'VE', 'version', (2,)), (b'PO', 'polls', (2,)), (b'SO', 'source', (6,)))
 
 
-def why_file(step):
-    """where the first fault of a file stands that was refused with 61 or 62"""
-    f, at = b'' if step.given['file'] == '-' else bytes.fromhex(step.given['file']), 0
+def fault_in(f):
+    """where the first fault of a file stands that is refused with 61 or 62"""
+    at = 0
     for mark, name, usual in FILE:
         if len(f) - at >= 2 and f[at:at + 2] != mark:
             return 'at byte %d the %s record is due, with the mark %s, and %s stands there' % (at, name, mark.hex(), f[at:at + 2].hex())
@@ -177,6 +178,20 @@ def why_file(step):
     return '%d bytes are left over behind the last record' % (len(f) - at)
 
 
+def file_of(step, key):
+    return b'' if step.given[key] == '-' else bytes.fromhex(step.given[key])
+
+
+def why_file(step):
+    return fault_in(file_of(step, 'file'))
+
+
+def why_side(step):
+    """of two files that are compared, which is refused, and why"""
+    side = step.gave['side']
+    return 'the %s file: %s' % (side, fault_in(file_of(step, side)) if step.number != 63 else step.row.says)
+
+
 def cookies_end(body):
     at = 1
     while 0 < len(body) - at:
@@ -185,7 +200,7 @@ def cookies_end(body):
     return at == len(body)
 
 
-WHY = {('load', 61): why_file, ('load', 62): why_file,
+WHY = {('load', 61): why_file, ('load', 62): why_file, ('compare', 61): why_side, ('compare', 62): why_side, ('compare', 63): why_side,
        ('reply', 1): why_undecodable,
        ('reply', 2): why_version, ('reply', 4): why_foreign, ('reply', 14): why_late,
        ('reply', 10): lambda s: 'its stratum is %d' % octets(s)[1] if s.head == 'reply' else 'its stratum is %s' % s.given['stratum'],
@@ -257,7 +272,14 @@ def sent(step):
     return '%s, the next in %s%s' % (step.gave['send'], every(step.gave['poll']), '' if until == '-' else ', a reply is awaited until ' + human.clock(int(until.split('/')[2])))
 
 
-GOOD = {'new': made, 'metered': made, 'timer': sent, 'reply': measured, 'reply5': measured, 'load': loaded, 'save': saved}
+def compared(step):
+    """the fields in which two boxes differ, the left reading and then the right one"""
+    import compare
+    rows = [compare.entry(word) for word in step.answer.split(' ')[3:]]
+    return '; '.join('%s: %s and %s%s' % (words, left, right, ' (%s)' % note if note else '') for words, left, right, note in rows) or 'nothing differs'
+
+
+GOOD = {'new': made, 'metered': made, 'timer': sent, 'reply': measured, 'reply5': measured, 'load': loaded, 'save': saved, 'compare': compared}
 
 
 def rest(step):

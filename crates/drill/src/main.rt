@@ -14,6 +14,7 @@ use drill_text::text;
 use drill_text::text::Found;
 use drill_tools::calendars;
 use drill_tools::collects;
+use drill_tools::compares;
 use drill_tools::requests;
 use drill_tools::salvages;
 use libc::STDIN_FILENO;
@@ -65,7 +66,9 @@ mod command {
 
     pub const PROFILE: usize = 17;
 
-    pub const UNKNOWN: usize = 18;
+    pub const COMPARE: usize = 18;
+
+    pub const UNKNOWN: usize = 19;
 }
 
 // A log as far as it is read: the association, the number of the line, how many bytes of it are there, whether it is too long,
@@ -94,7 +97,7 @@ fn start() -> Log {
 // Which command a line's word is.
 fn command_of(word: &[u8]) -> usize {
     match text::index_of(
-        b"new metered load blank timer reply reply5 poke save accept show cookies collect request salvage calendar plan profile",
+        b"new metered load blank timer reply reply5 poke save accept show cookies collect request salvage calendar plan profile compare",
         word,
     ) {
         Found::At(i) => i,
@@ -129,6 +132,7 @@ fn told(command: usize, a: Association, line: &[u8], number: u64, out: &mut [u8]
         command::CALENDAR => calendars::calendar(line, number, out),
         command::PLAN => calendars::plan(line, number, out),
         command::PROFILE => profiles::profile(line, number, out),
+        command::COMPARE => compares::compare(line, number, out),
         _ => print::error(out, number, b"unknown command", b""),
     }
 }

@@ -3,5 +3,6 @@
 // Rule: the commands are docs/DRILL.md's.
 pub mod calendars;
 pub mod collects;
+pub mod compares;
 pub mod requests;
 pub mod salvages;

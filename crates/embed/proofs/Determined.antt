@@ -17,6 +17,7 @@ use Rattle.embed.proofs.reckonstile_align.Reads as align
 use Rattle.embed.proofs.reckonstile_collect.Reads as collect
 use Rattle.embed.proofs.reckonstile_write_request.Reads as write-request
 use Rattle.embed.proofs.reckonstile_salvage.Reads as salvage
+use Rattle.embed.proofs.reckonstile_compare.Reads as compare
 use Rattle.embed.proofs.reckonstile_check_calendar.Reads as check-calendar
 use Rattle.embed.proofs.reckonstile_plan_calendar.Reads as plan-calendar
 use Rattle.embed.proofs.reckonstile_blank as blank
@@ -46,6 +47,9 @@ write-request-determined κs a y z e f p q = (p .0 ∙ sym (q .0), p .1 ∙ sym 
 
 pub salvage-determined : DeterminedLent salvage.Post (λ κs e. now (e .1 .0))
 salvage-determined κs a y z e f p q = (p .0 ∙ sym (q .0), p .1 ∙ sym (q .1))
+
+pub compare-determined : DeterminedLent compare.Post (λ κs e. now (e .1 .1 .0))
+compare-determined κs a y z e f p q = (p .0 ∙ sym (q .0), p .1 ∙ sym (q .1))
 
 pub check-calendar-determined : Determined check-calendar.Post
 check-calendar-determined κs a y z e f p q = p ∙ sym q

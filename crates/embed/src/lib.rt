@@ -1,9 +1,10 @@
 // What a caller from C or Rust links: the calls of the association, over a record that the caller lends, and the tools beside it.
 // Promises: each is the call behind it on the unpacked record, packed again, and has a defined answer on any bytes whatever.
-// Rule: RULES, parts 7 and 10 to 12, and No. 1, No. 5, No. 6, No. 9, No. 11 and No. 13; definitions in specs/Calls.antt and specs/Written.antt, of the
-// tools in embed_tools, of the hand-over file in embed_handover.
+// Rule: RULES, parts 7 and 10 to 12, and No. 1, No. 5, No. 6, No. 9, No. 10, No. 11 and No. 13; definitions in specs/Calls.antt and specs/Written.antt, of the
+// tools in embed_tools, of the hand-over file in embed_handover, of the comparison in embed_compare.
 use collector::Collected;
 use cookiestash::Dropped;
+use embed_compare::CCompared;
 use embed_handover::CLoadAnswer;
 use embed_record::CAssociation;
 use embed_record::CSettings;
@@ -30,6 +31,8 @@ ghost use Rattle.salvage.specs.Salvage.{salvageOf, bufferOf as cleaned};
 ghost use Rattle.calendar.specs.Calendar.{checkOf};
 ghost use Rattle.calendar.specs.Plan.{planOf, bufferOf as planned};
 ghost use Rattle.embed_tools.specs.Told.{salvagedAs, checkedAs, plannedAs};
+ghost use Rattle.handover_compare.specs.Answers.{compareOf, outOf};
+ghost use Rattle.embed_compare.specs.Told.{comparedAs};
 ghost use Rattle.embed_handover.specs.Handed.{cSaved, gave, saveCall, loadCall};
 ghost use Rattle.embed.specs.Calls.{timerGave, timerCall, replyGave, replyCall, decodedCall, acceptCall};
 ghost use Rattle.embed.specs.Written.{collectedAs, requestedAs, sendIn};
@@ -307,6 +310,14 @@ pub extern "C" fn reckonstile_salvage(list: &[u8], out: &mut [u8]) -> CSalvaged
     ensures { λ r. ⌜ (r ≡ salvagedAs (salvageOf (now (list .entry)) (length (now (out .entry))))) × (now (out .exit) ≡ cleaned (now (list .entry)) (now (out .entry))) ⌝ }
 {
     embed_tools::salvage(list, out)
+}
+
+// The fields in which two hand-over files differ, from the buffer's start on: 0, 61 to 63, 71.
+#[no_mangle]
+pub extern "C" fn reckonstile_compare(left: &[u8], right: &[u8], out: &mut [u8]) -> CCompared
+    ensures { λ r. ⌜ (r ≡ comparedAs (compareOf (now (left .entry)) (now (right .entry)) (length (now (out .entry))))) × (now (out .exit) ≡ outOf (now (left .entry)) (now (right .entry)) (now (out .entry))) ⌝ }
+{
+    embed_compare::compare(left, right, out)
 }
 
 // Whether a poll calendar is accepted: 0, 80 to 83.

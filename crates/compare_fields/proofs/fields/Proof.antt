@@ -1,0 +1,72 @@
+-- `fields` meets its contract: the groups one behind the other.
+-- Assumes nothing.
+use Rattle.compare_fields.proofs.Grouped.{grouped}
+use borrow.Author.Needs.{needs}
+use Rattle.compare_fields.proofs.fields.Statement.{statement}
+use Rattle.compare_fields.proofs.fields.Tie as tie
+
+settings-numbers-requires : tie.Need-settings-numbers-requires
+settings-numbers-requires c κs = search needs
+
+settings-numbers-requires-2 : tie.Need-settings-numbers-requires-2
+settings-numbers-requires-2 c κs = search needs
+
+eight-requires : tie.Need-eight-requires
+eight-requires c κs = search needs
+
+wide-requires : tie.Need-wide-requires
+wide-requires c κs = search needs
+
+wide-requires-2 : tie.Need-wide-requires-2
+wide-requires-2 c κs = search needs
+
+number-requires : tie.Need-number-requires
+number-requires c κs = search needs
+
+number-requires-2 : tie.Need-number-requires-2
+number-requires-2 c κs = search needs
+
+cookie-fields-requires : tie.Need-cookie-fields-requires
+cookie-fields-requires c κs = search needs
+
+state-numbers-requires : tie.Need-state-numbers-requires
+state-numbers-requires c κs = search needs
+
+state-numbers-requires-2 : tie.Need-state-numbers-requires-2
+state-numbers-requires-2 c κs = search needs
+
+eight-requires-2 : tie.Need-eight-requires-2
+eight-requires-2 c κs = search needs
+
+returns : tie.Need-returns
+returns c =
+    let a = c .before .before .before .before .before .before .before .before .before .before .before .before .before .args in
+    grouped (a .l) (a .r)
+    (c .before .before .before .before .before .before .before .before .before .before .settings-numbers .ensures)
+    (c .before .before .before .before .before .before .before .before .before .settings-numbers2 .ensures)
+    (c .before .before .before .before .before .before .before .before .eight .ensures)
+    (c .before .before .before .before .before .before .before .wide .ensures .0)
+    (c .before .before .before .before .before .before .wide2 .ensures .0)
+    (c .before .before .before .before .before .number .ensures)
+    (c .before .before .before .before .number2 .ensures)
+    (c .before .before .before .cookie-fields .ensures)
+    (c .before .before .state-numbers .ensures)
+    (c .before .state-numbers2 .ensures)
+    (c .eight2 .ensures)
+
+pub fields-spec : {M : Type 1} → statement M
+fields-spec =
+    tie.close
+    (tie.spec
+    settings-numbers-requires
+    settings-numbers-requires-2
+    eight-requires
+    wide-requires
+    wide-requires-2
+    number-requires
+    number-requires-2
+    cookie-fields-requires
+    state-numbers-requires
+    state-numbers-requires-2
+    eight-requires-2
+    returns)

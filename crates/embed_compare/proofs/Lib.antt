@@ -1,0 +1,3 @@
+-- Laws of the exported comparison.
+pub mod Laws
+pub mod Determined

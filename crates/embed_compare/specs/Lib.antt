@@ -1,0 +1,2 @@
+-- The definitions that the contracts of `embed_compare` cite.
+pub mod Told

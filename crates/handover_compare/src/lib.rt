@@ -1,0 +1,210 @@
+// Two hand-over files side by side: every field in which the two boxes differ, as a list of bytes.
+// Promises: the list is empty exactly when the two loaded records are equal; a refusal of the left file comes before one of the right; after one nothing is written.
+// Rule: RULES, No. 10; the fields are defined in `compare_fields`, the answers in specs/Answers.antt, number by number in specs/Numbers.antt.
+use association::Association;
+use compare_fields::Field;
+use compare_fields::Groups;
+use handover_file::LoadAnswer;
+ghost use mathlib.Core.Path.{_≡_};
+ghost use Prim.Native.Nat.{_+_, _≤_};
+ghost use lib.ListN.{length};
+ghost use mathlib.Core.List.{_∷_, []};
+ghost use Rattle.compare_fields.specs.Fields.{differing, entryBytes, listBytes};
+ghost use Rattle.compare_fields.specs.Steps.{allOf};
+ghost use Rattle.handover_save.specs.Put.{Put};
+ghost use Rattle.handover_compare.specs.Answer.{compareNumber};
+ghost use Rattle.handover_compare.specs.Answers.{toldIn, writtenIn, rightOf, rightOut, compareOf, outOf};
+
+// How many bytes an entry has: the code, two readings, and the place.
+pub const ENTRY: usize = 19;
+
+// How many bytes the longest list has: an entry for each of the 26 fields.
+pub const MAX_LIST: usize = 494;
+
+// Which of the two files.
+pub enum Side {
+    Left,
+    Right,
+}
+
+// What comparing answers: how many entries the list has; which file was refused, and why; or that the buffer is shorter than the list.
+pub enum CompareAnswer {
+    Listed(usize),
+    WrongMark(Side),
+    WrongLength(Side),
+    NoAssociation(Side),
+    ShortBuffer,
+}
+
+impl CompareAnswer {
+    // The number of the answer, in RULES.
+    pub fn number(self) -> u8
+        ensures { λ r. ⌜ r ≡ compareNumber self ⌝ }
+    {
+        match self {
+            CompareAnswer::Listed(_) => 0,
+            CompareAnswer::WrongMark(_) => 61,
+            CompareAnswer::WrongLength(_) => 62,
+            CompareAnswer::NoAssociation(_) => 63,
+            CompareAnswer::ShortBuffer => 71,
+        }
+    }
+}
+
+// How many entries a field has: one where it differs.
+fn entries_of(f: Field) -> usize
+    ensures { λ r. ⌜ (r ≡ length (differing (f ∷ []))) × (r ≤ 1) ⌝ }
+{
+    if f.same { 0 } else { 1 }
+}
+
+// How many of eight fields differ.
+fn count(fields: [Field; 8]) -> usize
+    ensures { λ r. ⌜ (r ≡ length (differing fields)) × (r ≤ 8) ⌝ }
+{
+    let mut n: usize = 0;
+    let mut i: usize = 0;
+    while i < 8 {
+        n = n + entries_of(fields[i]);
+        i = i + 1;
+    }
+    n
+}
+
+// How many fields differ.
+fn entries(g: Groups) -> usize
+    ensures { λ r. ⌜ (r ≡ length (differing (allOf g))) × (r ≤ 26) ⌝ }
+{
+    let settings = g.settings;
+    let capacity = g.capacity;
+    let read = g.read;
+    let cookies = g.cookies;
+    let state = g.state;
+    count(settings) + entries_of(capacity) + entries_of(read) + count(cookies) + count(state)
+}
+
+// An entry: the code, both readings, and the place.
+fn entry(f: Field) -> [u8; 19]
+    ensures { λ r. ⌜ r ≡ entryBytes f ⌝ }
+{
+    let l = words::be64_bytes(f.left);
+    let r = words::be64_bytes(f.right);
+    let p = words::be16_bytes(f.place);
+    [
+        f.code,
+        l[0],
+        l[1],
+        l[2],
+        l[3],
+        l[4],
+        l[5],
+        l[6],
+        l[7],
+        r[0],
+        r[1],
+        r[2],
+        r[3],
+        r[4],
+        r[5],
+        r[6],
+        r[7],
+        p[0],
+        p[1],
+    ]
+}
+
+// Copies bytes to an offset of the buffer, and gives the offset behind them.
+fn put(out: &mut [u8], at: usize, piece: &[u8]) -> usize
+    requires { ⌜ at + length (now piece) ≤ length (now out) ⌝ }
+    ensures { λ r. ⌜ Put (now (out .entry)) at (now (piece .entry)) r (now (out .exit)) ⌝ }
+{
+    let n = piece.len();
+    bytes::copy(piece, &mut out[at..]);
+    at + n
+}
+
+// The entry of a field, where it differs.
+fn put_field(out: &mut [u8], at: usize, f: Field) -> usize
+    requires { ⌜ at + length (listBytes (differing (f ∷ []))) ≤ length (now out) ⌝ }
+    ensures { λ r. ⌜ Put (now (out .entry)) at (listBytes (differing (f ∷ []))) r (now (out .exit)) ⌝ }
+{
+    if f.same {
+        return at;
+    }
+    let e = entry(f);
+    put(out, at, &e)
+}
+
+// The entries of eight fields.
+fn put_eight(out: &mut [u8], at: usize, fields: [Field; 8]) -> usize
+    requires { ⌜ at + length (listBytes (differing fields)) ≤ length (now out) ⌝ }
+    ensures { λ r. ⌜ Put (now (out .entry)) at (listBytes (differing fields)) r (now (out .exit)) ⌝ }
+{
+    let mut to = at;
+    let mut i: usize = 0;
+    while i < 8 {
+        to = put_field(out, to, fields[i]);
+        i = i + 1;
+    }
+    to
+}
+
+// The whole list, from the start of the buffer.
+fn put_list(out: &mut [u8], g: Groups) -> usize
+    requires { ⌜ length (listBytes (differing (allOf g))) ≤ length (now out) ⌝ }
+    ensures { λ r. ⌜ Put (now (out .entry)) 0 (listBytes (differing (allOf g))) r (now (out .exit)) ⌝ }
+{
+    let settings = g.settings;
+    let capacity = g.capacity;
+    let read = g.read;
+    let cookies = g.cookies;
+    let state = g.state;
+    let to = put_eight(out, 0, settings);
+    let to = put_field(out, to, capacity);
+    let to = put_field(out, to, read);
+    let to = put_eight(out, to, cookies);
+    put_eight(out, to, state)
+}
+
+// Compares two associations.
+pub fn compare_associations(l: Association, r: Association, out: &mut [u8]) -> CompareAnswer
+    ensures { λ x. ⌜ (x ≡ toldIn l r (length (now (out .entry)))) × (now (out .exit) ≡ writtenIn l r (now (out .entry))) ⌝ }
+{
+    let g = compare_fields::fields(l, r);
+    let n = entries(g);
+    if out.len() < ENTRY * n {
+        return CompareAnswer::ShortBuffer;
+    }
+    put_list(out, g);
+    CompareAnswer::Listed(n)
+}
+
+// Compares a loaded association with a file.
+fn compare_right(l: Association, right: &[u8], out: &mut [u8]) -> CompareAnswer
+    ensures { λ x. ⌜ (x ≡ rightOf l (now (right .entry)) (length (now (out .entry)))) × (now (out .exit) ≡ rightOut l (now (right .entry)) (now (out .entry))) ⌝ }
+{
+    let loaded = handover_load::load(right);
+    let answer = loaded.answer;
+    let r = loaded.association;
+    match answer {
+        LoadAnswer::Loaded { retired: _ } => compare_associations(l, r, out),
+        LoadAnswer::WrongMark => CompareAnswer::WrongMark(Side::Right),
+        LoadAnswer::WrongLength => CompareAnswer::WrongLength(Side::Right),
+        LoadAnswer::NoAssociation => CompareAnswer::NoAssociation(Side::Right),
+    }
+}
+
+// Compares two files. The left one is read first.
+pub fn compare(left: &[u8], right: &[u8], out: &mut [u8]) -> CompareAnswer
+    ensures { λ x. ⌜ (x ≡ compareOf (now (left .entry)) (now (right .entry)) (length (now (out .entry)))) × (now (out .exit) ≡ outOf (now (left .entry)) (now (right .entry)) (now (out .entry))) ⌝ }
+{
+    let loaded = handover_load::load(left);
+    let answer = loaded.answer;
+    let l = loaded.association;
+    match answer {
+        LoadAnswer::Loaded { retired: _ } => compare_right(l, right, out),
+        LoadAnswer::WrongMark => CompareAnswer::WrongMark(Side::Left),
+        LoadAnswer::WrongLength => CompareAnswer::WrongLength(Side::Left),
+        LoadAnswer::NoAssociation => CompareAnswer::NoAssociation(Side::Left),
+    }
+}
