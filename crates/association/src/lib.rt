@@ -29,7 +29,7 @@ pub struct Settings {
     pub startup: u8,
     // How long a request stays live, in nanoseconds.
     pub window: u64,
-    // The reference timestamp of an upgrade request and of an upgrade reply.
+    // The reference timestamp of an upgrade request. It is kept and handed over; no call of an association reads it (RULES, No. 14).
     pub upgrademark: u64,
     pub start: Version,
     pub nts: bool,

@@ -41,7 +41,7 @@ arrivalOf (decoded d t) = t
 
 -- what a reply says, read with the uid of a request
 abbrev pub readAs : Settings → Pending → ReplyIn → ReplyRead
-readAs s q (bytes packet end decrypted t) = readOf (s .nts) (q .uid) (s .upgrademark) packet end decrypted
+readAs s q (bytes packet end decrypted t) = readOf (s .nts) (q .uid) packet end decrypted
 readAs s q (decoded d t) = Decoded (decodedOf d)
 
 -- a reply answers a request if part 8 holds for its identifiers

@@ -130,9 +130,9 @@ module _ (a : Association) (read : ReplyRead) (t : Arrival) (w : Inside a) where
   same-remote (already-measured x e) = refl
   same-remote (late x e) = refl
   same-remote (no-match i e) = refl
-  same-remote (rate {r} m e) =
+  same-remote (rate m e) =
       let pending = both (a .state .request .present) _ (m .in-time .pending) .0 in
-      ap (λ (z : ℤ). withRemote (withState a (stepped (a .state) (r .upgrade))) (interval z))
+      ap (λ (z : ℤ). withRemote (withState a (stepped (a .state))) (interval z))
       (rate-crate (a .state .polls .remote .0) (a .settings .max .0) (a .state .polls .last .0) (w pending))
   same-remote (denied u e f) = refl
   same-remote (denied-nts u e f) = refl

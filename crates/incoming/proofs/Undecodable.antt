@@ -74,23 +74,23 @@ module _ (nts : Bool) (p : List ℕ) (end : ℕ) (decrypted : List ℕ) where
       no-place false q = refl
   which-fails v e n (inr (inr (inr f))) = inr (rw (f .0) (not-whole (decryptedWalk decrypted) (f .1)))
 
-  undecodable : (uid : List ℕ) (upgrademark : ℕ) → (readOf nts uid upgrademark p end decrypted ≡ Undecodable) ↔ Refused nts p end decrypted
+  undecodable : (uid : List ℕ) → (readOf nts uid p end decrypted ≡ Undecodable) ↔ Refused nts p end decrypted
   unfolding readOf bytesRead fields
-  undecodable uid upgrademark = (there (headerOf p) (view p) refl, back (headerOf p) (view p) refl)
+  undecodable uid = (there (headerOf p) (view p) refl, back (headerOf p) (view p) refl)
     where
-      there : (r : HeaderRead) → Read p r → headerOf p ≡ r → onHeader (bytesRead nts uid upgrademark p end decrypted) r ≡ Undecodable → Refused nts p end decrypted
+      there : (r : HeaderRead) → Read p r → headerOf p ≡ r → onHeader (bytesRead nts uid p end decrypted) r ≡ Undecodable → Refused nts p end decrypted
       there _ (short l) e q = inl e
       there _ (other a b) e q = inl e
       there _ (read v l b) e q = ⊎-elim (end-refused v b) decrypted-refused (one-fails (endValid v p end) (decryptedValid nts decrypted) _ q)
 
-      back : (r : HeaderRead) → Read p r → headerOf p ≡ r → Refused nts p end decrypted → onHeader (bytesRead nts uid upgrademark p end decrypted) r ≡ Undecodable
+      back : (r : HeaderRead) → Read p r → headerOf p ≡ r → Refused nts p end decrypted → onHeader (bytesRead nts uid p end decrypted) r ≡ Undecodable
       back _ (short l) e q = refl
       back _ (other a b) e q = refl
       back _ (read v l b) e q = then-refused (endValid v p end) (decryptedValid nts decrypted) _ (which-fails v b (λ u. let z : _≡_ {A = ℕ} 0 1 = cc in omega arith) q)
 
   -- the byte form is refused with number 1 of RULES exactly there, and with no other number
-  pub refused : (uid : List ℕ) (upgrademark n : ℕ) → (refusalOf (readOf nts uid upgrademark p end decrypted) ≡ some n) ↔ ((n ≡ 1) × Refused nts p end decrypted)
-  refused uid upgrademark n = (
-    λ e. (let b = refused-by (readOf nts uid upgrademark p end decrypted) n e in (b .0, undecodable uid upgrademark .0 (b .1))),
-    λ f. ap refusalOf (undecodable uid upgrademark .1 (f .1)) ∙ ap some (sym (f .0)),
+  pub refused : (uid : List ℕ) (n : ℕ) → (refusalOf (readOf nts uid p end decrypted) ≡ some n) ↔ ((n ≡ 1) × Refused nts p end decrypted)
+  refused uid n = (
+    λ e. (let b = refused-by (readOf nts uid p end decrypted) n e in (b .0, undecodable uid .0 (b .1))),
+    λ f. ap refusalOf (undecodable uid .1 (f .1)) ∙ ap some (sym (f .0)),
   )

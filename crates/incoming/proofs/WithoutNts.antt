@@ -17,11 +17,11 @@ pub no-group : (v : HeaderVersion) (p : List ℕ) (from to : ℕ) (uid : List �
 no-group V3 p from to uid = refl
 no-group V4 p from to uid = refl
 
-pub without-nts : (uid uid′ : List ℕ) (upgrademark : ℕ) (p : List ℕ) (end : ℕ) (decrypted decrypted′ : List ℕ) → readOf false uid upgrademark p end decrypted ≡ readOf false uid′ upgrademark p end decrypted′
+pub without-nts : (uid uid′ : List ℕ) (p : List ℕ) (end : ℕ) (decrypted decrypted′ : List ℕ) → readOf false uid p end decrypted ≡ readOf false uid′ p end decrypted′
 unfolding readOf bytesRead
-without-nts uid uid′ upgrademark p end decrypted decrypted′ = by (headerOf p)
+without-nts uid uid′ p end decrypted decrypted′ = by (headerOf p)
   where
-    by : (r : HeaderRead) → onHeader (bytesRead false uid upgrademark p end decrypted) r ≡ onHeader (bytesRead false uid′ upgrademark p end decrypted′) r
+    by : (r : HeaderRead) → onHeader (bytesRead false uid p end decrypted) r ≡ onHeader (bytesRead false uid′ p end decrypted′) r
     by (Decoded h) =
         rw (
           no-group (h .version) p 48 end uid,

@@ -7,7 +7,6 @@ use Prim.Native.Nat.{ℕ}
 use lib.Dec.{eqb}
 use lib.ListN.{length}
 use Rattle.identifiers.specs.Names.{named, xnon}
-use Rattle.version.specs.Upgrade.{upgradeReply}
 use Rattle.time_types.specs.Time.{duration, shortOf}
 use Rattle.header.specs.declared.Header.{Header}
 use Rattle.header.specs.declared.HeaderVersion.{HeaderVersion}
@@ -76,8 +75,8 @@ abbrev pub encryptedOf : Bool → List ℕ → List ℕ → Uid
 encryptedOf nts decrypted uid = cond nts (decryptedUid decrypted uid) Absent
 
 -- the value of a header and its groups; root values are in the short format
-unfoldable pub valueOf : Header → ℕ → Uid → Uid → Uid → Reply
-valueOf h upgrademark authenticated encrypted untrusted =
+unfoldable pub valueOf : Header → Uid → Uid → Uid → Reply
+valueOf h authenticated encrypted untrusted =
     record {
       version = versionCode (h .version);
       leap = leapOf (h .leap);
@@ -91,7 +90,6 @@ valueOf h upgrademark authenticated encrypted untrusted =
       origin = h .origin .0;
       receive = h .receive;
       transmit = h .transmit;
-      upgrade = upgradeReply (versionCode (h .version)) (h .reftime .0) upgrademark;
       kisses = kissesOf h;
       authenticated = authenticated;
       encrypted = encrypted;
@@ -99,10 +97,10 @@ valueOf h upgrademark authenticated encrypted untrusted =
     }
 
 -- the byte form of a header that is read
-unfoldable pub bytesRead : Bool → List ℕ → ℕ → List ℕ → ℕ → List ℕ → Header → ReplyRead
-bytesRead nts uid upgrademark p end decrypted h =
+unfoldable pub bytesRead : Bool → List ℕ → List ℕ → ℕ → List ℕ → Header → ReplyRead
+bytesRead nts uid p end decrypted h =
     cond (endValid (h .version) p end && decryptedValid nts decrypted)
-    (Decoded (valueOf h upgrademark (groupOf nts (h .version) p 48 end uid) (encryptedOf nts decrypted uid) (groupOf nts (h .version) p end (length p) uid)))
+    (Decoded (valueOf h (groupOf nts (h .version) p 48 end uid) (encryptedOf nts decrypted uid) (groupOf nts (h .version) p end (length p) uid)))
     Undecodable
 
 abbrev pub onHeader : (Header → ReplyRead) → HeaderRead → ReplyRead
@@ -110,8 +108,8 @@ onHeader f (H.Decoded h) = f h
 onHeader f H.Undecodable = Undecodable
 
 -- the byte form: undecodable header, authenticated end that is no place, and broken decrypted fields are refused
-unfoldable pub readOf : Bool → List ℕ → ℕ → List ℕ → ℕ → List ℕ → ReplyRead
-readOf nts uid upgrademark p end decrypted = onHeader (bytesRead nts uid upgrademark p end decrypted) (headerOf p)
+unfoldable pub readOf : Bool → List ℕ → List ℕ → ℕ → List ℕ → ReplyRead
+readOf nts uid p end decrypted = onHeader (bytesRead nts uid p end decrypted) (headerOf p)
 
 -- the number in RULES: 1 for packet bytes that are not decodable; a reply that is read is refused by none here
 abbrev pub refusalOf : ReplyRead → Option ℕ
@@ -122,7 +120,7 @@ abbrev pub isResponse : DecodedMode → Bool
 isResponse Request = false
 isResponse Response = true
 
--- the decoded form: version 5, the client cookie as the 64 bits, no upgrade reply; it reports no reference identifier, as in the crate
+-- the decoded form: version 5, the client cookie as the 64 bits; it reports no reference identifier, as in the crate
 unfoldable pub decodedOf : DecodedReply → Reply
 decodedOf d =
     record {
@@ -138,7 +136,6 @@ decodedOf d =
       origin = d .cookie;
       receive = d .receive;
       transmit = d .transmit;
-      upgrade = false;
       kisses = d .kisses;
       authenticated = d .authenticated;
       encrypted = d .encrypted;

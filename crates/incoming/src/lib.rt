@@ -43,7 +43,6 @@ pub struct Reply {
     pub origin: u64,
     pub receive: NtpTimestamp,
     pub transmit: NtpTimestamp,
-    pub upgrade: bool,
     pub kisses: Kisses,
     // What each group of its fields says of the unique identifier.
     pub authenticated: Uid,
@@ -173,8 +172,8 @@ fn encrypted(nts: bool, decrypted: &[u8], uid: [u8; 32]) -> Uid
 }
 
 // The value of a header and its groups.
-fn value(h: Header, upgrademark: u64, authenticated: Uid, encrypted: Uid, untrusted: Uid) -> Reply
-    ensures { λ r. ⌜ r ≡ valueOf h upgrademark authenticated encrypted untrusted ⌝ }
+fn value(h: Header, authenticated: Uid, encrypted: Uid, untrusted: Uid) -> Reply
+    ensures { λ r. ⌜ r ≡ valueOf h authenticated encrypted untrusted ⌝ }
 {
     let header_version = h.version;
     let version = header_version.number();
@@ -188,7 +187,6 @@ fn value(h: Header, upgrademark: u64, authenticated: Uid, encrypted: Uid, untrus
     let refid = h.refid;
     let receive = h.receive;
     let transmit = h.transmit;
-    let upgrade = version::is_upgrade_reply(version, h.reftime.0, upgrademark);
     let kisses = h.kisses();
     Reply {
         version,
@@ -203,7 +201,6 @@ fn value(h: Header, upgrademark: u64, authenticated: Uid, encrypted: Uid, untrus
         origin: h.origin.0,
         receive,
         transmit,
-        upgrade,
         kisses,
         authenticated,
         encrypted,
@@ -215,12 +212,11 @@ fn value(h: Header, upgrademark: u64, authenticated: Uid, encrypted: Uid, untrus
 pub fn read_reply(
     nts: bool,
     uid: [u8; 32],
-    upgrademark: u64,
     packet: &[u8],
     end: usize,
     decrypted: &[u8],
 ) -> ReplyRead
-    ensures { λ r. ⌜ r ≡ readOf nts uid upgrademark (now (packet .entry)) end (now (decrypted .entry)) ⌝ }
+    ensures { λ r. ⌜ r ≡ readOf nts uid (now (packet .entry)) end (now (decrypted .entry)) ⌝ }
 {
     let HeaderRead::Decoded(h) = header::read_header(packet) else {
         return ReplyRead::Undecodable;
@@ -235,7 +231,7 @@ pub fn read_reply(
     let authenticated = group(nts, version, packet, HEADER_BYTES, end, uid);
     let encrypted = encrypted(nts, decrypted, uid);
     let untrusted = group(nts, version, packet, end, packet.len(), uid);
-    ReplyRead::Decoded(value(h, upgrademark, authenticated, encrypted, untrusted))
+    ReplyRead::Decoded(value(h, authenticated, encrypted, untrusted))
 }
 
 fn is_response(mode: DecodedMode) -> bool
@@ -277,7 +273,6 @@ impl DecodedReply {
             origin: self.cookie,
             receive,
             transmit,
-            upgrade: false,
             kisses,
             authenticated,
             encrypted,

@@ -2,7 +2,7 @@
 -- And the poll values: the last one stays, and the remote minimum never falls; on all but 0 and 5 it stays too.
 -- Assumes nothing.
 use mathlib.Core.Path.{_≡_, refl, sym, ap, _∙_}
-use mathlib.Core.Bool.{Bool, true, false, _&&_, _||_, cond}
+use mathlib.Core.Bool.{true, false, _&&_, _||_, cond}
 use Prim.Native.Nat.{ℕ}
 use lib.Dec.{T, leb, eqb}
 use lib.Signed.{_≤ℤ_, ≤ℤ-refl}
@@ -25,7 +25,7 @@ pub record Heard (a : Association) (n : ℕ) (o : ReplyOut) : Type 0 where
   pub effort : (n ≡ 0 → ⊥) → o .association .state .effort ≡ a .state .effort
   pub unanswered : o .association .state .effort .unanswered ≡ cond (eqb n 0) 0 (a .state .effort .unanswered)
   pub same : T ((leb 1 n && leb n 4) || leb 12 n) → o .association ≡ a
-  pub version : T (leb 7 n && leb n 11) → ((upgrade : Bool) × (o .association ≡ withState a (stepped (a .state) upgrade)))
+  pub version : T (leb 7 n && leb n 11) → o .association ≡ withState a (stepped (a .state))
 
 module _ (a : Association) (read : ReplyRead) (t : Arrival) where
   pub heard : {n : ℕ} {o : ReplyOut} → Given a read t n o → Heard a n o
@@ -40,11 +40,11 @@ module _ (a : Association) (read : ReplyRead) (t : Arrival) where
   heard (no-match i e) = record { settings = refl; request = refl; effort = λ _. refl; unanswered = refl; same = λ _. refl; version = absurd }
   heard (rate m e) = record { settings = refl; request = refl; effort = λ _. refl; unanswered = refl; same = absurd; version = absurd }
   heard (denied u e f) = record { settings = refl; request = refl; effort = λ _. refl; unanswered = refl; same = absurd; version = absurd }
-  heard (denied-nts {r} u e f) = record { settings = refl; request = refl; effort = λ _. refl; unanswered = refl; same = absurd; version = λ _. (r .upgrade, refl) }
-  heard (ntsn {r} v e) = record { settings = refl; request = refl; effort = λ _. refl; unanswered = refl; same = absurd; version = λ _. (r .upgrade, refl) }
-  heard (other-kiss {r} w e) = record { settings = refl; request = refl; effort = λ _. refl; unanswered = refl; same = absurd; version = λ _. (r .upgrade, refl) }
-  heard (bad-stratum {r} k e) = record { settings = refl; request = refl; effort = λ _. refl; unanswered = refl; same = absurd; version = λ _. (r .upgrade, refl) }
-  heard (not-server {r} s e) = record { settings = refl; request = refl; effort = λ _. refl; unanswered = refl; same = absurd; version = λ _. (r .upgrade, refl) }
+  heard (denied-nts u e f) = record { settings = refl; request = refl; effort = λ _. refl; unanswered = refl; same = absurd; version = λ _. refl }
+  heard (ntsn v e) = record { settings = refl; request = refl; effort = λ _. refl; unanswered = refl; same = absurd; version = λ _. refl }
+  heard (other-kiss w e) = record { settings = refl; request = refl; effort = λ _. refl; unanswered = refl; same = absurd; version = λ _. refl }
+  heard (bad-stratum k e) = record { settings = refl; request = refl; effort = λ _. refl; unanswered = refl; same = absurd; version = λ _. refl }
+  heard (not-server s e) = record { settings = refl; request = refl; effort = λ _. refl; unanswered = refl; same = absurd; version = λ _. refl }
   heard (measured s e) = record { settings = refl; request = refl; effort = λ u. absurd (u refl); unanswered = refl; same = absurd; version = absurd }
 
 -- ---- the poll values

@@ -44,8 +44,8 @@ module _ (cap : ℕ) (s : CookieStash) (list : List ℕ) where
 -- whichever number is given
 module _ (a : Association) (read : ReplyRead) (t : Arrival) (w : Whole a) where
   -- the upgrade step leads to no retired kind
-  stepped-on : (upgrade : Bool) → versionsValid (a .settings .start) (steppedOf (a .state .version) upgrade) ≡ true
-  stepped-on upgrade = versions-kept (a .settings .start) (a .state .version) (steppedOf (a .state .version) upgrade) (stepped-stays (a .state .version .kind) upgrade) (w .versions)
+  stepped-on : versionsValid (a .settings .start) (steppedOf (a .state .version) false) ≡ true
+  stepped-on = versions-kept (a .settings .start) (a .state .version) (steppedOf (a .state .version) false) (stepped-stays (a .state .version .kind) false) (w .versions)
 
   given-whole : {n : ℕ} {o : ReplyOut} → Given a read t n o → Whole (o .association)
   unfolding stepped afterRateKiss afterDenial afterMeasured noPending pendingValid
@@ -57,19 +57,19 @@ module _ (a : Association) (read : ReplyRead) (t : Arrival) (w : Whole a) where
   given-whole (already-measured x e) = w
   given-whole (late x e) = w
   given-whole (no-match i e) = w
-  given-whole (rate {r} m e) = record { settings = w .settings; stash = w .stash; counted = w .counted; versions = stepped-on (r .upgrade); request = w .request; idle = w .idle }
-  given-whole (denied {r} u e f) = record { settings = w .settings; stash = w .stash; counted = w .counted; versions = stepped-on (r .upgrade); request = w .request; idle = w .idle }
-  given-whole (denied-nts {r} u e f) = record { settings = w .settings; stash = w .stash; counted = w .counted; versions = stepped-on (r .upgrade); request = w .request; idle = w .idle }
-  given-whole (ntsn {r} v e) = record { settings = w .settings; stash = w .stash; counted = w .counted; versions = stepped-on (r .upgrade); request = w .request; idle = w .idle }
-  given-whole (other-kiss {r} k e) = record { settings = w .settings; stash = w .stash; counted = w .counted; versions = stepped-on (r .upgrade); request = w .request; idle = w .idle }
-  given-whole (bad-stratum {r} k e) = record { settings = w .settings; stash = w .stash; counted = w .counted; versions = stepped-on (r .upgrade); request = w .request; idle = w .idle }
-  given-whole (not-server {r} s e) = record { settings = w .settings; stash = w .stash; counted = w .counted; versions = stepped-on (r .upgrade); request = w .request; idle = w .idle }
-  given-whole (measured {r} s e) =
+  given-whole (rate m e) = record { settings = w .settings; stash = w .stash; counted = w .counted; versions = stepped-on; request = w .request; idle = w .idle }
+  given-whole (denied u e f) = record { settings = w .settings; stash = w .stash; counted = w .counted; versions = stepped-on; request = w .request; idle = w .idle }
+  given-whole (denied-nts u e f) = record { settings = w .settings; stash = w .stash; counted = w .counted; versions = stepped-on; request = w .request; idle = w .idle }
+  given-whole (ntsn v e) = record { settings = w .settings; stash = w .stash; counted = w .counted; versions = stepped-on; request = w .request; idle = w .idle }
+  given-whole (other-kiss k e) = record { settings = w .settings; stash = w .stash; counted = w .counted; versions = stepped-on; request = w .request; idle = w .idle }
+  given-whole (bad-stratum k e) = record { settings = w .settings; stash = w .stash; counted = w .counted; versions = stepped-on; request = w .request; idle = w .idle }
+  given-whole (not-server s e) = record { settings = w .settings; stash = w .stash; counted = w .counted; versions = stepped-on; request = w .request; idle = w .idle }
+  given-whole (measured s e) =
       record {
         settings = w .settings;
         stash = stored-whole (a .settings .capacity) (a .stash) (t .list) (a .settings .nts) (w .stash);
         counted = sym (answered-unanswered (a .state .effort .reach));
-        versions = stepped-on (r .upgrade);
+        versions = stepped-on;
         request = of-zeros 32;
         idle = stored-idle (a .settings .capacity) (a .stash) (t .list) (a .settings .nts) (a .state .request .uid) (w .idle);
       }

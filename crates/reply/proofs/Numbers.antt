@@ -37,7 +37,7 @@ module _ (a : Association) (read : ReplyRead) (t : Arrival) where
   abbrev verdict : Verdict
   verdict = verdictOf (a .settings) (a .state) (seenOf (a .settings .capacity) (a .stash)) read t
 
-  matched-told : (r : Reply) → N.Matching a read t r → Told (matchedOf (a .settings) (stepped (a .state) (r .upgrade)) r (t .t1) (t .t4) (t .time))
+  matched-told : (r : Reply) → N.Matching a read t r → Told (matchedOf (a .settings) (stepped (a .state)) r (t .t1) (t .t4) (t .time))
   unfolding matchedOf
   matched-told r m =
       either Told (r .kisses .rate) (rate m)
@@ -79,7 +79,7 @@ module _ (a : Association) (read : ReplyRead) (t : Arrival) where
 
   -- what a reply that answers what is pending comes to; and one to which a request is pending, or was
   abbrev matched : Reply → Verdict
-  matched r = matchedOf (a .settings) (stepped (a .state) (r .upgrade)) r (t .t1) (t .t4) (t .time)
+  matched r = matchedOf (a .settings) (stepped (a .state)) r (t .t1) (t .t4) (t .time)
 
   abbrev unsent : Reply → Verdict
   unsent r =
@@ -104,7 +104,7 @@ module _ (a : Association) (read : ReplyRead) (t : Arrival) where
   to-matched m = to-in-time (m .in-time) ∙ unless _ _ (ap not (m .identifiers))
 
   to-ranked : {r : Reply} → N.Ranked a read t r →
-      let next = stepped (a .state) (r .upgrade) in
+      let next = stepped (a .state) in
       verdict ≡ cond (not (r .server)) (leaves NotServer next) (record { answer = Measured (measurementOf r (t .t1) (t .t4) (t .time)); state = afterMeasured next r; stores = a .settings .nts })
   unfolding matchedOf
   to-ranked s =

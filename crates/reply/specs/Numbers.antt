@@ -91,15 +91,15 @@ module _ (a : Association) (read : ReplyRead) (t : Arrival) where
     already-measured : {r : Reply} → Expected r → alreadyMeasured (a .state .request) ≡ true → Given 13 (out AlreadyMeasured a)
     late : {r : Reply} → Expected r → expired (a .state .request) (t .time) ≡ true → Given 14 (out Expired a)
     no-match : {r : Reply} → InTime r → answers (a .settings .nts) (a .state .request .id) r ≡ false → Given 4 (out NoMatch a)
-    rate : {r : Reply} → Matching r → r .kisses .rate ≡ true → Given 5 (out Rate (withState a (afterRateKiss (a .settings) (stepped (a .state) (r .upgrade)))))
+    rate : {r : Reply} → Matching r → r .kisses .rate ≡ true → Given 5 (out Rate (withState a (afterRateKiss (a .settings) (stepped (a .state)))))
     denied : {r : Reply} → Unlimited r → denies r ≡ true → a .settings .nts ≡ false →
-        Given 6 (out Denied (withState a (afterDenial (stepped (a .state) (r .upgrade)))))
+        Given 6 (out Denied (withState a (afterDenial (stepped (a .state)))))
     denied-nts : {r : Reply} → Unlimited r → denies r ≡ true → a .settings .nts ≡ true →
-        Given 7 (out DeniedNts (withState a (stepped (a .state) (r .upgrade))))
-    ntsn : {r : Reply} → Undenied r → r .kisses .ntsn ≡ true → Given 8 (out Ntsn (withState a (stepped (a .state) (r .upgrade))))
-    other-kiss : {r : Reply} → Acknowledged r → r .kisses .any ≡ true → Given 9 (out OtherKiss (withState a (stepped (a .state) (r .upgrade))))
-    bad-stratum : {r : Reply} → Unkissed r → ltb 16 (r .stratum) ≡ true → Given 10 (out BadStratum (withState a (stepped (a .state) (r .upgrade))))
-    not-server : {r : Reply} → Ranked r → r .server ≡ false → Given 11 (out NotServer (withState a (stepped (a .state) (r .upgrade))))
+        Given 7 (out DeniedNts (withState a (stepped (a .state))))
+    ntsn : {r : Reply} → Undenied r → r .kisses .ntsn ≡ true → Given 8 (out Ntsn (withState a (stepped (a .state))))
+    other-kiss : {r : Reply} → Acknowledged r → r .kisses .any ≡ true → Given 9 (out OtherKiss (withState a (stepped (a .state))))
+    bad-stratum : {r : Reply} → Unkissed r → ltb 16 (r .stratum) ≡ true → Given 10 (out BadStratum (withState a (stepped (a .state))))
+    not-server : {r : Reply} → Ranked r → r .server ≡ false → Given 11 (out NotServer (withState a (stepped (a .state))))
     -- with NTS the cookies are stored in order, and what fell out is told
     measured : {r : Reply} → Ranked r → r .server ≡ true →
-        Given 0 (told (Measured (measurementOf r (t .t1) (t .t4) (t .time))) (cond (a .settings .nts) (droppedOf (a .settings .capacity) (a .stash) (t .list)) noneDropped) (withStash (withState a (afterMeasured (stepped (a .state) (r .upgrade)) r)) (cond (a .settings .nts) (storeListOf (a .settings .capacity) (a .stash) (t .list)) (a .stash))))
+        Given 0 (told (Measured (measurementOf r (t .t1) (t .t4) (t .time))) (cond (a .settings .nts) (droppedOf (a .settings .capacity) (a .stash) (t .list)) noneDropped) (withStash (withState a (afterMeasured (stepped (a .state)) r)) (cond (a .settings .nts) (storeListOf (a .settings .capacity) (a .stash) (t .list)) (a .stash))))

@@ -60,12 +60,12 @@ answers nts id r = eqb (r .origin) id && (not nts || uidMatches (r .authenticate
 abbrev pub denies : Reply → Bool
 denies r = r .kisses .deny || r .kisses .rstr
 
--- the upgrade step
-unfoldable pub stepped : State → Bool → State
-stepped s upgrade =
+-- the upgrade step, on a matching reply, which steps as a plain one does (RULES, part 4 and No. 14)
+unfoldable pub stepped : State → State
+stepped s =
     record {
       effort = s .effort;
-      version = steppedOf (s .version) upgrade;
+      version = steppedOf (s .version) false;
       polls = s .polls;
       source = s .source;
       request = s .request;

@@ -89,12 +89,12 @@ pub fn denies(kisses: Kisses) -> bool
     if kisses.deny { true } else { kisses.rstr }
 }
 
-// The upgrade step, on a matching reply.
-pub fn stepped(s: State, upgrade: bool) -> State
-    ensures { λ r. ⌜ r ≡ stepped s upgrade ⌝ }
+// The upgrade step, on a matching reply. Each steps as a plain one does: only the retired kind of version told two kinds of reply apart.
+pub fn stepped(s: State) -> State
+    ensures { λ r. ⌜ r ≡ stepped s ⌝ }
 {
     let old = s.version;
-    let version = old.upgrade_step(upgrade);
+    let version = old.upgrade_step(false);
     let mut next = s;
     next.version = version;
     next

@@ -7,6 +7,6 @@ use Prim.Native.Nat.{ℕ}
 use Rattle.incoming.specs.Incoming.{readOf}
 use Rattle.incoming.proofs.WithoutNts.{without-nts}
 
-pub read-awaited : (nts : Bool) (uid other : List ℕ) (upgrademark : ℕ) (p : List ℕ) (end : ℕ) (decrypted : List ℕ) → readOf nts (cond nts uid other) upgrademark p end decrypted ≡ readOf nts uid upgrademark p end decrypted
-read-awaited true uid other upgrademark p end decrypted = refl
-read-awaited false uid other upgrademark p end decrypted = without-nts other uid upgrademark p end decrypted decrypted
+pub read-awaited : (nts : Bool) (uid other : List ℕ) (p : List ℕ) (end : ℕ) (decrypted : List ℕ) → readOf nts (cond nts uid other) p end decrypted ≡ readOf nts uid p end decrypted
+read-awaited true uid other p end decrypted = refl
+read-awaited false uid other p end decrypted = without-nts other uid p end decrypted decrypted

@@ -45,7 +45,7 @@ judgeOf g s r t =
     (cond (alreadyMeasured (s .request)) (leaves AlreadyMeasured s)
     (cond (expired (s .request) (t .time)) (leaves Expired s)
     (cond (not (answers (g .nts) (s .request .id) r)) (leaves NoMatch s)
-    (matchedOf g (stepped s (r .upgrade)) r (t .t1) (t .t4) (t .time)))))))
+    (matchedOf g (stepped s) r (t .t1) (t .t4) (t .time)))))))
 
 abbrev pub onRead : Settings → State → Arrival → ReplyRead → Verdict
 onRead g s t (R.Decoded r) = judgeOf g s r t
@@ -57,4 +57,4 @@ verdictOf g s v read t = cond (wholeSeen g v s) (onRead g s t read) (leaves NotW
 
 -- what the byte form is read as, with the uid of what is pending
 abbrev pub readWith : Settings → State → List ℕ → ℕ → List ℕ → ReplyRead
-readWith g s packet end decrypted = readOf (g .nts) (s .request .uid) (g .upgrademark) packet end decrypted
+readWith g s packet end decrypted = readOf (g .nts) (s .request .uid) packet end decrypted

@@ -198,7 +198,7 @@ fn judge(
             stores: false,
         };
     }
-    let next = reply_clauses::stepped(s, reply.upgrade);
+    let next = reply_clauses::stepped(s);
     matched(settings, next, reply, t1, t4, time)
 }
 
@@ -237,14 +237,8 @@ pub fn judge_packet(
     }
     let request = s.request;
     let uid = awaited(settings.nts, request);
-    let ReplyRead::Decoded(reply) = incoming::read_reply(
-        settings.nts,
-        uid,
-        settings.upgrademark,
-        packet,
-        end,
-        decrypted,
-    ) else {
+    let ReplyRead::Decoded(reply) = incoming::read_reply(settings.nts, uid, packet, end, decrypted)
+    else {
         return Verdict {
             answer: ReplyAnswer::Undecodable,
             state: s,

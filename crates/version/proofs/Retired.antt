@@ -1,4 +1,5 @@
 -- The retired kind (RULES, No. 14): no step and no fallback leads to it from another, and what is settled is not of it.
+-- On no other kind does the step look at whether a reply is an upgrade reply.
 -- Assumes nothing.
 use mathlib.Core.Path.{_≡_, refl, sym}
 use mathlib.Core.Bool.{Bool, true, false, cond, false≢true}
@@ -13,6 +14,12 @@ stepped-stays V4 upgrade e = refl
 stepped-stays (Upgrading tries) upgrade e = absurd (false≢true (sym e))
 stepped-stays Upgraded upgrade e = refl
 stepped-stays V5 upgrade e = refl
+
+pub stepped-plain : (k : ProtocolVersion) (upgrade : Bool) → upgrading k ≡ false → stepped k upgrade ≡ stepped k false
+stepped-plain V4 upgrade e = refl
+stepped-plain (Upgrading tries) upgrade e = absurd (false≢true (sym e))
+stepped-plain Upgraded upgrade e = refl
+stepped-plain V5 upgrade e = refl
 
 pub fallen-stays : (k : ProtocolVersion) (unanswered : ℕ) → upgrading k ≡ false → upgrading (fallenBack k unanswered) ≡ false
 fallen-stays V4 unanswered e = refl

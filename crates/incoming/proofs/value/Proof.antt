@@ -22,20 +22,16 @@ from-short-requires c κs = search needs
 from-short-requires-2 : tie.Need-from-short-requires-2
 from-short-requires-2 c κs = search needs
 
-is-upgrade-reply-requires : tie.Need-is-upgrade-reply-requires
-is-upgrade-reply-requires c κs = search needs
-
 kisses-requires : tie.Need-kisses-requires
 kisses-requires c κs = search needs
 
 returns : tie.Need-returns
 unfolding valueOf
 returns c =
-    let k = c .before .before .before .before .before .before in
+    let k = c .before .before .before .before .before in
     let start = k .before .before .before .before .before .before in
     rw (
       c .before .kisses .ensures,
-      c .before .before .is-upgrade-reply .ensures,
       k .from-short2 .ensures,
       k .before .from-short .ensures,
       k .before .before .before .is-server .ensures,
@@ -53,6 +49,5 @@ value-spec =
     is-server-requires
     from-short-requires
     from-short-requires-2
-    is-upgrade-reply-requires
     kisses-requires
     returns)

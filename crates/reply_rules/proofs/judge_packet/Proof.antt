@@ -12,7 +12,7 @@ use Rattle.reply_rules.proofs.judge_packet.Tie as tie
 was-read : (c : tie.After-read-reply) →
     let a = c .before .before .before .before .before .before .before .before .args in
     c .read-reply .result ≡ readWith (a .settings) (a .s) (a .packet .now) (a .end) (a .decrypted .now)
-was-read c = c .read-reply .ensures ∙ rw (c .before .awaited .ensures) (read-awaited _ _ _ _ _ _ _)
+was-read c = c .read-reply .ensures ∙ rw (c .before .awaited .ensures) (read-awaited _ _ _ _ _ _)
 
 whole-seen-requires : tie.Need-whole-seen-requires
 whole-seen-requires c κs = search needs
