@@ -13,8 +13,11 @@ USAGE = '''drill: replay a log of calls against the proved association
   ./drill FILE              answer each line of the log FILE; a FIFO and /dev/stdin are files too
   ./drill                   the same for standard input, a line at a time: another program can hold a conversation with it
   ./drill --explain FILE    tell the log in plain words: when, what was asked, what was answered and why, what changed in the record
-  ./drill --page FILE.. >MORNING.html
+  ./drill --page FILE|FOLDER.. >MORNING.html
                             one page for a whole morning, a strip for each log, to look at in a browser and to print
+  ./drill --summary [--json|--csv] [--since OLD.json] FILE|FOLDER..
+                            a row for each box: up, doubtful, lost, never or unreadable, why, and what to do; for people, or for a console.
+                            --since says which boxes are newly down, recovered, new and missing since an earlier --json
   ./drill --capture FILE.pcap [--box ADDRESS] [--server ADDRESS] >FILE.drill
                             make a log from a capture (pcap or pcapng) of a box's NTP traffic
   ./drill --compare LEFT RIGHT
@@ -24,9 +27,11 @@ USAGE = '''drill: replay a log of calls against the proved association
   ./drill --ready           say whether the program is proved and built; build nothing
   ./drill --help            this text
 
+--explain, --page and --summary take --far LENGTH: from which offset on a box is doubtful (1s). Of a FOLDER its files *.drill are read.
+
 It ends with 0 where every line was answered, 1 where a line was answered `error` (--strike: also where demand 3 is not seen to hold; --compare: where
-a file cannot be read as one; --ready: where it is not), and 2 on bad usage or where reading or writing failed. Answers go to standard output, all
-else to standard error.
+a file cannot be read as one; --ready: where it is not), and 2 on bad usage or where reading or writing failed. --page and --summary end with 0 where
+every box is up and with 3 where one is not, --compare with 3 where the two files differ. Answers go to standard output, all else to standard error.
 
 A log has a command to a line; empty lines and lines that begin with # are skipped:
 
@@ -76,6 +81,17 @@ def options(args, takes):
     return found, rest
 
 
+def far(found):
+    """the offset from which on a box is doubtful, in 2^-32 s: seconds, or 250ms, 2s, 1m"""
+    import human
+    import verdict
+    text = found.get('--far')
+    length = verdict.FAR if text is None else human.seconds(text if not text.replace('.', '', 1).isdigit() else text + 's')
+    if length is None or length < 0:
+        misused('--far takes a length of time such as 1s or 250ms, and not %s' % text)
+    return length if text is None else int(length * human.SECOND)
+
+
 def one(args, what):
     if len(args) != 1:
         misused('%s takes one file' % what)
@@ -108,7 +124,8 @@ def main(args):
         os.execv(sys.executable, [sys.executable, strike, name])
     if word == '--explain':
         import explain
-        return explain.main(one(options(args, ())[1], word))
+        found, names = options(args, ('--far',))
+        return explain.main(one(names, word), far(found))
     if word == '--compare':
         import compare
         names = options(args, ())[1]
@@ -117,10 +134,17 @@ def main(args):
         return compare.main(*names)
     if word == '--page':
         import page
-        names = options(args, ())[1]
+        found, names = options(args, ('--far',))
         if not names:
-            misused('--page takes one log or more')
-        return page.main(names)
+            misused('--page takes one log or more, or a folder')
+        return page.main(names, far(found))
+    if word == '--summary':
+        import summary
+        forms = [form for form in ('--json', '--csv') if form in args]
+        found, names = options([arg for arg in args if arg not in forms], ('--far', '--since'))
+        if len(forms) > 1 or not names:
+            misused('--summary takes one log or more, or a folder' if not names else '--json and --csv are two forms: take one')
+        return summary.main(names, forms[0] if forms else None, far(found), found.get('--since'))
     if word == '--capture':
         import capture
         found, names = options(args, ('--box', '--server'))

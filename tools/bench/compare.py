@@ -10,6 +10,7 @@ import story
 ROOM = 8192     # bytes of the longest file that the program takes
 SLOT = 724      # bytes of the longest cookie whose bytes are kept
 REFUSED = 1     # how this ends where a file is no hand-over file
+DIFFER = 3      # and where the two differ
 
 
 def every(exponent):
@@ -38,14 +39,15 @@ def octets_of(name):
     return octets
 
 
-def asked(left, right):
-    """what the program answers"""
-    line = 'compare left=%s right=%s\n' % (left.hex() or '-', right.hex() or '-')
-    run = subprocess.run(program.drill(), input=line.encode(), stdout=subprocess.PIPE, stderr=subprocess.PIPE)
-    said = run.stdout.decode('latin-1').split('\n')
-    if run.returncode != 0 or len(said) != 2 or not said[0].startswith('compare '):
-        ends.die('the program ended with %s and answered %s' % (ends.wait_status(run.returncode), said[0][:80] or 'nothing'))
-    return said[0].split(' ')[1:]
+def asked(files):
+    """what the program answers to the comparison, and the sides whose file had the retired version"""
+    digits = {side: octets.hex() or '-' for side, octets in files.items()}
+    lines = ['compare left=%(left)s right=%(right)s' % digits] + ['load file=' + digits[side] for side in files]
+    run = subprocess.run(program.drill(), input='\n'.join(lines + ['']).encode(), stdout=subprocess.PIPE, stderr=subprocess.PIPE)
+    said = run.stdout.decode('latin-1').split('\n')[:-1]
+    if run.returncode != 0 or len(said) != len(lines) or not said[0].startswith('compare '):
+        ends.die('the program ended with %s and answered %s' % (ends.wait_status(run.returncode), said[0][:80] if said else 'nothing'))
+    return said[0].split(' ')[1:], [side for side, answer in zip(files, said[1:]) if answer == 'load 0 retired=yes']
 
 
 def cookie(value):
@@ -79,22 +81,24 @@ def refused(number, side, name, octets):
     return REFUSED
 
 
+def table(names, rows):
+    """the fields that differ, as lines"""
+    cells = [('', 'left: ' + names['left'], 'right: ' + names['right'], '')] + rows
+    wide = [max(len(row[k]) for row in cells) for k in range(3)]
+    lines = ['  '.join(cell.ljust(w) for cell, w in zip(row, wide + [0])).rstrip() for row in cells]
+    return lines + ['', '%d field%s; docs/COMPARE.md says what each tells' % (len(rows), ' differs' if len(rows) == 1 else 's differ')]
+
+
 def main(left, right):
     names = {'left': left, 'right': right}
     files = {side: octets_of(name) for side, name in names.items()}
-    number, *rest = asked(files['left'], files['right'])
+    (number, *rest), retired = asked(files)
     if number in ('61', '62', '63'):
         side = rest[0].split('=')[1]
         return refused(number, side, names[side], files[side])
     if number != '0':
         ends.die('the program answered %s' % number)
     rows = [entry(word) for word in rest[1:]]
-    if not rows:
-        ends.write(b'nothing differs: the two files load as the same record\n')
-        return 0
-    table = [('', 'left: ' + left, 'right: ' + right, '')] + rows
-    wide = [max(len(row[k]) for row in table) for k in range(3)]
-    lines = ['  '.join(cell.ljust(w) for cell, w in zip(row, wide + [0])).rstrip() for row in table]
-    lines += ['', '%d field%s; docs/COMPARE.md says what each tells' % (len(rows), ' differs' if len(rows) == 1 else 's differ')]
-    ends.write(('\n'.join(lines) + '\n').encode())
-    return 0
+    notes = ['%s, on the %s, had the retired version, upgrading: it is compared as what it loads as, V4' % (names[side], side) for side in retired]
+    ends.write(('\n'.join((table(names, rows) if rows else ['nothing differs: the two files load as the same record']) + notes) + '\n').encode())
+    return DIFFER if rows else ends.ALL_ANSWERED

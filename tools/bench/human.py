@@ -5,8 +5,10 @@ program says what is wrong with it. docs/DRILL.md has the units; tests/wrapper h
 import hashlib
 import ipaddress
 import re
+from collections.abc import Mapping
 from datetime import datetime, timedelta, timezone
 from fractions import Fraction
+from types import MappingProxyType
 
 # A key's unit, whatever the command. Keys that are not here are passed on as they are.
 UNITS = dict(now='ns', window='ns', deadline='ns',
@@ -29,6 +31,7 @@ MOMENT = re.compile(r'(\d{4}-\d\d-\d\dT[0-2]\d:[0-5]\d:[0-5]\d)(\.\d+)?Z')
 IN_SECONDS = dict(ns=Fraction(1, 10**9), us=Fraction(1, 10**6), ms=Fraction(1, 1000), s=Fraction(1), m=Fraction(60), h=Fraction(3600), d=Fraction(86400))
 EPOCH = datetime(1900, 1, 1, tzinfo=timezone.utc)
 SECOND, ERA = 2**32, 2**64
+BOM8, BOM16 = b'\xef\xbb\xbf', (b'\xff\xfe', b'\xfe\xff')  # byte order marks of UTF-8 and UTF-16
 
 
 def seconds(text):
@@ -85,11 +88,55 @@ def plain(unit, text):
     return text
 
 
-def lines_of(octets):
-    """a log's lines as text, as ./drill reads them: a byte order mark in front is passed over, and where the first line ends with a carriage return, as Windows writes
+class NotText(Exception):
+    """what is wrong with octets that are no log at all"""
+
+
+class Lines:
+    """a log's lines as text, as its octets come: a byte order mark in front is passed over, and where the first line ends with a carriage return, as Windows writes
     lines, so do the others"""
-    lines = octets.removeprefix(b'\xef\xbb\xbf').decode('latin-1').split('\n')
-    return [text.removesuffix('\r') for text in lines] if lines[0].endswith('\r') else lines
+
+    def __init__(self) -> None:
+        self.piece = b''
+        self.number = 0       # of the last line that was given
+        self.begun = self.windows = False
+
+    def begin(self) -> None:
+        if self.piece[:2] in BOM16:
+            raise NotText('it begins with the byte order mark (BOM) of UTF-16: save it as plain text (ASCII or UTF-8)')
+        self.piece = self.piece.removeprefix(BOM8)
+        self.begun = True
+
+    def line(self, octets: bytes) -> tuple[int, str]:
+        self.number += 1
+        if self.number == 1:
+            self.windows = octets.endswith(b'\r')
+        return self.number, (octets.removesuffix(b'\r') if self.windows else octets).decode('latin-1')
+
+    def more(self, octets: bytes) -> list[tuple[int, str]]:
+        """the lines that are whole now, with their numbers"""
+        self.piece += octets
+        if not self.begun:
+            if len(self.piece) < len(BOM8) and b'\n' not in self.piece:
+                return []
+            self.begin()
+        if b'\n' not in octets:
+            return []
+        *whole, self.piece = self.piece.split(b'\n')
+        return [self.line(line) for line in whole]
+
+    def over(self) -> list[tuple[int, str]]:
+        """the last line, where no newline ends it"""
+        if not self.begun:
+            self.begin()
+        last, self.piece = self.piece, b''
+        return [self.line(last)] if last else []
+
+
+def lines_of(octets: bytes) -> list[str]:
+    """the lines of a whole log"""
+    lines = Lines()
+    return [text for _, text in lines.more(octets) + lines.over()]
 
 
 MAYBE = re.compile(r'[:.TZsmhd]')  # one of these is in every form that people write
@@ -116,29 +163,64 @@ def translated(line):
 
 # ---- numbers as people read them
 
-def clock(ns, digits=None):
-    """a reading of `now`: time of day, with days in front where there are any, and as many decimals as it has (at least 0, at most 9)"""
-    whole, rest = divmod(ns, 10**9)
-    days, whole = divmod(whole, 86400)
-    tail = ('%09d' % rest).rstrip('0') if digits is None else ('%09d' % rest)[:digits]
-    if digits is None and tail:
-        tail = tail.ljust(3, '0')
-    return '%s%02d:%02d:%02d%s' % ('%dd' % days if days else '', whole // 3600, whole // 60 % 60, whole % 60, '.' + tail if tail else '')
+def tick(ns: int) -> str:
+    """a reading of `now`, an uptime: 3h00m05.040s. It is no time of day and never looks like one; what is finer than a millisecond is cut off"""
+    whole, ms = divmod(ns // 10**6, 1000)
+    if whole < 60:
+        text = '%d' % whole
+    elif whole < 3600:
+        text = '%dm%02d' % divmod(whole, 60)
+    else:
+        days, rest = divmod(whole, 86400)
+        text = ('%dd%02dh%02dm%02d' % (days, rest // 3600, rest // 60 % 60, rest % 60)) if days else '%dh%02dm%02d' % (rest // 3600, rest // 60 % 60, rest % 60)
+    return '%s.%03ds' % (text, ms) if ms else text + 's'
 
 
-def wall(stamp):
-    """an NTP timestamp as a moment in UTC: of the era that lies between 1968 and 2104 (RFC 4330, section 3)"""
-    whole, ms = divmod(((stamp if stamp >= 2**63 else stamp + ERA) * 1000 + SECOND // 2) // SECOND, 1000)
-    return (EPOCH + timedelta(seconds=whole)).strftime('%Y-%m-%d %H:%M:%S') + '.%03d UTC' % ms
+def moment_of(stamp: int) -> datetime:
+    """an NTP timestamp as a moment in UTC, to the millisecond: of the era that lies between 1968 and 2104 (RFC 4330, section 3)"""
+    ms = ((stamp if stamp >= 2**63 else stamp + ERA) * 1000 + SECOND // 2) // SECOND
+    return EPOCH + timedelta(milliseconds=ms)
 
 
-def milliseconds(ntp, sign=False):
+def wall(stamp: int) -> str:
+    """an NTP timestamp for people"""
+    at = moment_of(stamp)
+    return at.strftime('%Y-%m-%d %H:%M:%S') + '.%03d UTC' % (at.microsecond // 1000)
+
+
+def iso(stamp: int) -> str:
+    """an NTP timestamp in ISO 8601"""
+    at = moment_of(stamp)
+    return at.strftime('%Y-%m-%dT%H:%M:%S') + '.%03dZ' % (at.microsecond // 1000)
+
+
+def seconds_of(ntp: int) -> float:
+    """a duration in 2^-32 s as seconds, to the nanosecond"""
+    return round(ntp / SECOND, 9) + 0.0  # + 0.0: what rounds to zero has no sign
+
+
+def milliseconds(ntp: int, sign: bool = False) -> str:
     """a duration in 2^-32 s as milliseconds"""
-    ms = ntp * 1000 / SECOND
+    ms = round(ntp * 1000 / SECOND, 3) + 0.0
     return ('%+.3f ms' if sign else '%.3f ms') % ms
 
 
-def span(ns):
+def offset(ntp: int) -> str:
+    """an offset, with its sign: in seconds where it is one or more"""
+    return milliseconds(ntp, sign=True) if abs(ntp) < SECOND else '%+.3f s' % (ntp / SECOND)
+
+
+def apart(ntp: int) -> str:
+    """how far two clocks are apart, in h, min, s and ms: the two units that tell, with minutes and seconds below hours; the sign is not told"""
+    ms = (abs(ntp) * 1000 + SECOND // 2) // SECOND
+    if ms < 60000:
+        return '%d s %03d ms' % divmod(ms, 1000) if ms >= 1000 else '%d ms' % ms
+    minutes, seconds_ = divmod((ms + 500) // 1000, 60)
+    hours, minutes = divmod(minutes, 60)
+    return ('%d h %02d min %02d s' % (hours, minutes, seconds_)) if hours else '%d min %02d s' % (minutes, seconds_)
+
+
+def span(ns: int) -> str:
     """a length of time in the largest unit that it fills"""
     for unit, size in (('h', 3600 * 10**9), ('min', 60 * 10**9), ('s', 10**9), ('ms', 10**6), ('us', 10**3)):
         if ns >= size and (unit in ('s', 'ms', 'us') or ns % size == 0):
@@ -146,9 +228,27 @@ def span(ns):
     return '%d ns' % ns
 
 
-def address(digits):
-    """an identifier as people know it: the name of a kiss or of a source where it is four letters, else an IPv4 address"""
+def length(ns: int) -> str:
+    """a length of time, however long: what is below a minute as span has it, longer ones in h, min and s"""
+    return span(ns) if ns < 60 * 10**9 else apart(ns * SECOND // 10**9)
+
+
+def address(digits: str, names: Mapping[str, str] = MappingProxyType({})) -> str:
+    """an identifier as people know it: the address that the log names for it, the name of a kiss or of a source where it is four letters, else an IPv4 address"""
     octets = bytes.fromhex(digits)
+    if digits in names:
+        return names[digits]
     if all(0x41 <= o <= 0x5a for o in octets):
         return octets.decode()
     return '.'.join(str(o) for o in octets)
+
+
+def named(text: str) -> dict[str, str]:
+    """the IPv6 addresses that a line names, by their identifiers, which tell an address no more"""
+    found = {}
+    for word in re.findall(r'[0-9A-Fa-f:.]*:[0-9A-Fa-f:.]*', text) if text.count(':') > 1 else ():
+        for address_ in (word, word.rstrip(':.')):
+            digits = identifier(address_)
+            if digits:
+                found[digits] = address_
+    return found

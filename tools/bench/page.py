@@ -1,14 +1,19 @@
-"""./drill --page FILE..: one page for a whole morning. Above, a table with a row for each box (each log); below, a strip for each: its polls with their windows, the
-replies by what became of them, the reach register, resets, and when its source was accepted. The page stands alone: one file, inline SVG, no network."""
+"""./drill --page [--far LENGTH] FILE|FOLDER..: one page for a whole morning. Above, a table with a row for each box (each log); below, a strip for each: its polls with
+their windows, the replies by what became of them, the reach register, resets, and as long as its source was accepted. The page stands alone: one file, inline SVG, no
+network. What became of a box is decided in `verdict`; here it is drawn."""
 import html
-import os
+from collections.abc import Iterator
+from typing import NamedTuple
 
+import boxes as morning
 import ends
 import human
 import meanings
 import story
+import summary
+import verdict
+import walltime
 
-MAKES = ('new', 'metered', 'load')  # the commands that make an association
 LINES = 400      # lines of a log that its list on the page has
 SPACING = 15     # per cent of a strip's width between two times of its axis
 BREAK = 7        # a break's width, per cent of what is drawn without breaks
@@ -20,7 +25,9 @@ WORDS = dict(good='measured', late='too late', stray='nothing was awaited', fore
 # Each kind has a shape of its own, so that they can be told apart without colour.
 SHAPES = dict(good='<circle r="5"/>', late='<circle r="4.5" class="hollow"/><path class="line" d="M0-3V0H3"/>', stray='<circle r="3" class="hollow"/>', foreign='<path class="line" d="M-4-4 4 4M4-4-4 4"/>',
               broken='<rect x="-4.5" y="-4.5" width="9" height="9" class="hollow"/>', kiss='<path d="M0-5.5 5.5 4.5H-5.5Z"/>', stop='<path d="M0-7 7 0 0 7-7 0Z"/>',
-              caller='<path class="line" d="M0-5V1M0 4V5.5"/>', quiet='<circle r="2"/>', accepted='<path d="M-4 8V-8L7-4-4 0Z"/>')
+              caller='<path class="line" d="M0-5V1M0 4V5.5"/>', quiet='<circle r="2"/>', accepted='<path d="M-4 8V-8L7-4-4 0Z"/>',
+              lost='<path class="line" d="M-4 8V-8L7-4-4 0"/>')
+SIGNS = dict(up='✓', doubtful='?', lost='✗', never='✗', unreadable='!')  # so that the states can be told apart without colour
 
 
 class Mark:
@@ -31,98 +38,58 @@ class Mark:
 
 
 class Lane:
-    """associations one behind the other. Where a log's clock goes back with a `new`, another lane begins: several servers of one box, for example"""
+    """what is drawn of one server"""
 
-    def __init__(self):
-        self.marks, self.windows, self.reach, self.accepted = [], [], [], []
-        self.last = None
-        self.up = self.at_up = self.offset = self.wall = self.reason = self.asked = None
+    def __init__(self, server: verdict.Server) -> None:
+        self.server = server
+        self.marks, self.windows, self.reach = [], [], []
+        self.last = 0
+        self.risen = 0  # how often its source was accepted so far
 
     def end(self):
         """the last time of the lane, with the last window"""
-        return max([self.last or 0] + [b for _, b, _ in self.windows])
+        return max([self.last] + [b for _, b, _ in self.windows])
+
+    def take(self, step: story.Step, now: int, sentence: str) -> None:
+        self.last = now
+        clock = story.own_clock(step)
+        says = 'line %d, tick %s: %s%s' % (step.line, human.tick(now), sentence, "; the box's own wall clock " + clock if clock else '')
+        if step.error:
+            self.marks.append(Mark('caller', now, 'reply', says))
+        elif step.head in story.MAKES:
+            self.marks.append(Mark('made' if step.good() else 'caller', now, 'made', says))
+        elif step.head == 'timer' and step.number == verdict.SENT:
+            awaited = step.after.get('pending', '-').split('/')
+            self.windows.append((now, int(awaited[2]) if len(awaited) == 3 else now, says))
+        elif step.head == 'accept':
+            self.accept(step, now, says)
+        elif step.head in story.REPLIES or step.number is not None and not step.good():
+            self.marks.append(Mark(step.kind, now, 'poll' if step.head == 'timer' else 'reply', says))
+        reach = step.after.get('reach')
+        if reach is not None and reach.isdigit() and (not self.reach or self.reach[-1][1] != int(reach)):
+            self.reach.append((now, int(reach)))
+
+    def accept(self, step: story.Step, now: int, says: str) -> None:
+        """only what changes is drawn: the source is accepted, or is not any more"""
+        if len(self.server.stretches) > self.risen:
+            self.risen = len(self.server.stretches)
+            self.marks.append(Mark('accepted', now, 'reply', says))
+        elif self.server.ended and self.server.ended.step is step:
+            self.marks.append(Mark('lost', now, 'reply', says))
+
+
+class Line(NamedTuple):
+    """a line of the log in words"""
+    line: int
+    tick: int | None
+    says: str
 
 
 class Box:
-    def __init__(self, name, path):
-        self.name, self.path = name, path
-        self.steps = story.told(path)
-        if not any(step.head in MAKES and step.good() for step in self.steps):
-            ends.die('%s has no association: no `new` and no `load` in it was answered 0, so there is nothing to draw' % path)
-        self.lanes = []
-        self.read()
+    """a log that is judged, with what is drawn of it"""
 
-    def read(self):
-        later = [None] * len(self.steps)  # the next time that the log gives, for the lines that have none
-        for k in range(len(self.steps) - 1, -1, -1):
-            now = self.steps[k].now
-            later[k] = now if now is not None else later[k + 1] if k + 1 < len(self.steps) else None
-        lane = Lane()
-        self.lanes.append(lane)
-        for step, then in zip(self.steps, later):
-            if step.head in MAKES and lane.last is not None and then is not None and then < lane.last:
-                lane = Lane()
-                self.lanes.append(lane)
-            times = (step.now, then, lane.last) if step.head in MAKES else (step.now, lane.last, then)
-            self.take(lane, step, next((t for t in times if t is not None), 0))
-
-    def take(self, lane, step, now):
-        lane.last = now
-        says = 'line %d, %s: %s' % (step.line, human.clock(now), story.sentence(step))
-        wall = story.wall_time(step)
-        says += '; wall clock ' + wall if wall else ''
-        if step.error:
-            lane.marks.append(Mark('caller', now, 'reply', says))
-        elif step.head in MAKES:
-            lane.up = lane.asked = lane.offset = None
-            lane.marks.append(Mark('made' if step.good() else 'caller', now, 'made', says))
-        elif step.head == 'timer' and step.number == 20:
-            awaited = step.after.get('pending', '-')
-            lane.windows.append((now, int(awaited.split('/')[2]) if awaited != '-' else now, says))
-        elif step.head in story.REPLIES:
-            lane.marks.append(Mark(step.kind, now, 'reply', says))
-            if step.good():
-                if lane.offset is None:
-                    lane.asked = None  # a loaded association may be accepted before a reply is measured: that is not right yet
-                lane.offset, lane.wall = step.gave.get('offset'), wall
-        elif step.head == 'accept':
-            lane.asked = True
-            if step.good() and lane.up is None and lane.offset is not None:
-                lane.up, lane.at_up = now, (lane.offset, lane.wall)
-                lane.accepted.append([now, None])
-                lane.marks.append(Mark('accepted', now, 'reply', says))
-        elif step.number is not None and not step.good():
-            lane.marks.append(Mark(step.kind, now, 'poll' if step.head == 'timer' else 'reply', says))
-        if (step.kind == 'stop' or step.head in MAKES) and lane.accepted and lane.accepted[-1][1] is None and lane.accepted[-1][0] < now:
-            lane.accepted[-1][1] = now
-            lane.up = None
-        if step.kind == 'stop':
-            lane.up = None
-        if not step.good() and step.kind not in ('quiet', 'stray') and lane.reason is None:
-            lane.reason = (step, now)
-        reach = step.after.get('reach')
-        if reach is not None and reach.isdigit() and (not lane.reach or lane.reach[-1][1] != int(reach)):
-            lane.reach.append((now, int(reach)))
-
-    def lane_up(self):
-        return next((lane for lane in self.lanes if lane.up is not None), None)
-
-    def why_not(self):
-        """the first reason why it did not come up"""
-        lane = self.lanes[-1]
-        if lane.offset is not None and not lane.asked:
-            return 'measured, but the log does not ask `accept` after it'
-        for lane in self.lanes:
-            if lane.reason:
-                step, now = lane.reason
-                return '%s at %s: %s' % ('error' if step.error else '%s %s (%s)' % (step.head, step.row.short, step.number), human.clock(now, 0),
-                                         story.why(step) if step.row else story.sentence(step))
-        last = next((step for step in reversed(self.steps) if step.head == 'accept'), None)
-        if last is not None and last.good():
-            return 'accepted, but no reply was measured'
-        if last is not None and last.row:
-            return 'not accepted (%s): %s' % (last.number, story.why(last))
-        return 'no reply was measured'
+    def __init__(self, name: str, judged: verdict.Verdict, lines: list[Line], lanes: list[Lane]) -> None:
+        self.name, self.verdict, self.lines, self.lanes = name, judged, lines, lanes
 
     def span(self):
         times = self.times()
@@ -132,7 +99,24 @@ class Box:
         out = []
         for lane in self.lanes:
             out += [mark.at for mark in lane.marks] + [t for window in lane.windows for t in window[:2]]
-        return out or [0]
+        return out
+
+
+def drawn(name: str, steps: Iterator[story.Step], far: int) -> Box:
+    judge, lines, lanes = verdict.Judge(far, every=True), [], {}
+
+    def draw(placed: list[verdict.Placed]) -> None:
+        for step, server, tick in placed:
+            lines.append(Line(step.line, step.now, story.sentence(step)))
+            if server not in lanes:
+                lanes[server] = Lane(server)
+            lanes[server].take(step, tick or 0, lines[-1].says)
+
+    for step in steps:
+        draw(judge.take(step))
+    draw(judge.over())
+    box = Box(name, judge.verdict(), lines, list(lanes.values()))
+    return box if box.times() else Box(name, box.verdict, lines, [])
 
 
 class Axis:
@@ -193,7 +177,7 @@ def axis_svg(axis):
     out = ['<svg class="axis" width="100%" height="18" aria-hidden="true">']
     for where, t in axis.ticks():
         anchor = 'start' if where < 7 else 'end' if where > 93 else 'middle'
-        out.append('<line x1="%s" x2="%s" y1="12" y2="18"/><text x="%s" y="10" text-anchor="%s">%s</text>' % (pc(where), pc(where), pc(where), anchor, human.clock(t)))
+        out.append('<line x1="%s" x2="%s" y1="12" y2="18"/><text x="%s" y="10" text-anchor="%s">%s</text>' % (pc(where), pc(where), pc(where), anchor, human.tick(t)))
     return ''.join(out + ['</svg>'])
 
 
@@ -223,12 +207,12 @@ def strip_svg(box, axis):
     for a, b, _ in axis.breaks:
         x, y = axis.at(a), axis.at(b)
         breaks.append('<rect class="break" x="%s" width="%s" y="0" height="%d"><title>%s in which nothing happens, drawn shorter</title></rect>'
-                      % (pc(x + .3), pc(max(y - x - .6, .2)), height, human.clock(b - a, 0)))
+                      % (pc(x + .3), pc(max(y - x - .6, .2)), height, human.tick(b - a)))
     for k, lane in enumerate(box.lanes):
         top = LANE * k
-        for a, b in lane.accepted:
+        for a, b in lane.server.stretches if box.verdict.state != 'unreadable' else ():
             x, y = axis.at(a), axis.at(lane.end() if b is None else b)
-            out.append('<rect class="up" x="%s" width="%s" y="%d" height="44"><title>accepted</title></rect>' % (pc(x), pc(max(y - x, .3)), top + 4))
+            out.append('<rect class="tint" x="%s" width="%s" y="%d" height="44"><title>accepted</title></rect>' % (pc(x), pc(max(y - x, .3)), top + 4))
         if k == 0:
             out += breaks
         out.append('<line class="base" x1="0" x2="100%%" y1="%d" y2="%d"/>' % (top + LANE - 6, top + LANE - 6))
@@ -237,8 +221,8 @@ def strip_svg(box, axis):
             if value:
                 x, y, tall = axis.at(a), axis.at(max(a, b)), 2 * bin(value).count('1')
                 out.append('<rect class="reach" x="%s" width="%s" y="%d" height="%d" data-say="%s"><title>reach %s</title></rect>'
-                           % (pc(x), pc(max(y - x, .3)), top + LANE - 6 - tall, tall, esc('%s: reach register %s, %d of the last 8 polls answered'
-                                                                                       % (human.clock(a), format(value, '08b'), bin(value).count('1'))), format(value, '08b')))
+                           % (pc(x), pc(max(y - x, .3)), top + LANE - 6 - tall, tall, esc('tick %s: reach register %s, %d of the last 8 polls answered'
+                                                                                       % (human.tick(a), format(value, '08b'), bin(value).count('1'))), format(value, '08b')))
         for a, b, says in lane.windows:
             x, y = axis.at(a), axis.at(b)
             out.append('<g class="m" data-say="%s"><title>%s</title><rect class="window" x="%s" width="%s" y="%d" height="12"/>'
@@ -265,7 +249,8 @@ h1{font-size:1.35em;margin:.2em 0}h2{font-size:1.05em;margin:1.2em 0 .3em}h3{fon
 .soft{color:var(--soft)}a{color:inherit}
 table{border-collapse:collapse;width:100%}th,td{text-align:left;padding:3px 10px 3px 0;border-bottom:1px solid var(--rule);vertical-align:top}
 th{font-weight:600;color:var(--soft);font-size:.88em}td.n{white-space:nowrap;font-variant-numeric:tabular-nums}td.name{font-weight:600;overflow-wrap:anywhere;min-width:9.5em}
-.yes{color:var(--good);font-weight:600;white-space:nowrap}.no{color:var(--stop);font-weight:600;white-space:nowrap}
+.up,.doubtful,.lost,.never,.unreadable{font-weight:600;white-space:nowrap}td.up,span.up{color:var(--good)}td.doubtful,span.doubtful{color:var(--late)}td.lost,td.never,span.lost,span.never{color:var(--stop)}
+td.unreadable,span.unreadable{color:var(--foreign)}
 .legend{display:flex;flex-wrap:wrap;gap:2px 16px;margin:.4em 0;padding:0;list-style:none;font-size:.88em}.legend svg{vertical-align:middle;margin-right:5px}
 section.box{border-top:1px solid var(--rule);padding:8px 0 4px;break-inside:avoid}
 .head{display:flex;flex-wrap:wrap;gap:0 12px;align-items:baseline}
@@ -273,11 +258,11 @@ svg.strip,svg.axis{display:block;overflow:visible}svg.strip{background:var(--pan
 svg.strip:focus{outline:2px solid var(--poll);outline-offset:1px}
 .axis text{font-size:11px;fill:var(--soft)}.axis line{stroke:var(--rule)}
 .sticky{position:sticky;top:0;background:var(--paper);z-index:2;padding-top:4px}
-.break{fill:url(#hatch)}.hatch{stroke:var(--rule);stroke-width:1.5}.base{stroke:var(--rule)}.reach{fill:var(--reach)}.up{fill:var(--up)}
+.break{fill:url(#hatch)}.hatch{stroke:var(--rule);stroke-width:1.5}.base{stroke:var(--rule)}.reach{fill:var(--reach)}.tint{fill:var(--up)}
 .window{fill:var(--window)}.poll{stroke:var(--poll);stroke-width:2}.hit{fill:transparent;stroke:none}
 .good,.accepted{fill:var(--good);stroke:var(--good)}.late{fill:var(--late);stroke:var(--late)}.foreign{fill:var(--foreign);stroke:var(--foreign)}
 .broken{fill:var(--broken);stroke:var(--broken)}.kiss{fill:var(--kiss);stroke:var(--kiss)}.stop{fill:var(--stop);stroke:var(--stop)}
-.caller{fill:var(--caller);stroke:var(--caller)}.quiet,.stray,.made{fill:var(--soft);stroke:var(--soft)}.m.made line{stroke-width:1.5;stroke-dasharray:3 2}.m.made:hover line,.m.made.at line{stroke-width:4}
+.caller{fill:var(--caller);stroke:var(--caller)}.m.lost,svg.lost{fill:var(--stop);stroke:var(--stop)}.quiet,.stray,.made{fill:var(--soft);stroke:var(--soft)}.m.made line{stroke-width:1.5;stroke-dasharray:3 2}.m.made:hover line,.m.made.at line{stroke-width:4}
 .hollow{fill:var(--paper);stroke-width:2}.line{fill:none;stroke-width:2.2;stroke-linecap:round}
 .m:hover .hit,.m.at .hit{fill:var(--ink);fill-opacity:.18}.m:hover .window,.m.at .window{stroke:var(--ink)}
 details{font-size:.86em}summary{color:var(--soft);cursor:pointer}details ol{margin:.2em 0;padding:0;list-style:none;overflow-wrap:anywhere}
@@ -310,7 +295,9 @@ def legend(kinds):
              'poll sent, and how long its reply is awaited</li>',
              '<li><svg width="14" height="18" class="m made" aria-hidden="true"><line x1="7" x2="7" y1="1" y2="17"/></svg>a new association</li>']
     items += ['<li>%s%s</li>' % (shape(kind), ('reply ' if kind == 'good' else '') + WORDS[kind]) for kind in meanings.KINDS if kind in kinds and kind in WORDS]
-    items += ['<li>%ssource accepted, and tinted as long as it is</li>' % shape('accepted'),
+    items += ['<li>%ssource accepted, and tinted as long as it is</li>' % shape('accepted')]
+    items += ['<li>%ssource not accepted any more</li>' % shape('lost')] if 'lost' in kinds else []
+    items += [
               '<li><svg width="26" height="18" aria-hidden="true"><rect class="break" x="3" y="1" width="20" height="16"/></svg>a long time without anything, drawn shorter</li>',
               '<li><svg width="26" height="18" aria-hidden="true"><rect class="reach" x="3" y="9" width="20" height="6"/></svg>reach register: its height is how many of the last 8 polls were answered</li>']
     return '<ul class="legend">%s</ul>' % ''.join(items)
@@ -318,66 +305,77 @@ def legend(kinds):
 
 def listed(box):
     out = []
-    for step in box.steps[:LINES]:
-        out.append('<li><span class="soft">%d%s</span> %s</li>' % (step.line, ', ' + human.clock(step.now) if step.now is not None else '', esc(story.sentence(step))))
-    if len(box.steps) > LINES:
-        out.append('<li>and %d lines more: ./drill --explain tells them all</li>' % (len(box.steps) - LINES))
+    for line in box.lines[:LINES]:
+        out.append('<li><span class="soft">%d%s</span> %s</li>' % (line.line, ', tick ' + human.tick(line.tick) if line.tick is not None else '', esc(line.says)))
+    if len(box.lines) > LINES:
+        out.append('<li>and %d lines more: ./drill --explain tells them all</li>' % (len(box.lines) - LINES))
     return '<details><summary>line by line</summary><ol>%s</ol></details>' % ''.join(out)
 
 
-def verdict(box):
-    up = box.lane_up()
-    if up:
-        offset, wall = up.at_up
-        offset = human.milliseconds(int(offset), sign=True) if offset is not None else ''
-        return '<td class="yes">✓ came up</td><td class="n">%s</td><td class="n">%s</td><td>%s</td>' % (
-            human.clock(up.up, 0), offset, esc('wall clock ' + wall if wall else ''))
-    return '<td class="no">✗ did not</td><td class="n"></td><td class="n"></td><td>%s</td>' % esc(box.why_not())
+def since(judged: verdict.Verdict) -> str:
+    """when the source was accepted: the true time, and the tick"""
+    accepted = judged.server.accepted
+    day, at, zone = human.wall(walltime.at_tick(accepted.heard, accepted.tick).stamp).split(' ')
+    return '%s %s<br><span class="soft">%s<br>tick %s</span>' % (at[:8], zone, day, human.tick(accepted.tick))
 
 
-def one_axis(boxes):
+def cells(judged: verdict.Verdict) -> str:
+    """a row of the table, but for the name"""
+    good = judged.state in ('up', 'doubtful')
+    offset = human.offset(walltime.offset(judged.server.latest)) if good else ''
+    why = [esc(judged.reason)] if judged.reason else []
+    why += ['to do: ' + esc(judged.action)] if judged.action else []
+    why += ['<span class="soft">%s</span>' % esc(walltime.line(judged.server.risen))] if good else []
+    return '<td class="%s">%s %s</td><td class="n">%s</td><td class="n">%s</td><td>%s</td>' % (
+        judged.state, SIGNS[judged.state], judged.state, since(judged) if good else '', offset, '<br>'.join(why))
+
+
+def section(k: int, box: Box, shared: 'Axis | None') -> str:
+    """the strip of a box, with its state above and its lines below"""
+    state = box.verdict.state
+    head = '<section class="box" id="b%d"><div class="head"><h3>%s</h3><span class="%s">%s %s</span></div>' % (k, esc(box.name), state, SIGNS[state], state)
+    if not box.lanes:
+        return '%s<p class="soft">%s</p></section>' % (head, esc(box.verdict.reason))
+    axis = shared or Axis(box.times())
+    return head + ('' if shared else axis_svg(axis)) + strip_svg(box, axis) + listed(box) + '</section>'
+
+
+def one_axis(boxes: list[Box]) -> bool:
     """whether the boxes' clocks start together, so that one axis serves all"""
-    spans = [box.span() for box in boxes]
+    spans = [box.span() for box in boxes if box.lanes]
+    if not spans:
+        return False
     whole = max(b for _, b in spans) - min(a for a, _ in spans)
-    return whole <= 4 * max(b - a for a, b in spans) or len(boxes) == 1
+    return whole <= 4 * max(b - a for a, b in spans) or len(spans) == 1
 
 
-def render(boxes):
-    boxes = sorted(boxes, key=lambda box: box.lane_up() is not None)  # those that did not come up stand first, else the order is the caller's
-    came = sum(box.lane_up() is not None for box in boxes)
+def render(boxes: list[Box]) -> str:
+    up = sum(box.verdict.state == 'up' for box in boxes)
     kinds = {mark.shape for box in boxes for lane in box.lanes for mark in lane.marks}
     shared = Axis([t for box in boxes for t in box.times()]) if one_axis(boxes) else None
     out = ['<!DOCTYPE html><html lang="en"><head><meta charset="utf-8"><meta name="viewport" content="width=device-width,initial-scale=1">',
-           '<title>%d of %d came up</title><style>%s</style></head><body>' % (came, len(boxes), STYLE),
+           '<title>%d of %d came up</title><style>%s</style></head><body>' % (up, len(boxes), STYLE),
            '<svg width="0" height="0" style="position:absolute" aria-hidden="true"><defs><pattern id="hatch" width="6" height="6" patternUnits="userSpaceOnUse" '
            'patternTransform="rotate(45)"><line class="hatch" x1="0" x2="0" y1="0" y2="6"/></pattern>%s</defs></svg>' % ''.join('<g id="s-%s">%s</g>' % item for item in SHAPES.items()),
-           '<h1>%d of %d %s came up right</h1>' % (came, len(boxes), 'box' if len(boxes) == 1 else 'boxes'),
-           '<p class="soft">Right is: a reply was measured, and the source was accepted and kept. Times are readings of each box’s own clock (<code>now</code>). '
-           'The answers are those of the proved association; this page is drawn from them by a script.</p>',
-           '<table><thead><tr><th>box</th><th>right?</th><th>at</th><th>offset</th><th>first reason, or wall clock</th></tr></thead><tbody>']
+           '<h1>%d of %d %s came up right</h1>' % (up, len(boxes), 'box' if len(boxes) == 1 else 'boxes'),
+           '<p>%s</p>' % esc(next(summary.totals([box.verdict for box in boxes])).partition(': ')[2]),
+           '<p class="soft">Up is: a reply was measured, the source was accepted after it, and nothing gave up since. Ticks are the boxes’ own uptimes (<code>now</code>), '
+           'times are true times, corrected by what was measured. The answers are those of the proved association; this page is drawn from them by a script.</p>',
+           '<table><thead><tr><th>box</th><th>state</th><th>since</th><th>last offset</th><th>why and what to do, or when ticks became wall time</th></tr></thead><tbody>']
     for k, box in enumerate(boxes):
-        out.append('<tr><td class="name"><a href="#b%d">%s</a></td>%s</tr>' % (k, esc(box.name), verdict(box)))
+        out.append('<tr><td class="name"><a href="#b%d">%s</a></td>%s</tr>' % (k, esc(box.name), cells(box.verdict)))
     out += ['</tbody></table><h2>Strips</h2>', legend(kinds),
             '<p class="soft how">Point at a mark, or tab to a strip and use the arrow keys: the bar below says more. %s</p>'
-            % ('All strips have one time axis.' if shared else 'Each strip has an axis of its own, since the boxes’ clocks do not start together.')]
+            % ('All strips have one axis, of ticks.' if shared else 'Each strip has an axis of its own, of ticks, since the boxes’ ticks do not start together.')]
     if shared:
         out.append('<div class="sticky">%s</div>' % axis_svg(shared))
-    for k, box in enumerate(boxes):
-        axis = shared or Axis(box.times())
-        right = box.lane_up() is not None
-        out.append('<section class="box" id="b%d"><div class="head"><h3>%s</h3><span class="%s">%s</span></div>%s%s%s</section>'
-                   % (k, esc(box.name), 'yes' if right else 'no', '✓ came up' if right else '✗ did not', '' if shared else axis_svg(axis), strip_svg(box, axis), listed(box)))
+    out += [section(k, box, shared) for k, box in enumerate(boxes)]
     out.append('<div id="say" aria-live="polite">Point at a mark, or tab to a strip: what happened there is said here.</div><script>%s</script></body></html>\n' % SCRIPT)
     return '\n'.join(out)
 
 
-def names_of(paths):
-    """a box's name is its log's, without what all have in common"""
-    short = [os.path.splitext(os.path.basename(path))[0] for path in paths]
-    return [path if short.count(name) > 1 else name for path, name in zip(paths, short)]
-
-
-def main(paths):
-    boxes = [Box(name, path) for name, path in zip(names_of(paths), paths)]
-    ends.write(render(boxes).encode())
-    return ends.A_LINE_ERRED if any(step.error for box in boxes for step in box.steps) else ends.ALL_ANSWERED
+def main(named: list[str], far: int = verdict.FAR) -> int:
+    boxes = morning.each(morning.paths_of(named), lambda name, steps: drawn(name, steps, far), lambda name, fault: Box(name, fault, [], []))
+    boxes = morning.worst_first([(box, box.verdict) for box in boxes])
+    ends.write(render(boxes).encode('utf-8', 'replace'))
+    return morning.status(box.verdict for box in boxes)

@@ -3,6 +3,7 @@ person needs to mend a line that was answered `error`."""
 import collections
 import os
 import select
+import stat
 import subprocess
 import sys
 
@@ -13,7 +14,6 @@ from ends import say
 
 LONGEST = 32768  # bytes of a line that the program takes
 EXPLAINED = 20   # lines that are explained one by one; the rest are counted
-BOM8, BOM16 = b'\xef\xbb\xbf', (b'\xff\xfe', b'\xfe\xff')
 
 
 def quoted(text, most=60):
@@ -60,6 +60,7 @@ class Replay:
         self.name = name
         self.number = self.errors = 0
         self.asked = collections.deque()  # the lines that wait for an answer, with their numbers
+        self.commands = 0
         self.piece = b''                  # what is there of the next line
         self.long = False                 # the line under way is too long, and is passed on as it comes
         self.first = True
@@ -77,16 +78,16 @@ class Replay:
         text = line.decode('latin-1')
         if line and not line.startswith(b'#'):
             self.asked.append((self.number, text))
+            self.commands += 1
             if len(line) <= LONGEST:
                 line = human.translated(text).encode('latin-1')
         self.send += line + end
 
     def begin(self):
         """a byte order mark in front of the log: one of UTF-8 is passed over, one of UTF-16 says that the log is none"""
-        if self.piece[:2] in BOM16:
+        if self.piece[:2] in human.BOM16:
             ends.die('%s begins with the byte order mark (BOM) of UTF-16: save it as plain text (ASCII or UTF-8)' % self.name)
-        if self.piece.startswith(BOM8):
-            self.piece = self.piece[3:]
+        self.piece = self.piece.removeprefix(human.BOM8)
         self.first = False
 
     def more(self, octets):
@@ -179,6 +180,11 @@ class Replay:
         return ends.A_LINE_ERRED if self.errors else ends.ALL_ANSWERED
 
 
+def is_file(source):
+    """whether it is a log on a disk, which was meant to have something in it; a conversation may end without a word"""
+    return stat.S_ISREG(os.fstat(source).st_mode)
+
+
 def opened(name):
     """the log to read, as a descriptor, and its name in what is said of it"""
     if name in (None, '-'):
@@ -201,4 +207,8 @@ def replay(name, raw=False):
     if raw:
         os.dup2(source, 0)
         os.execv(command[0], command)
-    return Replay(called).run(command, source)
+    log = Replay(called)
+    status = log.run(command, source)
+    if not log.commands and is_file(source):
+        ends.die('%s has no command in it: is it a log of the drill?' % called)
+    return status

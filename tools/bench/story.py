@@ -1,13 +1,17 @@
 """A log with its answers, told: what each line asked, what the proved program answered, and how the record stood before and after. The record is the program's own
-word too: behind each line of the log stands a `show`, which changes nothing.
+word too: behind each line of the log stands a `show`, which changes nothing. Where many logs are told at once the log's own numbers tell as much of the record as is
+needed, since each `show` costs as much as a line.
 
 A command, a number or a key of the record that this page does not know is passed on as it stands, so that a new one is readable before it has words here."""
-import subprocess
+import functools
+import re
+from collections.abc import Iterator, Mapping, Sequence
 
-import ends
+import answers
 import human
 import meanings
-import program
+import run
+import walltime
 
 KIND_ERROR = 'caller'
 # How an answer's first word is told: where the number is good, and where it is not.
@@ -19,46 +23,118 @@ TOLD = {'new': ('association made', 'association refused'), 'timer': ('poll sent
         'save': ('hand-over file written', 'hand-over file not written'), 'load': ('association loaded', 'hand-over file refused'),
         'compare': ('boxes compared', 'boxes not compared')}
 REPLIES = ('reply', 'reply5')
+MAKES = ('new', 'metered', 'load')  # the commands that make an association
+ENDS = MAKES + ('blank',)           # and those that end the one before
+SHIFTS = (20, 23, 24)               # numbers of the timer that move the reach register on
+FOLLOWED = ('reach', 'stratum', 'pending')
+NOW = re.compile(r' now=(\d+)(?: |$)')
 
 
 class Step:
     """a line that was asked, and its answer"""
 
-    def __init__(self, line, text, answer, before, after):
-        self.line, self.text, self.answer, self.before, self.after = line, text, answer, before, after
-        words = human.translated(text).split(' ')
-        self.head, self.given = words[0], dict(w.split('=', 1) for w in words[1:] if '=' in w)
-        said = answer.split(' ')
-        self.error = said[0] == 'error'
-        self.number = int(said[1]) if len(said) > 1 and said[1].isdigit() and not self.error else None
-        self.gave = dict(w.split('=', 1) for w in said[1:] if '=' in w)
+    def __init__(self, said: answers.Answered, before: Mapping[str, str]) -> None:
+        self.said, self.before = said, before
+        self.line, self.text, self.answer, self.names = said.asked.line, said.asked.text, said.answer, said.names
+        self.after: Mapping[str, str] = before
+        self.head = said.asked.sent.partition(' ')[0]
+        first, _, rest = said.answer.partition(' ')
+        number = rest.partition(' ')[0]
+        self.error = first == 'error'
+        self.number = int(number) if number.isdigit() and not self.error else None
         self.row = meanings.row(self.head, self.number) if self.number is not None else None
         self.kind = KIND_ERROR if self.error else self.row.kind if self.row else 'quiet'
-        now = self.given.get('now', '')
-        self.now = int(now) if now.isdigit() and not self.error else None
+        now = NOW.search(said.asked.sent)
+        self.now = int(now[1]) if now and not self.error else None
+        self.tick: int | None = self.now  # the tick at which it was asked: its own, else that of the line before
+        self.heard: Step | None = None    # the last reply that the association had measured before this line
 
-    def good(self):
+    @functools.cached_property
+    def given(self) -> dict[str, str]:
+        return pairs(self.said.asked.sent)
+
+    @functools.cached_property
+    def gave(self) -> dict[str, str]:
+        return pairs(self.answer)
+
+    def good(self) -> bool:
         return self.kind == 'good'
 
+    def makes(self) -> bool:
+        """whether an association ends here: another takes its place, or none does"""
+        return self.head in ENDS and not self.error
 
-def record(answer):
-    return dict(w.split('=', 1) for w in answer.split(' ')[1:] if '=' in w)
+    def measured(self) -> bool:
+        return self.number == 0 and self.head in REPLIES
 
 
-def told(name):
-    """the steps of a log"""
-    octets = ends.contents(name)
-    if octets[:2] in (b'\xff\xfe', b'\xfe\xff'):
-        ends.die('%s begins with the byte order mark (BOM) of UTF-16: save it as plain text (ASCII or UTF-8)' % name)
-    asked = [(n, text) for n, text in enumerate(human.lines_of(octets), 1) if text and not text.startswith('#')]
-    if not asked:
-        ends.die('%s has no command in it: is it a log of the drill?' % name)
-    sent = 'show\n' + ''.join(human.translated(text) + '\nshow\n' for _, text in asked)
-    run = subprocess.run(program.drill(), input=sent.encode('latin-1'), stdout=subprocess.PIPE, stderr=subprocess.PIPE)
-    said = run.stdout.decode('latin-1').split('\n')[:-1]
-    if run.returncode not in (ends.ALL_ANSWERED, ends.A_LINE_ERRED) or len(said) != 2 * len(asked) + 1:
-        ends.die('the program ended with %s and answered %d of the %d lines of %s' % (ends.wait_status(run.returncode), len(said) // 2, len(asked), name))
-    return [Step(n, text, said[2 * k + 1], record(said[2 * k]), record(said[2 * k + 2])) for k, (n, text) in enumerate(asked)]
+def pairs(line: str) -> dict[str, str]:
+    return dict(w.split('=', 1) for w in line.split(' ')[1:] if '=' in w)
+
+
+class Course:
+    """what the lines so far leave to the next one: the tick, the reply that was measured last, and the record. Where the program shows its record behind each line, that
+    is the record; else it is what the log's numbers tell of it (docs/PROMISES.md, "RULES, No. 8"): reach, stratum and what is awaited"""
+
+    def __init__(self, first: str | None) -> None:
+        self.record = pairs(first) if first is not None else {}
+        self.follows = first is None
+        self.tick: int | None = None
+        self.heard: Step | None = None
+        self.window: int | None = None
+
+    def step(self, said: answers.Answered) -> Step:
+        step = Step(said, self.record)
+        if step.makes():
+            self.tick = self.heard = None
+        step.tick = self.tick = self.tick if step.now is None else step.now
+        if step.measured():
+            self.heard = step  # it has no `heard` of its own, or each would hold all before it
+        else:
+            step.heard = self.heard
+        if self.follows:
+            self.follow(step)
+        elif said.record is not None:
+            self.record = pairs(said.record)
+        step.after = self.record
+        return step
+
+    def follow(self, step: Step) -> None:
+        """what the numbers tell of the record"""
+        if step.head == 'timer':
+            if step.number in SHIFTS and 'reach' in self.record:
+                self.record = dict(self.record, reach=str(int(self.record['reach']) << 1 & 255))
+            if step.number == 20:
+                self.record = dict(self.record)
+                self.record.pop('pending', None)
+                if self.window is not None:
+                    self.record['pending'] = '%s/-/%d' % (step.given['id'].lower(), min(step.now + self.window, human.ERA - 1))
+        elif step.measured():
+            reach = {'reach': str(int(self.record['reach']) | 1)} if 'reach' in self.record else {}
+            self.record = dict(reach, stratum=step.gave['stratum'], pending='-')
+        elif step.makes() or step.head == 'poke' and not step.error:
+            self.begin(step)
+
+    def begin(self, step: Step) -> None:
+        """a record that is not the one before, moved on"""
+        self.record, window = {'reach': '0', 'stratum': '0', 'pending': '-'}, None  # the blank one
+        if step.said.record is not None:
+            shown = pairs(step.said.record)
+            self.record = {key: shown[key] for key in FOLLOWED if key in shown}
+        if step.head == 'poke':
+            window = step.given['value'] if step.given['key'] == 'window' else self.window
+        elif step.number == 0 and step.head == 'load':
+            window = in_file(bytes.fromhex(step.given['file']))['window']
+        elif step.number == 0:
+            self.record, window = dict(self.record, stratum='16'), step.given['window']
+        self.window = int(window) if window is not None else None
+
+
+def told(sources: Sequence[answers.Source], shown: bool = True) -> Iterator[tuple[answers.Source, Iterator[Step]]]:
+    """each log and its steps, which have to be taken before those of the next log. Where a log cannot be read, taking its steps raises answers.Unreadable. `shown`: the
+    record is the program's own word at each line, and else what the numbers tell"""
+    for source, first, said in answers.Conversation(sources, shown).logs():
+        yield source, map(Course(first).step, said)
 
 
 # ---- the record in words
@@ -76,7 +152,7 @@ def pending(value):
     if value == '-':
         return 'nothing'
     ident, _, deadline = value.split('/')
-    return '%s until %s' % (ident, human.clock(int(deadline)))
+    return '%s until tick %s' % (ident, human.tick(int(deadline)))
 
 
 # A key of `show`: its words and how its value is written. A key that is not here is shown as it stands.
@@ -86,10 +162,10 @@ RECORD = {'reach': ('reach', bits), 'tries': ('tries', str), 'version': ('versio
           'unanswered': ('unanswered polls', str), 'capacity': ('capacity', str)}
 
 
-def field(key, value):
+def field(key, value, names):
     words, how = RECORD.get(key, (key, str))
     try:
-        return words, how(value)
+        return words, how(value, names) if how is human.address else how(value)
     except ValueError:
         return words, value
 
@@ -99,8 +175,8 @@ def changes(step):
     out = []
     for key, value in step.after.items():
         if step.before.get(key) != value:
-            words, now = field(key, value)
-            was = field(key, step.before[key])[1] if key in step.before else '?'
+            words, now = field(key, value, step.names)
+            was = field(key, step.before[key], step.names)[1] if key in step.before else '?'
             out.append('%s %s → %s' % (words, was, now))
     return out
 
@@ -115,7 +191,24 @@ def octets(step):
 
 
 def why_late(step):
-    return 'the request expired at %s' % human.clock(int(step.before['pending'].split('/')[2]))
+    deadline = int(step.before['pending'].split('/')[2])
+    trip = walltime.difference(int(step.given['t4']), int(step.given['t1'])) * 10**9 // human.SECOND
+    return '%s too late: the request expired at tick %s; the round trip took %s' % (
+        human.length(step.now - deadline), human.tick(deadline), human.length(trip) if trip >= 0 else 'no time that can be told, since T4 is before T1')
+
+
+def why_kiss(step):
+    """the server's own word: the reference identifier of the packet, or what a decoded reply names"""
+    if step.head == 'reply5':
+        return '%s; the reply says %s' % (step.row.says, step.given.get('kiss', '-'))
+    code = octets(step)[12:16]
+    letters = all(0x20 < o < 0x7f for o in code)
+    return '%s; the packet says %s' % (step.row.says, code.decode() if letters else code.hex())
+
+
+def why_stratum(step):
+    theirs, ours = step.before['stratum'], step.given['stratum']
+    return 'its stratum is %s, ours is %s%s' % (theirs, ours, '; nothing was measured yet' if step.heard is None and theirs == '16' else '')
 
 
 def why_version(step):
@@ -136,7 +229,10 @@ def why_undecodable(step):
         return 'it has %d bytes, and a packet has 48 or more' % len(packet)
     if packet[0] >> 3 & 7 not in (3, 4):
         return 'it is of version %d, and 3 and 4 can be read' % (packet[0] >> 3 & 7)
-    return 'its extension fields, or its authenticated end (auth=%s), cannot be' % step.given.get('auth', '48')
+    end = step.given.get('auth', '48')
+    if end == '0':
+        return 'the caller could not decrypt it (auth=0)'
+    return 'its extension fields are broken, or none of them starts at its authenticated end (auth=%s)' % end
 
 
 def cookie_lengths(step):
@@ -202,12 +298,11 @@ def cookies_end(body):
 
 WHY = {('load', 61): why_file, ('load', 62): why_file, ('compare', 61): why_side, ('compare', 62): why_side, ('compare', 63): why_side,
        ('reply', 1): why_undecodable,
-       ('reply', 2): why_version, ('reply', 4): why_foreign, ('reply', 14): why_late,
+       ('reply', 2): why_version, ('reply', 4): why_foreign, ('reply', 6): why_kiss, ('reply', 9): why_kiss, ('reply', 14): why_late,
        ('reply', 10): lambda s: 'its stratum is %d' % octets(s)[1] if s.head == 'reply' else 'its stratum is %s' % s.given['stratum'],
        **{(call, number): why for call in ('metered', 'profile') for number, why in PROFILE.items()},
        ('new', 38): lambda s: 'the start version is %s, and upgrading is retired' % s.given['start'],
-       ('accept', 40): lambda s: 'its stratum is %s, ours is %s' % (s.before['stratum'], s.given['stratum'])
-       + ('; nothing was measured yet' if s.before['stratum'] == '16' else '')}
+       ('accept', 40): why_stratum}
 
 
 def why(step):
@@ -229,12 +324,21 @@ def dropped(step):
 
 def measured(step):
     g = step.gave
-    return 'offset %s, delay %s, stratum %s%s' % (human.milliseconds(int(g['offset']), sign=True), human.milliseconds(int(g['delay'])), g['stratum'], dropped(step))
+    return 'offset %s, delay %s, stratum %s%s%s' % (human.milliseconds(int(g['offset']), sign=True), human.milliseconds(int(g['delay'])), g['stratum'],
+                                                   '; the source says that it is not synchronized (leap)' if walltime.unsynchronized(step) else '', dropped(step))
 
 
-def settings(g):
+def accepted(step):
+    """the true time at which a source was accepted"""
+    if step.heard is None:
+        return 'no reply was measured yet, so that ticks cannot be turned into wall time'
+    at = walltime.at_tick(step.heard, step.tick)
+    return 'at %s' % walltime.told(at) if at is not None else ''
+
+
+def settings(g, names):
     return ('polls every %s to %s, gives up from %s tries on where none of the last eight polls was answered, waits %s for a reply; version %s, %s, source %s'
-            % (every(g['min']), every(g['max']), g['startup'], human.span(int(g['window'])), g['start'], nts(g), human.address(g['source'])))
+            % (every(g['min']), every(g['max']), g['startup'], human.span(int(g['window'])), g['start'], nts(g), human.address(g['source'], names)))
 
 
 def nts(g):
@@ -246,7 +350,7 @@ def nts(g):
 
 
 def made(step):
-    return settings(step.given) + dropped(step)
+    return settings(step.given, step.names) + dropped(step)
 
 
 def in_file(f):
@@ -259,17 +363,17 @@ def in_file(f):
 
 def loaded(step):
     retired = '; the file had a version that is retired, upgrading, which is V4 now' if step.gave['retired'] == 'yes' else ''
-    return 'it has sent nothing yet; ' + settings(in_file(bytes.fromhex(step.given['file']))) + retired
+    return 'it has sent nothing yet; ' + settings(in_file(bytes.fromhex(step.given['file'])), step.names) + retired
 
 
 def saved(step):
-    held = int(step.before['held'])
+    held = int(step.before.get('held', 0))
     return '%s bytes%s' % (step.gave['len'], '; %d %s went with it, and the stash is empty' % (held, 'cookie' if held == 1 else 'cookies') if held else '')
 
 
 def sent(step):
     until = step.after.get('pending', '-')
-    return '%s, the next in %s%s' % (step.gave['send'], every(step.gave['poll']), '' if until == '-' else ', a reply is awaited until ' + human.clock(int(until.split('/')[2])))
+    return '%s, the next in %s%s' % (step.gave['send'], every(step.gave['poll']), '' if until == '-' else ', a reply is awaited until tick ' + human.tick(int(until.split('/')[2])))
 
 
 def compared(step):
@@ -279,7 +383,7 @@ def compared(step):
     return '; '.join('%s: %s and %s%s' % (words, left, right, ' (%s)' % note if note else '') for words, left, right, note in rows) or 'nothing differs'
 
 
-GOOD = {'new': made, 'metered': made, 'timer': sent, 'reply': measured, 'reply5': measured, 'load': loaded, 'save': saved, 'compare': compared}
+GOOD = {'new': made, 'metered': made, 'timer': sent, 'reply': measured, 'reply5': measured, 'accept': accepted, 'load': loaded, 'save': saved, 'compare': compared}
 
 
 def rest(step):
@@ -287,13 +391,17 @@ def rest(step):
     return ' '.join(w if len(w) < 100 else w[:97] + '..' for w in step.answer.split(' ')[2:])
 
 
-def sentence(step):
+def fault(step: Step) -> str:
+    """what is wrong with a line that was answered `error`"""
+    return run.fault(step.text, step.answer.split(' ', 2)[-1])
+
+
+def sentence(step: Step) -> str:
     """a step in plain words, without its time"""
     if step.error:
-        import run
-        return 'error: ' + run.fault(step.text, step.answer.split(' ', 2)[-1])
+        return 'error: ' + fault(step)
     if step.answer.startswith('record '):
-        return 'the record: ' + ', '.join('%s %s' % field(k, v) for k, v in step.gave.items())
+        return 'the record: ' + ', '.join('%s %s' % field(k, v, step.names) for k, v in step.gave.items())
     if step.number is None or step.head not in TOLD and not step.row.says:
         return step.answer if len(step.answer) < 200 else step.answer[:197] + '..'
     good, bad = TOLD.get(step.head, (step.head, step.head + ' refused'))
@@ -307,7 +415,7 @@ def sentence(step):
     return '%s%s' % (head, ': ' + more if more else '')
 
 
-def wall_time(step):
-    """the box's own wall clock, where the line gives it"""
+def own_clock(step: Step) -> str | None:
+    """what the box's own wall clock read, where the line gives it: it may be wrong"""
     t4 = step.given.get('t4', '')
     return human.wall(int(t4)) if t4.isdigit() and not step.error and int(t4) < human.ERA else None

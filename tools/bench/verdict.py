@@ -1,0 +1,288 @@
+"""What became of a box by the end of its log: up, doubtful, lost, never or unreadable, with the event that decided it. The rules are those of docs/DRILL.md, "What
+became of a box"; nothing is drawn or written here.
+
+A box may have several servers, one behind the other in its log (DECISIONS 66): another begins where the clock goes back with a new association. One that is up is
+enough."""
+from collections.abc import Iterator
+from typing import NamedTuple
+
+import human
+import story
+import walltime
+from story import Step
+
+STATES = ('up', 'doubtful', 'lost', 'never', 'unreadable')  # from the best to the worst
+FAR = human.SECOND                                          # an offset over this makes a box doubtful, where nothing else is said
+SENT, TOO_LATE, NOT_OURS = 20, 14, 4
+GAVE_UP = {'timer': (21, 22, 23, 24), 'reply': (7,), 'reply5': (7,)}
+# What is in the way of a box though its number is good: something did not follow it.
+GOOD_BUT = {'new': 'a new association', 'metered': 'a new association', 'load': 'a new association', 'timer': 'no reply', 'reply': 'accept not asked',
+            'reply5': 'accept not asked'}
+NO_REASON = (12, 13)    # replies that come while none is awaited harm nobody
+ANYBODYS = (1, 2, 4)    # replies that anybody may have sent: a reason only where there is no other
+
+
+class Event(NamedTuple):
+    """a step with its tick, for lines that have none that of their neighbour"""
+    step: Step
+    tick: int | None
+
+    def told(self) -> str:
+        """what happened, in a sentence"""
+        step, at = self.step, ', tick %s' % human.tick(self.tick) if self.tick is not None else ''
+        where = 'in line %d%s' % (step.line, at)
+        if step.number is None:
+            return '%s %s' % (step.head, where)
+        says = '' if step.good() else story.why(step)
+        return '%s %s (%d) %s%s' % (step.head, step.row.short, step.number, where, ': ' + says if says else '')
+
+    def cause(self) -> str:
+        """what happened, in short, to count alike ones by"""
+        step = self.step
+        return step.head if step.number is None else GOOD_BUT.get(step.head) if step.good() else '%s %d (%s)' % (step.head, step.number, step.row.short)
+
+
+class Stretch(NamedTuple):
+    """a time in which the source was accepted; the last may have no end"""
+    begun: int
+    ended: int | None
+
+
+class Placed(NamedTuple):
+    """a step, with the server that it belongs to and its tick"""
+    step: Step
+    server: 'Server'
+    tick: int | None
+
+
+class Server:
+    """what a log says of one server, folded line by line"""
+
+    def __init__(self) -> None:
+        self.made: Event | None = None         # what made the last association, or tried to
+        self.first: Step | None = None         # the first reply of all that was measured
+        self.latest: Step | None = None        # the last one of all
+        self.risen: walltime.Rise | None = None      # when the source was accepted for the first time
+        self.accepted: walltime.Rise | None = None   # and for the last time
+        self.ended: Event | None = None        # what ended the last good state
+        self.stretches: list[Stretch] = []
+        self.good = False
+        self.begin(None)
+
+    def begin(self, made: Event | None) -> None:
+        """another association, or none, from here on"""
+        self.made = made
+        self.heard: Event | None = None        # its last measured reply
+        self.asked: Event | None = None        # its last accept
+        self.polled: Event | None = None       # its last timer that did not give up
+        self.stopped: Event | None = None      # what gave up, unless the source was accepted again
+        self.refused: Event | None = None      # its last refused reply that tells something
+
+    def take(self, event: Event) -> None:
+        step, number = event.step, event.step.number
+        if step.makes():
+            self.fall(event)
+            self.begin(event)
+        elif number in GAVE_UP.get(step.head, ()):
+            self.fall(event)
+            self.stopped = event
+        elif step.head == 'timer':
+            self.polled = event
+        elif step.measured():
+            self.first, self.latest, self.heard = self.first or step, step, event
+        elif step.head in story.REPLIES:
+            self.refuse(event)
+        elif step.head == 'accept' and not step.error:
+            self.accept(event)
+
+    def refuse(self, event: Event) -> None:
+        number = event.step.number
+        if number is not None and number not in NO_REASON and (number not in ANYBODYS or self.refused is None or self.refused.step.number in ANYBODYS):
+            self.refused = event
+
+    def accept(self, event: Event) -> None:
+        self.asked = event
+        if event.step.number != 0:
+            self.fall(event)
+        elif self.heard:
+            self.stopped = None
+            if not self.good:
+                self.good = True
+                tick = event.tick if event.tick is not None else self.heard.step.now
+                self.accepted = walltime.Rise(tick, self.heard.step, self.first)
+                self.risen = self.risen or self.accepted
+                self.stretches.append(Stretch(tick, None))
+
+    def fall(self, event: Event) -> None:
+        if self.good:
+            self.good, self.ended = False, event
+            tick = event.tick if event.tick is not None else self.latest.now
+            self.stretches[-1] = self.stretches[-1]._replace(ended=tick)
+
+    # -- at the end
+
+    def doubts(self, far: int) -> list[str]:
+        """what is wrong with a source that is accepted"""
+        heard, out = self.heard.step, []
+        if abs(walltime.offset(heard)) > far:
+            out.append("the box's clock is %s (offset %s): over %s" % (
+                walltime.off(walltime.offset(heard)), human.offset(walltime.offset(heard)), human.length(far * 10**9 // human.SECOND)))
+        if walltime.unsynchronized(heard):
+            out.append('the source says that it is not synchronized (leap)')
+        return out
+
+    def state(self, far: int) -> str:
+        if self.good:
+            return 'doubtful' if self.doubts(far) else 'up'
+        return 'lost' if self.ended else 'never'
+
+    def in_the_way(self) -> tuple[Event | None, str]:
+        """what keeps the last association from being up, and that in words"""
+        if self.made and self.made.step.number != 0:
+            return self.made, self.made.told()
+        if self.stopped:
+            more = '; before that, ' + self.refused.told() if self.refused and not self.heard else ''
+            return self.stopped, self.stopped.told() + more
+        if self.heard:
+            if self.asked and self.asked.step.line > self.heard.step.line:
+                return self.asked, self.asked.told()
+            return self.heard, 'a reply was measured in line %d, but the log does not ask `accept` after it' % self.heard.step.line
+        hindered = self.refused or (self.polled if self.polled and self.polled.step.number != SENT else None)
+        if not hindered and self.asked and self.asked.step.number != 0:
+            hindered = self.asked
+        if hindered:
+            return hindered, hindered.told()
+        nothing = 'accepted, but no reply was measured' if self.asked else 'no reply was measured'
+        return self.polled or self.made, nothing + (': ' + self.polled.told() if self.polled else ', and no poll was sent')
+
+    def reason(self, far: int) -> tuple[Event | None, str | None]:
+        """the event that decided the state, and that in words; nothing of a box that is up"""
+        state = self.state(far)
+        if state == 'doubtful':
+            return self.heard, '; '.join(self.doubts(far))
+        if state == 'lost':
+            why = self.ended.told()
+            if self.made is self.ended and self.made.step.number == 0:
+                why = 'restarted by %s, and the new association has not come up: %s' % (why, self.in_the_way()[1])
+            return self.ended, why
+        return self.in_the_way() if state == 'never' else (None, None)
+
+
+class Verdict(NamedTuple):
+    """what became of a box"""
+    state: str
+    number: int | None              # of the event that decided it
+    cause: str | None               # that event in short, to count alike ones by
+    reason: str | None
+    action: str | None              # docs/NUMBERS.md, what the caller does next
+    server: Server | None           # the server that decided it
+    servers: int = 1                # how many the box has
+    error: str | None = None        # why it is unreadable
+    sent: int | None = None
+    answered: int | None = None
+    late: int | None = None
+    foreign: int | None = None
+
+
+def unreadable(why: str, cause: str) -> Verdict:
+    return Verdict('unreadable', None, cause, why, None, None, error=why)
+
+
+class Judge:
+    """takes a log's steps as they come, and says at any time what became of the box so far. Steps that decide nothing are left out, unless `every` one is to be placed"""
+
+    def __init__(self, far: int = FAR, every: bool = False) -> None:
+        self.far, self.every = far, every
+        self.servers = [Server()]
+        self.last: int | None = None        # the last tick of the server under way
+        self.waiting: list[Step] = []       # a new association and what follows, until a line tells when that is
+        self.steps = self.associations = 0
+        self.error: Step | None = None      # the first line that was answered `error`
+        self.counts = {'sent': 0, 'answered': 0, 'late': 0, 'foreign': 0}
+
+    def take(self, step: Step) -> list[Placed]:
+        """the steps that have found their place by this one, in the log's order"""
+        self.steps += 1
+        self.count(step)
+        if step.now is None:
+            if not self.every and not step.makes() and step.head != 'accept':
+                return []
+            if self.waiting or step.makes() or self.last is None:
+                self.waiting.append(step)
+                return []
+            return [self.put(step, self.last)]
+        if any(waits.head in story.MAKES for waits in self.waiting) and self.last is not None and step.now < self.last:
+            self.servers.append(Server())
+        return self.place(step.now) + [self.put(step, step.now)]
+
+    def over(self) -> list[Placed]:
+        """the steps that are left when the log is over"""
+        return self.place(self.last)
+
+    def place(self, tick: int | None) -> list[Placed]:
+        waiting, self.waiting = self.waiting, []
+        return [self.put(step, tick) for step in waiting]
+
+    def put(self, step: Step, tick: int | None) -> Placed:
+        self.last = tick
+        server = self.servers[-1]
+        server.take(Event(step, tick))
+        return Placed(step, server, tick)
+
+    def count(self, step: Step) -> None:
+        if step.error:
+            self.error = self.error or step
+        elif step.head in story.MAKES:
+            self.associations += step.number == 0
+        elif step.head == 'timer':
+            self.counts['sent'] += step.number == SENT
+        elif step.head in story.REPLIES:
+            self.counts['answered'] += step.number == 0
+            self.counts['late'] += step.number == TOO_LATE
+            self.counts['foreign'] += step.number == NOT_OURS
+
+    # -- the verdict
+
+    def fault(self) -> tuple[str, str] | None:
+        """why the log cannot be judged, and that in short"""
+        if not self.steps:
+            return 'it has no command in it: is it a log of the drill?', 'no command'
+        if self.error:
+            return 'line %d: %s' % (self.error.line, story.fault(self.error)), 'a line answered error'
+        if not self.associations:
+            return 'it has no association: no `new`, `metered` or `load` in it was answered 0', 'no association'
+        return None
+
+    def deciding(self) -> Server:
+        """the server that the box's state is: the best one; of several that were lost the one that was lost last, of several that never were up the last"""
+        def rank(server: Server) -> tuple:
+            state = server.state(self.far)
+            lost = (server.ended.tick or 0, server.ended.step.line) if state == 'lost' else (0, 0)
+            return STATES.index(state), *(-n for n in lost)
+        best = min(rank(server) for server in self.servers)
+        alike = [server for server in self.servers if rank(server) == best]
+        return alike[-1] if best[0] == STATES.index('never') else alike[0]
+
+    def cause(self, server: Server, event: Event | None) -> str | None:
+        if server.good:
+            return None if event is None else 'far off' if abs(walltime.offset(event.step)) > self.far else 'not synchronized'
+        return event.cause() if event else None
+
+    def verdict(self) -> Verdict:
+        server, fault = self.deciding(), self.fault()
+        if fault:
+            known = dict(self.counts, server=server, servers=len(self.servers)) if self.associations else {}
+            return unreadable(*fault)._replace(**known)
+        event, reason = server.reason(self.far)
+        step = event.step if event else None
+        action = step.row.next or None if step and step.row else None
+        return Verdict(server.state(self.far), step.number if step else None, self.cause(server, event), reason, action, server, len(self.servers), **self.counts)
+
+
+def judged(steps: Iterator[Step], far: int = FAR) -> Verdict:
+    """what became of the box of a log"""
+    judge = Judge(far)
+    for step in steps:
+        judge.take(step)
+    judge.over()
+    return judge.verdict()
