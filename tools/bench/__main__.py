@@ -15,8 +15,10 @@ USAGE = '''drill: replay a log of calls against the proved association
   ./drill --explain FILE    tell the log in plain words: when, what was asked, what was answered and why, what changed in the record
   ./drill --page FILE.. >MORNING.html
                             one page for a whole morning, a strip for each log, to look at in a browser and to print
-  ./drill --capture FILE.pcap [--box ADDRESS] [--server ADDRESS] >FILE.drill
+  ./drill --capture FILE.pcap [--box ADDRESS] [--server ADDRESS] [--port N].. >FILE.drill
                             make a log from a capture (pcap or pcapng) of a box's NTP traffic
+  ./drill --capture FILE.pcap --all FOLDER [--box ADDRESS].. [--server ADDRESS] [--port N]..
+                            the same for a whole site: a log for each box, FOLDER/ADDRESS.drill
   ./drill --compare LEFT RIGHT
                             tell in plain words in which fields two hand-over files differ, of boxes that behave differently
   ./drill --strike FILE     strike the replies that answer nothing, by the log alone, and replay the shorter log beside the whole one
@@ -58,14 +60,17 @@ def misused(why):
     ends.die('./drill --help says how it is used')
 
 
-def options(args, takes):
-    """the values of the options that `takes` names, and the arguments beside them"""
+def options(args, takes, repeats=()):
+    """the values of the options that `takes` names, as a list where an option `repeats`, and the arguments beside them"""
     found, rest = {}, []
     while args:
         word = args.pop(0)
         if word in takes:
-            if not args:
+            if not args or args[0].startswith('--'):
                 misused('%s needs a value' % word)
+            if word in repeats:
+                found.setdefault(word, []).append(args.pop(0))
+                continue
             if word in found:
                 misused('%s is given twice' % word)
             found[word] = args.pop(0)
@@ -123,8 +128,8 @@ def main(args):
         return page.main(names)
     if word == '--capture':
         import capture
-        found, names = options(args, ('--box', '--server'))
-        return capture.main(one(names, word), found.get('--box'), found.get('--server'))
+        found, names = options(args, ('--all', '--box', '--server', '--port'), ('--box', '--port'))
+        return capture.main(one(names, word), found.get('--box', ()), found.get('--server'), found.get('--port', ()), found.get('--all'))
     misused('there is no option %s' % word)
 
 
