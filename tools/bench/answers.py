@@ -1,5 +1,6 @@
 """One proved program answers all logs, one behind the other. A thread hands it their lines while the answers are read, so that a log that is still being written is
 answered as it grows, and a long one is never held as a whole."""
+import collections
 import os
 import queue
 import stat
@@ -141,7 +142,7 @@ class Conversation:
         return said[:-1].decode('latin-1')
 
     def answers(self, source: Source) -> Iterator[Answered]:
-        """the answers of one log; all of them have to be taken before those of the next"""
+        """the answers of one log, to be taken before those of the next"""
         names: dict[str, str] = {}
         while True:
             item = self.asked.get()
@@ -160,6 +161,8 @@ class Conversation:
         for k, source in enumerate(self.sources):
             if k:
                 self.answer(source)
-            yield source, record, self.answers(source)
+            said = self.answers(source)
+            yield source, record, said
+            collections.deque(said, 0)  # what was not taken is not the next log's
         if self.program.wait() not in (ends.ALL_ANSWERED, ends.A_LINE_ERRED):
             ends.die('the program ended with %s behind the last answer' % ends.wait_status(self.program.returncode))
