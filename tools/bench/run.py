@@ -60,7 +60,6 @@ class Replay:
         self.name = name
         self.number = self.errors = 0
         self.asked = collections.deque()  # the lines that wait for an answer, with their numbers
-        self.commands = 0
         self.piece = b''                  # what is there of the next line
         self.long = False                 # the line under way is too long, and is passed on as it comes
         self.first = True
@@ -78,7 +77,6 @@ class Replay:
         text = line.decode('latin-1')
         if line and not line.startswith(b'#'):
             self.asked.append((self.number, text))
-            self.commands += 1
             if len(line) <= LONGEST:
                 line = human.translated(text).encode('latin-1')
         self.send += line + end
@@ -196,19 +194,31 @@ def opened(name):
         ends.die('%s cannot be read: %s' % (name, fault.strerror))
 
 
+def has_command(source):
+    """whether a file has a line that is neither empty nor a remark; it is read by place, so that the log is still to be read, and nothing is built for it"""
+    at, rest = 0, b''
+    while True:
+        octets = os.pread(source, 1 << 16, at)
+        lines = (rest + octets).split(b'\n')
+        rest = lines.pop() if octets else b''
+        if any(line.strip() and not line.startswith(b'#') for line in lines):
+            return True
+        if not octets:
+            return False
+        at += len(octets)
+
+
 def replay(name, raw=False):
     """answers a log; `raw` hands it to the program and has nothing to do with it any more"""
     source, called = opened(name)
     if os.path.isdir('/dev/fd/%d' % source):
         ends.die('%s cannot be read: it is a folder' % called)
+    if not raw and is_file(source) and not has_command(source):
+        ends.die('%s has no command in it: is it a log of the drill?' % called)
     command = program.ready()
     if source == 0 and sys.stdin.isatty():
         say('waiting for commands, a line each, such as `show` (./drill --help lists them; Ctrl-D ends)')
     if raw:
         os.dup2(source, 0)
         os.execv(command[0], command)
-    log = Replay(called)
-    status = log.run(command, source)
-    if not log.commands and is_file(source):
-        ends.die('%s has no command in it: is it a log of the drill?' % called)
-    return status
+    return Replay(called).run(command, source)
