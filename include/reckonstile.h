@@ -1,15 +1,17 @@
 /* Reckonstile for C and C++: an NTP client association, proved to follow its rules.
 
-   The caller owns the record (struct reckonstile_association) and lends it to each call. Nothing is allocated, no clock is read, nothing is kept between
+   The caller owns the record, RECKONSTILE_BYTES(capacity) bytes, and lends it to each call. Nothing is allocated, no clock is read, nothing is kept between
    calls but in the record, and no call starts a thread. A record belongs to one caller at a time; two records have nothing to do with each other.
 
    The order of calls of a client:
      reckonstile_new            once, with the settings (reckonstile_metered where the link is paid by the packet)
      reckonstile_timer          when it is time to poll; on 20 a request is to be sent
      reckonstile_write_request  the bytes of that request
-     reckonstile_reply          for each datagram that comes back (V5: reckonstile_reply_decoded); on 0 there is a measurement
+     reckonstile_field_at       with each datagram that comes back: where its fields are, to find `end` and what is to be deciphered
      reckonstile_collect        with NTS, before reckonstile_reply: the new cookies of a reply, as the list that reckonstile_reply takes
+     reckonstile_reply          for each datagram that comes back (V5: reckonstile_reply_decoded); on 0 there is a measurement
      reckonstile_accept         whether the source may be used
+     reckonstile_look           settings and state of the record as numbers, for a display or a log
    Where a box is swapped for another (docs/HANDOVER.md):
      reckonstile_save           the association as a file, at power-down
      reckonstile_load           once, instead of reckonstile_new: the association of such a file
@@ -19,14 +21,18 @@
      reckonstile_check_calendar whether a calendar of polls keeps to a modem's cap
      reckonstile_plan_calendar  a start for each entry of such a calendar
 
+   The record is bytes: any address will do, and there is no padding. Its size is part of it: `size` is always RECKONSTILE_BYTES(capacity), with the capacity
+   of the settings. Bytes of another number, or that no call has made, are not whole: a call answers 32 and changes nothing. No call trusts a number of them.
+   reckonstile_new, _metered and _load make a record of any bytes; 31 says that there are too many or too few of them.
+
    Pointers. A record, and each buffer, is at a valid address and lent to one call at a time. What is read and what is written by a call does not overlap.
    Where a length is 0 the pointer is not read, but it is not NULL either: pass the address of any byte. A length is at most PTRDIFF_MAX.
-   Bytes of a record may be any bytes: a call on a record that no call has made answers 32 and changes nothing. No call trusts a number of it.
 
    Times. `time` is one clock that goes forward, in nanoseconds from any start, the same in all calls. t1 and t4 are readings of the wall clock as NTP
    timestamps: seconds since 1900 in the upper 32 bits, the fraction in the lower. t1 is taken when the request leaves, t4 when the reply comes in.
 
-   Targets: x86-64 with the System V calling convention (Linux). A struct of one number is passed as that number. */
+   Targets. Fields of structs have fixed widths and no padding, so this header is the same for 32 and 64 bits. A library is made for one target and its C
+   calling convention (docs/EMBEDDING.md has which there are). A struct of one number is passed as that number. */
 #ifndef RECKONSTILE_H
 #define RECKONSTILE_H
 
@@ -40,6 +46,12 @@ extern "C" {
 #define RECKONSTILE_ASSERT(test, text) _Static_assert(test, text)
 #endif
 
+/* What this header declares and how a record is laid out, as one number; reckonstile_revision gives the library's. Where the two differ, header and library
+   are of different revisions and must not be used together. tools/revision computes it. */
+#define RECKONSTILE_REVISION 0xBCF81C62u
+
+/* The bytes of a record, for a capacity of 1 to RECKONSTILE_SLOTS: 818, 1544, 2996 and 5900 for 1, 2, 4 and 8. */
+#define RECKONSTILE_BYTES(capacity) (92 + 726 * (size_t)(capacity))
 /* The longest cookie that is kept, and with NTS the least room of the timer's buffer. */
 #define RECKONSTILE_COOKIE_BYTES 724
 /* The slots of a stash: the largest capacity that an association may have. */
@@ -59,8 +71,9 @@ extern "C" {
 
 /* ---- numbers: what a call answers */
 
-#define RECKONSTILE_OK 0            /* new, metered: made. profile: met. reply: measured. accept, check_calendar: accepted. collect, write_request, salvage, plan_calendar, save, compare: written. load: loaded */
-#define RECKONSTILE_UNDECODABLE 1   /* reply: not a reply. collect: broken fields */
+#define RECKONSTILE_OK 0            /* new, metered: made. profile: met. reply: measured. accept, check_calendar: accepted. load: loaded. blank: cleared.
+                                       collect, write_request, salvage, plan_calendar, save, compare: written. look: shown. field_at: a field, or the end */
+#define RECKONSTILE_UNDECODABLE 1   /* reply: not a reply, or `end` is 0 or no place of a field. collect, field_at: broken fields */
 #define RECKONSTILE_VERSION 2       /* reply: of a version that is not expected */
 #define RECKONSTILE_NO_MATCH 4      /* reply: it answers another request */
 #define RECKONSTILE_RATE 5          /* reply: the source asks for a slower poll, which the record now has */
@@ -78,9 +91,10 @@ extern "C" {
 #define RECKONSTILE_DEMOBILIZE 22   /* timer: no answer, and service was denied. Give the source up */
 #define RECKONSTILE_NO_COOKIE 23    /* timer: no cookie is left. Exchange keys and make the association anew */
 #define RECKONSTILE_COOKIE_SIZE 24  /* timer: the cookie is too large to send. As 23 */
-#define RECKONSTILE_SETTINGS 30     /* new, metered: a setting is outside its range, or a code of no kind */
-#define RECKONSTILE_SHORT_BUFFER 31 /* timer: with NTS, a buffer under 724 bytes. collect, plan_calendar: what would be written is longer than the buffer */
-#define RECKONSTILE_NOT_WHOLE 32    /* timer, reply, accept, save: the record is none that a call has made. Nothing is changed */
+#define RECKONSTILE_SETTINGS 30     /* new, metered: a setting is outside its range, or an unknown code */
+#define RECKONSTILE_SHORT_BUFFER 31 /* timer: with NTS, a buffer under 724 bytes. collect, plan_calendar: what would be written is longer than the buffer.
+                                       new, metered, load: the record has not RECKONSTILE_BYTES(capacity) bytes */
+#define RECKONSTILE_NOT_WHOLE 32    /* timer, reply, accept, save, look: the record was not made by a call, or not all of it is lent. Nothing is changed */
 #define RECKONSTILE_BROKEN_LIST 33  /* new, metered, reply, with NTS: the cookie list is broken */
 #define RECKONSTILE_LOW_POLL_MIN 34 /* metered: the lower poll limit is below 8 */
 #define RECKONSTILE_HIGH_STARTUP 35 /* metered: the startup limit is over 3 */
@@ -90,13 +104,13 @@ extern "C" {
 #define RECKONSTILE_STRATUM 40      /* accept: the source is not below our own stratum */
 #define RECKONSTILE_LOOP 41         /* accept: the source gets its time from us */
 #define RECKONSTILE_UNREACHABLE 42  /* accept: none of the last eight polls was answered */
-#define RECKONSTILE_NOT_WRITTEN 50  /* write_request: V5, or a kind of no kind */
+#define RECKONSTILE_NOT_WRITTEN 50  /* write_request: V5, or an unknown kind */
 #define RECKONSTILE_SHORT_OUT 51    /* write_request: the buffer is too short */
 #define RECKONSTILE_ASK 52          /* write_request: with NTS, a cookie over 724 bytes, or not 1 to 8 new ones asked for */
 #define RECKONSTILE_SHORT_FILE 60   /* save: the buffer is shorter than the file */
 #define RECKONSTILE_FILE_MARK 61    /* load, compare: a record of the file does not have the mark that is due */
 #define RECKONSTILE_FILE_LENGTH 62  /* load, compare: a wrong length, or bytes that are missing or left over */
-#define RECKONSTILE_FILE_CONTENT 63 /* load, compare: a code of no kind, or an association that is not whole */
+#define RECKONSTILE_FILE_CONTENT 63 /* load, compare: an unknown code, or an association that is not whole */
 #define RECKONSTILE_SALVAGE_ROOM 70 /* salvage: the buffer is shorter than the damaged list */
 #define RECKONSTILE_COMPARE_ROOM 71 /* compare: the buffer is shorter than the list */
 #define RECKONSTILE_TOO_MANY 80     /* check_calendar, plan_calendar: more than 64 entries */
@@ -142,11 +156,43 @@ extern "C" {
 #define RECKONSTILE_BLOOM_ABSENT 1
 #define RECKONSTILE_BLOOM_PRESENT 2
 
-/* ---- the record: numbers only, and no padding */
+/* ---- the record */
 
+/* Layout of a record. Numbers are big-endian, signed ones in two's complement. It is a format of one revision, for looking at and for tests: what is to be
+   stored or sent, reckonstile_save writes.
+
+     at   bytes  what
+     0    1      settings: min, signed
+     1    1      settings: max, signed
+     2    1      settings: startup
+     3    8      settings: window
+     11   8      settings: upgrademark
+     19   2      settings: start version, kind and tries left
+     21   1      settings: nts, 0 or 1
+     22   4      settings: source
+     26   1      settings: capacity
+     27   1      stash: the place of the oldest cookie, below the capacity
+     28   1      stash: how many cookies are held
+     29   1      state: reach
+     30   1      state: tries
+     31   1      state: unanswered
+     32   2      state: version, kind and tries left
+     34   1      state: last poll, signed
+     35   1      state: remote minimum, signed
+     36   1      state: stratum
+     37   4      state: refid
+     41   1      state: denial, 0 or 1
+     42   1      state: present, 0 or 1
+     43   1      state: answered, 0 or 1
+     44   8      state: id
+     52   8      state: deadline
+     60   32     state: uid
+     92   726    each place of the stash, as many as the capacity: 724 bytes of a cookie, zero past its end, and its length in two bytes */
+
+/* What goes into reckonstile_new, and what reckonstile_look shows. No padding. */
 struct reckonstile_settings {
     uint64_t window;      /* how long a request stays live, in nanoseconds: 1 to 60000000000 */
-    uint64_t upgrademark; /* kept, and read by no call: what write_request puts into an upgrade request is an argument of its own */
+    uint64_t upgrademark; /* kept, and read by no rule: what write_request puts into an upgrade request is an argument of its own */
     uint32_t source;      /* the source's own identifier */
     uint32_t start;       /* the version to start with: RECKONSTILE_V4, _UPGRADED or _V5 */
     uint16_t nts;         /* 0 or 1 */
@@ -157,17 +203,7 @@ struct reckonstile_settings {
     int8_t min, max;      /* limits of the poll exponent: 0 <= min <= max <= 17 */
 };
 
-struct reckonstile_slot {
-    uint8_t bytes[RECKONSTILE_COOKIE_BYTES]; /* zero past the cookie's end */
-    uint16_t len;
-};
-
-struct reckonstile_stash {
-    struct reckonstile_slot slots[RECKONSTILE_SLOTS]; /* those past the settings' capacity are never used */
-    size_t read; /* the slot of the oldest cookie, below the capacity */
-    size_t held; /* how many cookies there are, at most the capacity */
-};
-
+/* What the calls change of a record, but for its cookies. reckonstile_look gives it. */
 struct reckonstile_state {
     uint8_t reach;     /* which of the last eight polls were answered, the newest in bit 0 */
     uint8_t tries;     /* polls sent, held at 255 */
@@ -186,10 +222,11 @@ struct reckonstile_state {
     uint32_t present;  /* 0 or 1: a request is pending. Where not, id, deadline and uid are zero */
 };
 
-struct reckonstile_association {
+/* What a display or a log shows. */
+struct reckonstile_view {
     struct reckonstile_settings settings;
-    struct reckonstile_stash stash;
     struct reckonstile_state state;
+    uint64_t number; /* 0, 32; on 32 all above is zero */
 };
 
 /* ---- what goes in and what comes back */
@@ -199,7 +236,7 @@ struct reckonstile_uid {
 };
 
 struct reckonstile_new_answer {
-    uint32_t number;  /* new: 0, 30, 33, 38; metered: 0, 30, 33 to 37. Where it is not 0 all below is zero */
+    uint32_t number;  /* new: 0, 30, 31, 33, 38; metered: 0, 30, 31, 33 to 37. Where it is not 0 all below is zero */
     uint32_t made;    /* 1 where the number is 0 */
     uint64_t dropped; /* with NTS, how many cookies of the list did not fit: with more than the capacity the oldest fall out */
     uint64_t lost;    /* their lengths, summed */
@@ -210,7 +247,7 @@ struct reckonstile_timer_answer {
     uint8_t kind;    /* what to send: RECKONSTILE_SEND_V4 .. RECKONSTILE_SEND_NTS_V5 */
     int8_t poll;     /* the poll exponent: the next poll is due in 2^poll seconds, stretched at random by the caller */
     uint16_t asked;  /* with NTS, how many new cookies the request asks for: 1 to the capacity */
-    size_t length;   /* with NTS, how many bytes of the buffer are the cookie */
+    uint64_t length; /* with NTS, how many bytes of the buffer are the cookie */
 };
 
 struct reckonstile_reply_answer {
@@ -229,7 +266,7 @@ struct reckonstile_reply_answer {
     uint64_t lost;     /* their lengths, summed; one over 724 bytes, of which nothing is kept, counts its length too */
 };
 
-/* A V5 reply that the caller has decoded. A code of no kind: 1, as for bytes that are no reply. */
+/* A V5 reply that the caller has decoded. An unknown code: 1, as for bytes that are no reply. */
 struct reckonstile_decoded {
     int64_t rootdelay, rootdisp;      /* in 2^-32 s */
     uint64_t receive, transmit;       /* the source's timestamps */
@@ -245,11 +282,11 @@ struct reckonstile_decoded {
 struct reckonstile_written {
     uint32_t number;  /* collect: 0, 1, 31; write_request: 0, 50, 51, 52; save: 0, 32, 60. Where it is not 0 the buffer is as it was and all below is zero */
     uint32_t written; /* 1 where the number is 0 */
-    size_t length;    /* how many bytes are written from the buffer's start on */
+    uint64_t length;  /* how many bytes are written from the buffer's start on */
 };
 
 struct reckonstile_load_answer {
-    uint32_t number;  /* 0, 61, 62, 63 */
+    uint32_t number;  /* 0, 31, 61, 62, 63 */
     uint32_t retired; /* 1 where the number is 0 and the file had RECKONSTILE_UPGRADING, as start version or as version: that is RECKONSTILE_V4 now */
 };
 
@@ -257,37 +294,47 @@ struct reckonstile_load_answer {
 struct reckonstile_salvaged {
     uint32_t number; /* 0, 70; on 70 the buffer is as it was and all below is zero */
     uint32_t told;   /* how many of the places below are told: as many as there are gaps, up to 32 */
-    size_t kept;     /* how many records (cookies) were kept */
-    size_t skipped;  /* how many bytes were skipped */
-    size_t gaps;     /* how many runs of skipped bytes there are, with a record kept between two of them */
-    size_t length;   /* how many bytes from the buffer's start on are the clean list */
-    size_t places[RECKONSTILE_PLACES]; /* where the first gaps start in the damaged list, in order; 0 past those told */
+    uint64_t kept;   /* how many records (cookies) were kept */
+    uint64_t skipped; /* how many bytes were skipped */
+    uint64_t gaps;   /* how many runs of skipped bytes there are, with a record kept between two of them */
+    uint64_t length; /* how many bytes from the buffer's start on are the clean list */
+    uint64_t places[RECKONSTILE_PLACES]; /* where the first gaps start in the damaged list, in order; 0 past those told */
 };
 
 /* What comparing two hand-over files answers. */
 struct reckonstile_compared {
     uint32_t number; /* 0, 61, 62, 63, 71; on all but 0 the buffer is as it was */
     uint32_t side;   /* on 61, 62 and 63 which file is refused: 1 the left one, 2 the right one; else 0 */
-    size_t entries;  /* how many fields differ: each has an entry of 19 bytes, from the buffer's start on; 0 unless the number is 0 */
+    uint64_t entries; /* how many fields differ: each has an entry of 19 bytes, from the buffer's start on; 0 unless the number is 0 */
 };
 
 struct reckonstile_calendar_answer {
     uint32_t number; /* check_calendar: 0, 80, 81, 82, 83; plan_calendar: 0, 80, 81, 84, 31 */
     uint32_t named;  /* 1 where the answer names an entry (81, 82, 84) or a minute (83); else 0 */
-    size_t place;    /* that entry or minute, the lowest, counted from 0; else 0 */
+    uint64_t place;  /* that entry or minute, the lowest, counted from 0; else 0 */
+};
+
+/* What stands at an offset of a packet of V4. */
+struct reckonstile_field {
+    uint32_t number; /* 0, 1; on 1, a broken field, all below is zero */
+    uint32_t found;  /* 1 a field; 0 the end of the fields, or broken */
+    uint32_t kind;   /* its type: 0x0104 unique identifier, 0x0204 cookie, 0x0404 authenticator, .. */
+    uint32_t spare;  /* 0 */
+    uint64_t body;   /* where its body starts in the packet: four bytes behind its head */
+    uint64_t length; /* how many bytes the body has */
+    uint64_t next;   /* where the next one starts */
 };
 
 /* The layout. A compiler that lays a struct out otherwise stops here: each size is the sum of its fields. */
-RECKONSTILE_ASSERT(sizeof(size_t) == 8, "reckonstile: 64-bit targets only");
 RECKONSTILE_ASSERT(sizeof(struct reckonstile_settings) == 32 && offsetof(struct reckonstile_settings, nts) == 24 &&
-                   offsetof(struct reckonstile_settings, capacity) == 26 && offsetof(struct reckonstile_settings, left) == 28, "reckonstile: layout of settings");
-RECKONSTILE_ASSERT(sizeof(struct reckonstile_slot) == 726 && sizeof(struct reckonstile_stash) == 5824, "reckonstile: layout of the stash");
+                   offsetof(struct reckonstile_settings, capacity) == 26 && offsetof(struct reckonstile_settings, left) == 28,
+                   "reckonstile: layout of settings");
 RECKONSTILE_ASSERT(sizeof(struct reckonstile_state) == 72 && offsetof(struct reckonstile_state, version) == 8 &&
                    offsetof(struct reckonstile_state, unanswered) == 15 && offsetof(struct reckonstile_state, id) == 16 &&
                    offsetof(struct reckonstile_state, uid) == 32 && offsetof(struct reckonstile_state, answered) == 64 &&
                    offsetof(struct reckonstile_state, present) == 68, "reckonstile: layout of the state");
-RECKONSTILE_ASSERT(sizeof(struct reckonstile_association) == 5928 && offsetof(struct reckonstile_association, stash) == 32 &&
-                   offsetof(struct reckonstile_association, state) == 5856, "reckonstile: layout of the record");
+RECKONSTILE_ASSERT(sizeof(struct reckonstile_view) == 112 && offsetof(struct reckonstile_view, state) == 32 && offsetof(struct reckonstile_view, number) == 104,
+                   "reckonstile: layout of a view");
 RECKONSTILE_ASSERT(sizeof(struct reckonstile_uid) == 32, "reckonstile: layout of a uid");
 RECKONSTILE_ASSERT(sizeof(struct reckonstile_new_answer) == 24 && offsetof(struct reckonstile_new_answer, dropped) == 8,
                    "reckonstile: layout of new's answer");
@@ -298,7 +345,9 @@ RECKONSTILE_ASSERT(sizeof(struct reckonstile_reply_answer) == 72 && offsetof(str
                    "reckonstile: layout of the reply's answer");
 RECKONSTILE_ASSERT(sizeof(struct reckonstile_decoded) == 56 && offsetof(struct reckonstile_decoded, mode) == 40 &&
                    offsetof(struct reckonstile_decoded, untrusted) == 55, "reckonstile: layout of a decoded reply");
-RECKONSTILE_ASSERT(sizeof(struct reckonstile_written) == 16, "reckonstile: layout of what is written");
+RECKONSTILE_ASSERT(sizeof(struct reckonstile_written) == 16 && offsetof(struct reckonstile_written, length) == 8, "reckonstile: layout of what is written");
+RECKONSTILE_ASSERT(sizeof(struct reckonstile_field) == 40 && offsetof(struct reckonstile_field, kind) == 8 && offsetof(struct reckonstile_field, body) == 16 &&
+                   offsetof(struct reckonstile_field, next) == 32, "reckonstile: layout of a field");
 RECKONSTILE_ASSERT(sizeof(struct reckonstile_load_answer) == 8 && offsetof(struct reckonstile_load_answer, retired) == 4,
                    "reckonstile: layout of load's answer");
 RECKONSTILE_ASSERT(sizeof(struct reckonstile_salvaged) == 296 && offsetof(struct reckonstile_salvaged, kept) == 8 &&
@@ -310,27 +359,25 @@ RECKONSTILE_ASSERT(sizeof(struct reckonstile_calendar_answer) == 16 && offsetof(
 
 /* ---- calls */
 
-/* sizeof(struct reckonstile_association) and its alignment, as the library has them. */
-size_t reckonstile_size(void);
-size_t reckonstile_align(void);
+/* The revision of the library: RECKONSTILE_REVISION of the header that it was built with. Look once, at the start. */
+uint32_t reckonstile_revision(void);
 
-/* The record becomes all zero. Answers 0. A blank record is not whole: timer, reply and accept answer 32 on it. */
-uint32_t reckonstile_blank(struct reckonstile_association *a);
+/* All bytes become zero, whatever their number. Answers 0. Zeros are not whole: timer, reply, accept and save answer 32 on them. */
+uint32_t reckonstile_blank(uint8_t *record, size_t size);
 
 /* The record, whatever it was, becomes a new association with these settings; with NTS its first cookies are those of the list (as reckonstile_collect writes
    it), and without NTS the list is not read. The answer says how many of them did not fit.
-   0 made; 30 a setting is outside its range, or a code of no kind; then 33 with NTS, the list is broken; then 38 start is RECKONSTILE_UPGRADING, which is
-   retired. On 30, 33 and 38 the record is blank. */
-struct reckonstile_new_answer reckonstile_new(struct reckonstile_association *a, struct reckonstile_settings settings, const uint8_t *list, size_t list_len);
+   0 made; 30 a setting is outside its range, or an unknown code; then 33 with NTS, the list is broken; then 38 start is RECKONSTILE_UPGRADING, which is
+   retired: all bytes are zero. Then 31 size is not RECKONSTILE_BYTES(settings.capacity): the bytes are as they were. */
+struct reckonstile_new_answer reckonstile_new(uint8_t *record, size_t size, struct reckonstile_settings settings, const uint8_t *list, size_t list_len);
 
 /* The same for a link that is paid by the packet: the settings and the list have to meet the metered profile besides, and the record is then the one that
    reckonstile_new makes. No poll that its timer sends has an exponent below 8.
    0 made; 30 and 33 as reckonstile_new; then the first rule of the profile that is broken: 34 min is below 8; 35 startup is over 3; 36 start is
-   RECKONSTILE_UPGRADING; 37 with NTS, a cookie of the list has over 100 bytes. On every number but 0 the record is blank. */
-struct reckonstile_new_answer reckonstile_metered(struct reckonstile_association *a, struct reckonstile_settings settings, const uint8_t *list,
-                                                  size_t list_len);
+   RECKONSTILE_UPGRADING; 37 with NTS, a cookie of the list has over 100 bytes: all bytes are zero. Then 31 as reckonstile_new. */
+struct reckonstile_new_answer reckonstile_metered(uint8_t *record, size_t size, struct reckonstile_settings settings, const uint8_t *list, size_t list_len);
 
-/* The number that reckonstile_metered gives for these settings and this list. */
+/* The number that reckonstile_metered gives for these settings and this list, with a record of the right size. */
 uint32_t reckonstile_profile(struct reckonstile_settings settings, const uint8_t *list, size_t list_len);
 
 /* It is time to poll. `desired` is the poll exponent that the clock steering asks for; it is raised to what the source asks for, and not held to the limits
@@ -338,27 +385,43 @@ uint32_t reckonstile_profile(struct reckonstile_settings settings, const uint8_t
    724 bytes at least; without NTS a room of 0 will do.
    In this order: 32 the record is not whole; 31 with NTS, room under 724; 22 give the source up; 21 make the association anew; 23, 24 with NTS, no cookie or
    one too large: exchange keys; 20 send. After 32, 31, 22 and 21 the record is as it was; the buffer is written on 20 with NTS alone. */
-struct reckonstile_timer_answer reckonstile_timer(struct reckonstile_association *a, uint64_t time, int8_t desired, uint64_t id, struct reckonstile_uid uid,
+struct reckonstile_timer_answer reckonstile_timer(uint8_t *record, size_t size, uint64_t time, int8_t desired, uint64_t id, struct reckonstile_uid uid,
                                                   uint8_t *buffer, size_t room);
 
-/* A reply of V3 or V4, as bytes. `end` is where its authenticated part ends: the offset of the head of its authenticator field (type 0404); 48 where there is
-   none, without NTS and in V3; 0 where the authenticator does not hold (the answer is then 1). `decrypted` are the decrypted bytes of that field and `list` the
-   new cookies among them (reckonstile_collect), both empty where there is none; they count only with NTS. The caller has checked the authenticator.
+/* What stands at an offset of a packet of V4: a field, the end, or something broken. Begin at 48 and go on at `next`: these are the fields as reckonstile_reply
+   reads them. An offset past the packet is broken. Only a packet of V4 has fields: its version is in bits 3 to 5 of its first byte.
+   0 a field (found is 1), or the end (found is 0): at most 24 bytes are left, which are no field; 1 broken: reckonstile_reply answers 1 to this packet. */
+struct reckonstile_field reckonstile_field_at(const uint8_t *packet, size_t packet_len, size_t at);
+
+/* A reply of V3 or V4, as bytes. `end` is where its authenticated part ends:
+     - the offset of the head of its authenticator field (type 0404), of the last where there are several, once the caller has deciphered each of them;
+     - 48 where there is none, and in V3;
+     - 0, to which the answer is 1, where an authenticator does not hold, where its nonce and ciphertext do not fit into it, where the deciphered bytes are no
+       whole fields, and where there is one without NTS.
+   `decrypted` are the deciphered bytes of these fields, one behind the other, and `list` the new cookies among them (reckonstile_collect), both empty where
+   there is none; they count only with NTS. docs/CALLERS.md goes through it step by step.
+   A wrong `end` undoes what NTS is for: fields before it are believed. With an `end` behind the authenticator (the packet's length, say), or any but 0 where
+   the authenticator does not hold, whoever sees a request can send a reply that is measured. No call can tell: the keys are the caller's.
    In this order: 32, 1, 33, 2, then 12, 13 or 14, then 4: the record is as it was. 5 to 11: a matching reply that is not measured; what of it counts the
    record has. 0 measured: the request is no longer pending but answered, and with NTS the list's cookies are stored; the answer says what fell out. */
-struct reckonstile_reply_answer reckonstile_reply(struct reckonstile_association *a, const uint8_t *packet, size_t packet_len, size_t end,
+struct reckonstile_reply_answer reckonstile_reply(uint8_t *record, size_t size, const uint8_t *packet, size_t packet_len, size_t end,
                                                   const uint8_t *decrypted, size_t decrypted_len, const uint8_t *list, size_t list_len,
                                                   uint64_t t1, uint64_t t4, uint64_t time);
 
 /* A reply of V5, decoded by the caller. The same numbers. */
-struct reckonstile_reply_answer reckonstile_reply_decoded(struct reckonstile_association *a, struct reckonstile_decoded d, const uint8_t *list,
-                                                          size_t list_len, uint64_t t1, uint64_t t4, uint64_t time);
+struct reckonstile_reply_answer reckonstile_reply_decoded(uint8_t *record, size_t size, struct reckonstile_decoded d, const uint8_t *list, size_t list_len,
+                                                          uint64_t t1, uint64_t t4, uint64_t time);
 
 /* Whether the source may be used, given our own stratum, the identifiers of this machine (`count` numbers, not bytes) and the Bloom filter's word. The
    record is only read.
    In this order: 32; 40 the source is not below our stratum; 41 it gets its time from us, or the word is none of RECKONSTILE_BLOOM_NONE, _ABSENT; 42 not
    reached; 0 accepted. */
-uint32_t reckonstile_accept(const struct reckonstile_association *a, uint8_t stratum, const uint32_t *local, size_t count, uint32_t bloom);
+uint32_t reckonstile_accept(const uint8_t *record, size_t size, uint8_t stratum, const uint32_t *local, size_t count, uint32_t bloom);
+
+/* Settings and state of the record as numbers: what a display or a log shows. The record is only read; of a cookie nothing is shown.
+   0 shown; 32 these are no bytes of a record, and all else is zero: their number is not the capacity's, or a code is unknown. What is shown need not go
+   together: where another call answers 32 and this one does not, the numbers shown say what is wrong. */
+struct reckonstile_view reckonstile_look(const uint8_t *record, size_t size);
 
 /* The cookies among a reply's decrypted fields, written as a list for reckonstile_new and reckonstile_reply. It is never longer than the fields.
    0 written; 1 the fields are broken; 31 the list is longer than the buffer. */
@@ -367,19 +430,21 @@ struct reckonstile_written reckonstile_collect(const uint8_t *decrypted, size_t 
 /* The request that a timer's 20 asks for: `kind`, `poll` and `asked` as that answer has them, `id` and `uid` as the timer was given, the upgrademark of the
    settings, the cookie from the timer's buffer. With NTS the caller appends its authenticator. kind is 1, 2 or 4; cookie, uid and asked count for 4 only, the
    upgrademark for 2, which is an upgrade request: no timer asks for one any more.
-   0 written; 50 V5, or a kind of no kind; 52 a cookie or a count that no request has; 51 the buffer is too short. */
+   0 written; 50 V5, or an unknown kind; 52 a cookie or a count that no request has; 51 the buffer is too short. */
 struct reckonstile_written reckonstile_write_request(uint8_t kind, int8_t poll, uint64_t id, uint64_t upgrademark, struct reckonstile_uid uid,
                                                      const uint8_t *cookie, size_t cookie_len, uint8_t asked, uint8_t *out, size_t room);
 
 /* The association as a hand-over file, at power-down (docs/HANDOVER.md). The cookies are the file's then: the record comes back with its stash empty and the
    reading place kept, and all else as it was. The file holds the cookies, and not the NTS keys.
    In this order: 32 the record is not whole; 60 the buffer is shorter than the file; 0 written. After 32 and 60 record and buffer are as they were. */
-struct reckonstile_written reckonstile_save(struct reckonstile_association *a, uint8_t *out, size_t room);
+struct reckonstile_written reckonstile_save(uint8_t *record, size_t size, uint8_t *out, size_t room);
 
 /* The record, whatever it was, becomes the association of a hand-over file, with nothing sent yet. Load a file once: a cookie has one owner.
-   The retired version, RECKONSTILE_UPGRADING, becomes RECKONSTILE_V4, and the answer says so.
-   0 loaded; 61 a mark, 62 a length, whichever is first in the file; then 63 what it says is no association. On these three the record is blank. */
-struct reckonstile_load_answer reckonstile_load(struct reckonstile_association *a, const uint8_t *file, size_t file_len);
+   The retired version, RECKONSTILE_UPGRADING, becomes RECKONSTILE_V4, and the answer says so. The capacity is the file's: byte 30 of a file whose byte 3 is 27,
+   and 8 of an older one.
+   0 loaded; 61 a mark, 62 a length, whichever is first in the file; then 63 what it says is no association: all bytes are zero. Then 31 size is not
+   RECKONSTILE_BYTES of the file's capacity: the bytes are as they were, and the file may be loaded with a record of the right size. */
+struct reckonstile_load_answer reckonstile_load(uint8_t *record, size_t size, const uint8_t *file, size_t file_len);
 
 /* Two hand-over files compared, of boxes that behave differently: an entry for each field that differs, in the file's order, is written to the buffer. An
    entry is 19 bytes, big-endian: the field's code 1, the left reading 8, the right reading 8, the place 2 (docs/COMPARE.md has the codes). Of a cookie only the

@@ -1,12 +1,14 @@
 //! Finds the proved static library, or makes it, and says what is missing.
 //!
 //! 1. `RECKONSTILE_LIB` names the library, or the folder that it lies in.
-//! 2. Else it is `target/staticlib` of the repository that this crate lies in, where `rt staticlib embed` writes it.
+//! 2. Else it is `target/staticlib` of the repository that this crate lies in, where `rt staticlib exports` writes it.
 //! 3. Where it is not there, that command is run.
+//!
+//! What that command makes is for x86-64 Linux. For any other target there is only the first way.
 use std::path::{Path, PathBuf};
 use std::process::{exit, Command};
 
-const NAMES: [&str; 2] = ["libreckonstile.a", "libembed.a"];
+const NAMES: [&str; 2] = ["libreckonstile.a", "libexports.a"];
 const TARGET: &str = "x86_64-unknown-linux-gnu";
 
 fn stop(what: &str) -> ! {
@@ -26,15 +28,15 @@ fn library(path: &Path) -> Option<PathBuf> {
 fn make(root: &Path) {
     if !root.join("crates.txt").is_file() {
         stop(&format!(
-            "RECKONSTILE_LIB is not set and {} is not the repository: set RECKONSTILE_LIB to the folder of libembed.a",
+            "RECKONSTILE_LIB is not set and {} is not the repository: set RECKONSTILE_LIB to the folder of libexports.a",
             root.display()
         ));
     }
-    match Command::new("rt").args(["staticlib", "embed"]).current_dir(root).output() {
+    match Command::new("rt").args(["staticlib", "exports"]).current_dir(root).output() {
         Err(_) => stop("there is no library at target/staticlib, and Rattle's command rt, which makes it, is not on the PATH: install the toolchain that README.md names, or set RECKONSTILE_LIB"),
         Ok(out) if !out.status.success() => {
             eprintln!("{}{}", String::from_utf8_lossy(&out.stdout), String::from_utf8_lossy(&out.stderr));
-            stop("`rt staticlib embed` did not make the library (what it said stands above)")
+            stop("`rt staticlib exports` did not make the library (what it said stands above)")
         }
         Ok(_) => (),
     }
@@ -44,21 +46,25 @@ fn main() {
     println!("cargo:rerun-if-env-changed=RECKONSTILE_LIB");
     println!("cargo:rerun-if-env-changed=NETTLE_LIB");
     let variable = |name: &str| std::env::var(name).unwrap_or_default();
-    // src/lib.rs stops the build for any other target, in the compiler's own words.
-    if variable("TARGET") != TARGET {
-        return;
-    }
     let root = PathBuf::from(variable("CARGO_MANIFEST_DIR")).join("..");
     let found = match std::env::var_os("RECKONSTILE_LIB") {
         Some(named) => library(Path::new(&named)).unwrap_or_else(|| {
             stop(&format!("there is no library at {}, which RECKONSTILE_LIB names", Path::new(&named).display()))
         }),
+        None if variable("TARGET") != TARGET => {
+            stop(&format!(
+                "`rt staticlib exports` makes the library for {TARGET} alone: build for that target (tools/cargo does), or set RECKONSTILE_LIB to a library for {} \
+                 (docs/EMBEDDING.md)",
+                variable("TARGET")
+            ))
+        }
         None => {
             let folder = root.join("target/staticlib");
             if library(&folder).is_none() {
                 make(&root);
             }
-            library(&folder).unwrap_or_else(|| stop("`rt staticlib embed` ended well, but target/staticlib has no libembed.a"))
+            library(&folder)
+                .unwrap_or_else(|| stop("`rt staticlib exports` ended well, but target/staticlib has no libexports.a"))
         }
     };
     let file = found.file_name().and_then(|name| name.to_str()).unwrap_or_default();

@@ -3,21 +3,24 @@
 //!
 //!     connector SERVER[:PORT] [--polls N] [--desired EXPONENT] [--log FILE] [--nts KEYS]
 //!
+//! An IPv6 address stands in brackets, with its port: `[2001:db8::1]:123`. Its identifier is made here (`md5/mod.rs`).
+//!
 //! `--polls` ends it after so many polls. `--desired` is what a clock steering would ask for (6: every 64 s). `--log` writes every call in the drill's language, with its
 //! answer as a comment, so that a bad morning can be replayed: `./drill FILE`. `--nts` (with the feature `nettle`) reads what a key exchange gave: lines
 //! `to-server HEX`, `to-client HEX` and `cookie HEX`; the file is read again whenever keys have to be exchanged again.
 //!
 //! Without NTS there is nothing here but the standard library.
 use reckonstile::{
-    Action, Association, Bloom, Measurement, NtpInstant, NtpTimestamp, Packet, Poll, PollInterval, PollIntervalLimits,
-    ReferenceId, ReplyRefused, SendKind, Settings, Times, COOKIE_BYTES, REQUEST_BYTES,
+    Action, Association, Bloom, Measurement, NtpInstant, NtpTimestamp, Opened, Poll, PollInterval, PollIntervalLimits,
+    ReplyRefused, SendKind, Settings, Times, COOKIE_BYTES, REQUEST_BYTES,
 };
 use std::error::Error;
 use std::fs::File;
 use std::io::{Read, Write};
-use std::net::{IpAddr, SocketAddr, ToSocketAddrs, UdpSocket};
+use std::net::{Ipv4Addr, Ipv6Addr, ToSocketAddrs, UdpSocket};
 use std::time::{Duration, Instant};
 
+mod md5;
 mod nts;
 use nts::Nts;
 
@@ -38,7 +41,7 @@ fn options() -> Result<Options, Box<dyn Error>> {
     let mut found =
         Options { server: given.next().ok_or(usage)?, polls: None, desired: PollInterval::new(6), log: None, keys: None };
     if !found.server.contains(':') {
-        found.server.push_str(":123");
+        found.server.push_str(":123"); // an IPv6 address is named with its port
     }
     while let Some(name) = given.next() {
         let value = given.next().ok_or(usage)?;
@@ -80,9 +83,9 @@ impl Log {
     }
 }
 
-/// An association with its socket, and what belongs to the last request.
+/// An association with its socket, and what belongs to the last request. Its record is made on the heap, and stays there.
 struct Link<'a> {
-    association: Association,
+    association: Box<Association>,
     socket: UdpSocket,
     nts: Option<Nts>,
     t1: NtpTimestamp,
@@ -97,10 +100,12 @@ fn uptime(start: Instant) -> NtpInstant {
 impl<'a> Link<'a> {
     /// Looks the server up, and begins with a new association.
     fn new(options: &Options, log: &'a mut Log) -> Result<Self, Box<dyn Error>> {
-        let address = options.server.to_socket_addrs()?.find(SocketAddr::is_ipv4).ok_or("the server has no IPv4 address")?;
-        let IpAddr::V4(ip) = address.ip() else { unreachable!() };
+        let address = options.server.to_socket_addrs()?.next().ok_or("the server has no address")?;
         // A connected socket gives only what comes from the server's address and port.
-        let socket = UdpSocket::bind("0.0.0.0:0")?;
+        let socket = match address.is_ipv4() {
+            true => UdpSocket::bind((Ipv4Addr::UNSPECIFIED, 0))?,
+            false => UdpSocket::bind((Ipv6Addr::UNSPECIFIED, 0))?,
+        };
         socket.connect(address)?;
         let nts = options.keys.as_deref().map(Nts::read).transpose()?;
         let list = nts.as_ref().map(Nts::list).unwrap_or_default();
@@ -111,9 +116,11 @@ impl<'a> Link<'a> {
                 ..PollIntervalLimits::default()
             },
             nts: nts.is_some(),
-            source: ReferenceId::from(ip),
+            source: md5::identifier(address.ip()),
             ..Settings::default()
         };
+        // Which setting it is, where one is outside its range: the number alone, 30, does not say it.
+        settings.check()?;
         let (association, dropped) = Association::new(&settings, &list)?;
         let limits = settings.poll_interval_limits;
         log.write(
@@ -185,12 +192,16 @@ impl<'a> Link<'a> {
         if bytes.first().is_some_and(|first| first >> 3 & 7 == 5) {
             return Ok(None); // V5 is not spoken here: it cannot be decoded, so there is nothing to hand in
         }
-        let opened = match &self.nts {
-            Some(nts) => nts.open(bytes),
-            None => nts::plain(bytes),
+        // What of it is authenticated: nothing here passes the place by hand.
+        let (mut decrypted, mut list) = ([0; 2048], [0; 2048]);
+        let opened = match &mut self.nts {
+            Some(nts) => nts.open(bytes, &mut decrypted, &mut list)?,
+            None => Opened::plain(bytes),
         };
-        let packet = Packet { bytes, end: opened.end, decrypted: &opened.decrypted, list: &opened.list };
-        let said = self.association.reply(&packet, times);
+        if let Some(fault) = opened.fault() {
+            println!("refused: {fault}");
+        }
+        let said = self.association.reply(&opened, times);
         self.log.write(
             &format!(
                 "reply now={} t1={} t4={} packet={} auth={} plain={} list={}",
@@ -198,9 +209,9 @@ impl<'a> Link<'a> {
                 times.t1.to_bits(),
                 times.t4.to_bits(),
                 hex(bytes),
-                opened.end,
-                hex(&opened.decrypted),
-                hex(&opened.list)
+                opened.end(),
+                hex(opened.decrypted()),
+                hex(opened.list())
             ),
             &replied(&said),
         )?;
@@ -245,6 +256,7 @@ fn sent(poll: &Poll<'_>) -> String {
         SendKind::V5 => "v5",
         SendKind::NtsV4 => "nts-v4",
         SendKind::NtsV5 => "nts-v5",
+        _ => "of another version of the crate",
     };
     format!("timer 20 send={kind} poll={} cookie={} asked={}", poll.poll.as_log(), hex(poll.cookie), poll.asked)
 }
@@ -270,6 +282,9 @@ fn replied(said: &Result<Measurement, ReplyRefused>) -> String {
 }
 
 fn main() -> Result<(), Box<dyn Error>> {
+    if reckonstile::revision() != reckonstile::REVISION {
+        return Err("the library is of another revision than the crate: make both from one revision".into());
+    }
     let mut options = options()?;
     let mut log = Log(options.log.take());
     let start = Instant::now();

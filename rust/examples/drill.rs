@@ -1,10 +1,11 @@
 //! The drill's language (docs/DRILL.md) answered through this crate: `tests/embed` holds its answers to the drill's, and `tests/live` polls a server with it. It reads
 //! logs without bad lines from standard input and answers a line at a time. What the drill does not show is looked at here: a refusal leaves record and buffer as they
-//! were, and nothing is written past what is handed out; else the answer ends with `CHANGED`.
+//! were, nothing is written past what is handed out, `look` says what the bytes say, and `Settings::check` finds a fault exactly where there is a 30; else the
+//! answer ends with `CHANGED`.
 use reckonstile::{
     check_calendar, collect, compare, plan_calendar, salvage, write_request, Association, Bloom, CheckRefused, CompareRefused,
-    DecodedReply, Difference, Kisses, Measurement, NtpDuration, NtpInstant, NtpLeapIndicator, NtpTimestamp, Packet,
-    PlanRefused, PollInterval, PollIntervalLimits, ProtocolVersion, Record, ReferenceId, SendKind, Settings, Times, Uid,
+    DecodedReply, Difference, Kisses, LoadRefused, Measurement, NtpDuration, NtpInstant, NtpLeapIndicator, NtpTimestamp,
+    Opened, PlanRefused, PollInterval, PollIntervalLimits, ProtocolVersion, ReferenceId, SendKind, Settings, Times, Uid, View,
     NO_COOKIE,
 };
 use std::collections::HashMap;
@@ -89,7 +90,7 @@ fn hex(bytes: &[u8]) -> String {
 }
 
 /// A version's code and its tries, as a record has them.
-fn version_codes(text: &str) -> (u32, u8) {
+fn version_codes(text: &str) -> (u8, u8) {
     match text {
         "v4" => (0, 0),
         "upgraded" => (2, 0),
@@ -115,6 +116,7 @@ fn kind_name(kind: SendKind) -> &'static str {
         SendKind::V5 => "v5",
         SendKind::NtsV4 => "nts-v4",
         SendKind::NtsV5 => "nts-v5",
+        _ => "of another version of the crate",
     }
 }
 
@@ -175,11 +177,94 @@ fn difference(d: &Difference) -> String {
     format!(" {name}:{left}/{right}")
 }
 
+/// The bytes of a record with eight slots.
+const MOST: usize = Association::<8>::BYTES;
+
+/// The association type of a capacity: `of!(capacity, N => expression)`.
+macro_rules! of {
+    ($capacity:expr, $slots:ident => $body:expr) => {
+        match $capacity {
+            1 => {
+                const $slots: usize = 1;
+                $body
+            }
+            2 => {
+                const $slots: usize = 2;
+                $body
+            }
+            3 => {
+                const $slots: usize = 3;
+                $body
+            }
+            4 => {
+                const $slots: usize = 4;
+                $body
+            }
+            5 => {
+                const $slots: usize = 5;
+                $body
+            }
+            6 => {
+                const $slots: usize = 6;
+                $body
+            }
+            7 => {
+                const $slots: usize = 7;
+                $body
+            }
+            _ => {
+                const $slots: usize = 8;
+                $body
+            }
+        }
+    };
+}
+
+/// A call on the record: as many bytes of it are lent as its capacity has.
+macro_rules! on {
+    ($drill:expr, $a:ident => $body:expr) => {
+        of!($drill.capacity(), N => {
+            let $a = Association::<N>::from_bytes(&mut $drill.image[..Association::<N>::BYTES]).expect("as many bytes as the type has");
+            $body
+        })
+    };
+}
+
 struct Drill {
-    a: Association,
+    /// The record, with room for eight slots.
+    image: Vec<u8>,
+    /// Numbers of `read` and `held` that were poked and that no byte holds: 255 stands for them, which is not whole either.
+    far: [u64; 2],
 }
 
 impl Drill {
+    /// The capacity, where it is one and nothing stands past its slots. Else there is no such record: then all eight slots are lent, and have to be refused.
+    fn capacity(&self) -> usize {
+        let named = usize::from(self.image[26]);
+        let past = self.image.get(92 + 726 * named..).is_some_and(|past| past.iter().all(|byte| *byte == 0));
+        if (1..=8).contains(&named) && past {
+            named
+        } else {
+            8
+        }
+    }
+
+    fn number_at(&self, at: usize, bytes: usize) -> u64 {
+        self.image[at..at + bytes].iter().fold(0, |n, byte| n << 8 | u64::from(*byte))
+    }
+
+    fn row(&self, k: usize) -> (&[u8], u16) {
+        let row = &self.image[92 + 726 * k..][..726];
+        (&row[..724], u16::from_be_bytes([row[724], row[725]]))
+    }
+
+    /// What is made or loaded; nothing where that was refused.
+    fn becomes(&mut self, bytes: &[u8]) {
+        self.image = vec![0; MOST];
+        self.image[..bytes.len()].copy_from_slice(bytes);
+        self.far = [0; 2];
+    }
+
     fn settings(p: &Pairs) -> Settings {
         let version = match p.text("start") {
             "v4" => ProtocolVersion::V4,
@@ -198,51 +283,55 @@ impl Drill {
             version,
             nts: p.text("nts") == "yes",
             source: ReferenceId::from_bits(p.bits("source") as u32),
-            capacity: number(p.or("capacity", "8")),
         }
     }
 
-    fn new(&mut self, p: &Pairs) -> String {
-        match Association::new(&Self::settings(p), &p.bytes("list")) {
+    fn slots(p: &Pairs) -> usize {
+        match number(p.or("capacity", "8")) {
+            slots @ 1..=8 => slots,
+            other => panic!("no type has {other} slots"),
+        }
+    }
+
+    fn made(&mut self, p: &Pairs) -> String {
+        let (settings, list) = (Self::settings(p), p.bytes("list"));
+        of!(Self::slots(p), N => match Association::<N>::new(&settings, &list) {
             Ok((a, d)) => {
-                self.a = a;
-                format!("new 0 dropped={} lost={}", d.count, d.bytes)
+                self.becomes(a.as_bytes());
+                format!("new 0 dropped={} lost={}{}", d.count, d.bytes, kept(settings.check().is_ok()))
             }
             Err(refused) => {
-                self.a = Association::from_record(Record::BLANK);
-                format!("new {}", refused.number())
+                self.becomes(&[]);
+                format!("new {}{}", refused.number(), kept((refused.number() == 30) == settings.check().is_err()))
             }
-        }
+        })
     }
 
     fn metered(&mut self, p: &Pairs) -> String {
-        match Association::metered(&Self::settings(p), &p.bytes("list")) {
+        let (settings, list) = (Self::settings(p), p.bytes("list"));
+        of!(Self::slots(p), N => match Association::<N>::metered(&settings, &list) {
             Ok((a, d)) => {
-                self.a = a;
-                format!("metered 0 dropped={} lost={}", d.count, d.bytes)
+                self.becomes(a.as_bytes());
+                format!("metered 0 dropped={} lost={}{}", d.count, d.bytes, kept(settings.check().is_ok()))
             }
             Err(refused) => {
-                self.a = Association::from_record(Record::BLANK);
-                format!("metered {}", refused.number())
+                self.becomes(&[]);
+                format!("metered {}{}", refused.number(), kept((refused.number() == 30) == settings.check().is_err()))
             }
-        }
+        })
     }
 
-    fn profile(&mut self, p: &Pairs) -> String {
-        let number = Association::profile(&Self::settings(p), &p.bytes("list")).map_or_else(|refused| refused.number(), |()| 0);
-        format!("profile {number}")
+    fn profile(p: &Pairs) -> String {
+        let (settings, list) = (Self::settings(p), p.bytes("list"));
+        let said = of!(Self::slots(p), N => Association::<N>::profile(&settings, &list));
+        format!("profile {}", said.map_or_else(|refused| refused.number(), |()| 0))
     }
 
     fn timer(&mut self, p: &Pairs) -> String {
-        let before = *self.a.record();
+        let before = self.image.clone();
         let mut buffer = vec![FILL; number(p.or("room", "1024"))];
-        let said = self.a.timer(
-            NtpInstant::from_nanos(p.number("now")),
-            PollInterval::new(p.number("desired")),
-            p.bits("id"),
-            p.uid(),
-            &mut buffer,
-        );
+        let (now, desired) = (NtpInstant::from_nanos(p.number("now")), PollInterval::new(p.number("desired")));
+        let said = on!(self, a => a.timer(now, desired, p.bits("id"), p.uid(), &mut buffer));
         match said {
             Ok(poll) => {
                 let len = poll.cookie.len();
@@ -257,13 +346,13 @@ impl Drill {
             }
             Err(refused) => {
                 let number = refused.number();
-                let untouched = !matches!(number, 21 | 22 | 31 | 32) || before == *self.a.record();
+                let untouched = !matches!(number, 21 | 22 | 31 | 32) || before == self.image;
                 format!("timer {number}{}", kept(filled(&buffer) && untouched))
             }
         }
     }
 
-    fn measured(&self, word: &str, before: &Record, said: Result<Measurement, reckonstile::ReplyRefused>) -> String {
+    fn measured(&self, word: &str, before: &[u8], said: Result<Measurement, reckonstile::ReplyRefused>) -> String {
         match said {
             Ok(m) => format!(
                 "{word} 0 delay={} offset={} local={} mono={} stratum={} rootdelay={} rootdisp={} leap={} precision={} dropped={} lost={}",
@@ -281,14 +370,14 @@ impl Drill {
             ),
             Err(refused) => {
                 let number = refused.number();
-                let untouched = !matches!(number, 1..=4 | 12..=14 | 32 | 33) || before == self.a.record();
+                let untouched = !matches!(number, 1..=4 | 12..=14 | 32 | 33) || before == self.image;
                 format!("{word} {number}{}", kept(untouched))
             }
         }
     }
 
     fn reply(&mut self, p: &Pairs) -> String {
-        let before = *self.a.record();
+        let before = self.image.clone();
         let (packet, decrypted) = (p.bytes("packet"), p.bytes("plain"));
         let list = match p.or("list", "-") {
             "collect" => {
@@ -299,13 +388,13 @@ impl Drill {
             }
             list => bytes(list),
         };
-        let packet = Packet { bytes: &packet, end: number(p.or("auth", "48")), decrypted: &decrypted, list: &list };
-        let said = self.a.reply(&packet, p.times());
+        let opened = Opened::replayed(&packet, number(p.or("auth", "48")), &decrypted, &list);
+        let said = on!(self, a => a.reply(&opened, p.times()));
         self.measured("reply", &before, said)
     }
 
     fn reply5(&mut self, p: &Pairs) -> String {
-        let before = *self.a.record();
+        let before = self.image.clone();
         let kiss: Vec<&str> = p.or("kiss", "-").split(',').collect();
         let has = |name: &str| kiss.contains(&name);
         let leap = match p.number("leap") {
@@ -331,12 +420,12 @@ impl Drill {
             encrypted: p.group("enc"),
             untrusted: p.group("untrusted"),
         };
-        let said = self.a.reply_decoded(&d, &p.bytes("list"), p.times());
+        let said = on!(self, a => a.reply_decoded(&d, &p.bytes("list"), p.times()));
         self.measured("reply5", &before, said)
     }
 
-    fn accept(&self, p: &Pairs) -> String {
-        let before = *self.a.record();
+    fn accept(&mut self, p: &Pairs) -> String {
+        let before = self.image.clone();
         let local: Vec<ReferenceId> = match p.or("local", "-") {
             "-" => Vec::new(),
             list => list.split(',').map(|id| ReferenceId::from_bits(bits(id) as u32)).collect(),
@@ -346,8 +435,8 @@ impl Drill {
             "present" => Bloom::Present,
             _ => Bloom::NoFilter,
         };
-        let number = self.a.accept(p.number("stratum"), &local, bloom).map_or_else(|refused| refused.number(), |()| 0);
-        format!("accept {number}{}", kept(before == *self.a.record()))
+        let said = on!(self, a => a.accept(p.number("stratum"), &local, bloom));
+        format!("accept {}{}", said.map_or_else(|refused| refused.number(), |()| 0), kept(before == self.image))
     }
 
     fn collect(p: &Pairs) -> String {
@@ -378,32 +467,37 @@ impl Drill {
     }
 
     fn save(&mut self, p: &Pairs) -> String {
-        let before = *self.a.record();
+        let before = self.image.clone();
         let mut out = vec![FILL; number(p.or("room", "8192"))];
-        match self.a.save(&mut out) {
+        match on!(self, a => a.save(&mut out)) {
             Ok(n) => {
                 // Only the stash changes: it is empty, at the same reading place.
                 let mut emptied = before;
-                emptied.stash = Record::BLANK.stash;
-                emptied.stash.read = before.stash.read;
-                let same = filled(&out[n..]) && emptied == *self.a.record();
+                emptied[28] = 0;
+                emptied[92..].fill(0);
+                let same = filled(&out[n..]) && emptied == self.image;
                 format!("save 0 len={n} file={}{}", hex(&out[..n]), kept(same))
             }
-            Err(refused) => format!("save {}{}", refused.number(), kept(filled(&out) && before == *self.a.record())),
+            Err(refused) => format!("save {}{}", refused.number(), kept(filled(&out) && before == self.image)),
         }
     }
 
     fn load(&mut self, p: &Pairs) -> String {
-        match Association::load(&p.bytes("file")) {
-            Ok(loaded) => {
-                self.a = loaded.association;
-                format!("load 0 retired={}", if loaded.retired { "yes" } else { "no" })
+        let file = p.bytes("file");
+        let capacity = if file.get(3) == Some(&27) { file.get(30).copied().unwrap_or(8) } else { 8 };
+        of!(capacity, N => match Association::<N>::load(&file) {
+            Ok((a, retired)) => {
+                self.becomes(a.as_bytes());
+                // The same file is not one of another type.
+                let other = of!(N % 8 + 1, M => Association::<M>::load(&file).map(|_| ()));
+                let other = kept(other == Err(LoadRefused::RecordSize));
+                format!("load 0 retired={}{other}", if retired { "yes" } else { "no" })
             }
             Err(refused) => {
-                self.a = Association::from_record(Record::BLANK);
+                self.becomes(&[]);
                 format!("load {}", refused.number())
             }
-        }
+        })
     }
 
     fn compare(p: &Pairs) -> String {
@@ -492,82 +586,140 @@ impl Drill {
         }
     }
 
-    fn show(&self) -> String {
-        let Record { settings, stash, state } = self.a.record();
-        let version = match state.version {
+    /// Whether `look` says what the bytes say.
+    fn looked(&self, view: &View) -> bool {
+        let (settings, state) = (&view.settings, &view.state);
+        let numbers = [
+            (0, 1, u64::from(settings.min.to_be_bytes()[0])),
+            (1, 1, u64::from(settings.max.to_be_bytes()[0])),
+            (2, 1, settings.startup.into()),
+            (3, 8, settings.window),
+            (11, 8, settings.upgrademark),
+            (19, 1, settings.start.into()),
+            (20, 1, settings.left.into()),
+            (21, 1, settings.nts.into()),
+            (22, 4, settings.source.into()),
+            (26, 1, settings.capacity.into()),
+            (29, 1, state.reach.into()),
+            (30, 1, state.tries.into()),
+            (31, 1, state.unanswered.into()),
+            (32, 1, state.version.into()),
+            (33, 1, state.left.into()),
+            (34, 1, u64::from(state.last.to_be_bytes()[0])),
+            (35, 1, u64::from(state.remote.to_be_bytes()[0])),
+            (36, 1, state.stratum.into()),
+            (37, 4, state.refid.into()),
+            (41, 1, state.denial.into()),
+            (42, 1, state.present.into()),
+            (43, 1, state.answered.into()),
+            (44, 8, state.id),
+            (52, 8, state.deadline),
+        ];
+        numbers.iter().all(|(at, bytes, number)| self.number_at(*at, *bytes) == *number) && self.image[60..92] == state.uid
+    }
+
+    fn show(&mut self) -> String {
+        let byte = |at: usize| self.image[at];
+        let signed = |at: usize| i8::from_be_bytes([byte(at)]);
+        let yes = |at: usize| if byte(at) == 1 { "yes" } else { "no" };
+        let version = match byte(32) {
             0 => "v4".into(),
-            1 => format!("upgrading:{}", state.left),
+            1 => format!("upgrading:{}", byte(33)),
             2 => "upgraded".into(),
             _ => String::from("v5"),
         };
-        let pending =
-            if state.present == 1 { format!("{:016x}/{}/{}", state.id, hex(&state.uid), state.deadline) } else { "-".into() };
-        let lens: Vec<String> = stash.slots.iter().map(|slot| slot.len.to_string()).collect();
-        format!(
+        let pending = match byte(42) {
+            1 => format!("{:016x}/{}/{}", self.number_at(44, 8), hex(&self.image[60..92]), self.number_at(52, 8)),
+            _ => "-".into(),
+        };
+        let lens: Vec<String> = (0..8).map(|k| self.row(k).1.to_string()).collect();
+        let far = |k: usize| if self.far[k] > 0 { self.far[k] } else { byte(27 + k).into() };
+        let line = format!(
             "record reach={} tries={} version={version} last={} remote={} pending={pending} denial={} stratum={} refid={:08x} read={} held={} lens={} answered={} unanswered={} capacity={}",
-            state.reach,
-            state.tries,
-            state.last,
-            state.remote,
-            if state.denial == 1 { "yes" } else { "no" },
-            state.stratum,
-            state.refid,
-            stash.read,
-            stash.held,
+            byte(29),
+            byte(30),
+            signed(34),
+            signed(35),
+            yes(41),
+            byte(36),
+            self.number_at(37, 4),
+            far(0),
+            far(1),
             lens.join(","),
-            if state.answered == 1 { "yes" } else { "no" },
-            state.unanswered,
-            settings.capacity
-        )
+            yes(43),
+            byte(31),
+            byte(26)
+        );
+        // As many bytes as the capacity has, and no unknown code: whether the numbers go together is another question.
+        let version = |at: usize| byte(at) <= 3 && (byte(at) == 1 || byte(at + 1) == 0);
+        let codes = version(19) && version(32) && [21, 41, 42, 43].into_iter().all(|at| byte(at) <= 1);
+        let readable = codes && self.capacity() == usize::from(byte(26));
+        let view = on!(self, a => a.look());
+        line + kept(view.map_or(!readable, |view| readable && self.looked(&view)))
     }
 
-    fn cookies(&self) -> String {
-        let Record { settings, stash, .. } = self.a.record();
-        // A record that is not whole shows no cookies; acceptance tells it.
-        if stash.held == 0 || self.a.accept(0, &[], Bloom::NoFilter).is_err_and(|refused| refused.number() == 32) {
+    fn cookies(&mut self) -> String {
+        // A record that is not whole shows no cookies.
+        let held = usize::from(self.image[28]);
+        if held == 0 || on!(self, a => a.accept(0, &[], Bloom::NoFilter)).is_err_and(|refused| refused.number() == 32) {
             return "cookies 0".into();
         }
-        let held: Vec<String> = (0..stash.held)
+        let cookies: Vec<String> = (0..held)
             .map(|k| {
-                let slot = &stash.slots[(stash.read + k) % usize::from(settings.capacity)];
-                hex(slot.bytes.get(..slot.len.into()).unwrap_or(&[]))
+                let (bytes, length) = self.row((usize::from(self.image[27]) + k) % usize::from(self.image[26]));
+                hex(bytes.get(..length.into()).unwrap_or(&[]))
             })
             .collect();
-        format!("cookies {} {}", stash.held, held.join(","))
+        format!("cookies {held} {}", cookies.join(","))
     }
 
     fn poke(&mut self, p: &Pairs) -> String {
-        let mut r = *self.a.record();
         let value = p.text("value");
-        match p.text("key") {
-            "reach" => r.state.reach = number(value),
-            "tries" => r.state.tries = number(value),
-            "last" => r.state.last = number(value),
-            "remote" => r.state.remote = number(value),
-            "stratum" => r.state.stratum = number(value),
-            "refid" => r.state.refid = bits(value) as u32,
-            "read" => r.stash.read = number(value),
-            "held" => r.stash.held = number(value),
-            "min" => r.settings.min = number(value),
-            "max" => r.settings.max = number(value),
-            "startup" => r.settings.startup = number(value),
-            "window" => r.settings.window = number(value),
-            "capacity" => r.settings.capacity = number(value),
-            "version" => (r.state.version, r.state.left) = version_codes(value),
-            "start" => (r.settings.start, r.settings.left) = version_codes(value),
-            "id" => r.state.id = bits(value),
-            "uid" => r.state.uid = uid(value),
-            "deadline" => r.state.deadline = number(value),
-            "answered" => r.state.answered = number(value),
-            "unanswered" => r.state.unanswered = number(value),
+        let signed = || number::<i8>(value).to_be_bytes().to_vec();
+        let near = |n: u64| vec![u8::try_from(n).unwrap_or(255)];
+        let far = |n: u64| if n > 255 { n } else { 0 };
+        let (at, bytes) = match p.text("key") {
+            "min" => (0, signed()),
+            "max" => (1, signed()),
+            "startup" => (2, near(number(value))),
+            "window" => (3, number::<u64>(value).to_be_bytes().to_vec()),
+            "start" => (19, vec![version_codes(value).0, version_codes(value).1]),
+            "capacity" => (26, near(number(value))),
+            "read" => {
+                self.far[0] = far(number(value));
+                (27, near(number(value)))
+            }
+            "held" => {
+                self.far[1] = far(number(value));
+                (28, near(number(value)))
+            }
+            "reach" => (29, near(number(value))),
+            "tries" => (30, near(number(value))),
+            "unanswered" => (31, near(number(value))),
+            "version" => (32, vec![version_codes(value).0, version_codes(value).1]),
+            "last" => (34, signed()),
+            "remote" => (35, signed()),
+            "stratum" => (36, near(number(value))),
+            "refid" => (37, (bits(value) as u32).to_be_bytes().to_vec()),
+            "answered" => (43, near(number(value))),
+            "id" => (44, bits(value).to_be_bytes().to_vec()),
+            "deadline" => (52, number::<u64>(value).to_be_bytes().to_vec()),
+            "uid" => (60, uid(value).to_vec()),
             "slotbyte" => {
                 let parts: Vec<usize> = value.split('/').map(number).collect();
-                r.stash.slots[parts[0]].bytes[parts[1]] = parts[2] as u8;
+                (92 + 726 * parts[0] + parts[1], vec![parts[2] as u8])
             }
             key => panic!("no key {key}"),
-        }
-        self.a = Association::from_record(r);
+        };
+        self.image[at..at + bytes.len()].copy_from_slice(&bytes);
         "poke".into()
+    }
+
+    fn blank(&mut self) -> String {
+        on!(self, a => a.blank());
+        let cleared = self.image.iter().all(|byte| *byte == 0);
+        self.far = [0; 2];
+        format!("blank{}", kept(cleared))
     }
 
     fn answer(&mut self, line: &str) -> String {
@@ -575,9 +727,9 @@ impl Drill {
         let command = words.next().unwrap_or_default();
         let p = Pairs(words.map(|word| word.split_once('=').expect("a pair")).collect());
         match command {
-            "new" => self.new(&p),
+            "new" => self.made(&p),
             "metered" => self.metered(&p),
-            "profile" => self.profile(&p),
+            "profile" => Drill::profile(&p),
             "timer" => self.timer(&p),
             "reply" => self.reply(&p),
             "reply5" => self.reply5(&p),
@@ -593,17 +745,14 @@ impl Drill {
             "show" => self.show(),
             "cookies" => self.cookies(),
             "poke" => self.poke(&p),
-            "blank" => {
-                self.a = Association::from_record(Record::BLANK);
-                "blank".into()
-            }
+            "blank" => self.blank(),
             other => panic!("no command {other}"),
         }
     }
 }
 
 fn main() -> std::io::Result<()> {
-    let mut drill = Drill { a: Association::from_record(Record::BLANK) };
+    let mut drill = Drill { image: vec![0; MOST], far: [0; 2] };
     let (input, mut output) = (std::io::stdin().lock(), std::io::stdout().lock());
     for line in input.lines() {
         let line = line?;

@@ -42,6 +42,8 @@ macro_rules! numbered {
                 }
             }
         }
+
+        impl core::error::Error for $name {}
     };
 }
 
@@ -49,12 +51,15 @@ numbered! {
     /// Why there is no new association.
     ///
     /// ```
-    /// use reckonstile::{Association, NewRefused, Settings};
-    /// let refused = Association::new(&Settings { startup_tries: 9, ..Settings::default() }, &[]).unwrap_err();
+    /// use reckonstile::{Association, NewRefused, Settings, SettingsFault};
+    /// let settings = Settings { startup_tries: 9, ..Settings::default() };
+    /// let refused = Association::<8>::new(&settings, &[]).unwrap_err();
     /// assert_eq!((refused, refused.number()), (NewRefused::Settings, 30));
+    /// assert_eq!(settings.check(), Err(SettingsFault::StartupTries)); // which one it is
     /// ```
     NewRefused {
-        Settings = 30, "a setting is outside its range";
+        Settings = 30, "a setting is outside its range: `Settings::check` says which";
+        RecordSize = 31, "the record has not the bytes of its capacity, which this crate's types see to";
         BrokenList = 33, "with NTS, the cookie list is broken";
         RetiredStart = 38, "the start version is upgrading, which is retired and which these settings cannot name";
     }
@@ -65,12 +70,13 @@ numbered! {
     ///
     /// ```
     /// use reckonstile::{Association, MeteredRefused, Settings};
-    /// let refused = Association::metered(&Settings::default(), &[]).unwrap_err();
+    /// let refused = Association::<8>::metered(&Settings::default(), &[]).unwrap_err();
     /// assert_eq!((refused, refused.number()), (MeteredRefused::LowPollMin, 34));
-    /// assert_eq!(Association::profile(&Settings::default(), &[]), Err(refused));
+    /// assert_eq!(Association::<8>::profile(&Settings::default(), &[]), Err(refused));
     /// ```
     MeteredRefused {
-        Settings = 30, "a setting is outside its range";
+        Settings = 30, "a setting is outside its range: `Settings::check` says which";
+        RecordSize = 31, "the record has not the bytes of its capacity, which this crate's types see to";
         BrokenList = 33, "with NTS, the cookie list is broken";
         LowPollMin = 34, "the lower poll limit is below 8";
         HighStartup = 35, "the startup limit is over 3";
@@ -93,7 +99,7 @@ numbered! {
         NoCookie = 23, "no cookie is left: exchange keys again and begin with a new association";
         CookieTooLarge = 24, "the cookie is too large to send: exchange keys again and begin with a new association";
         ShortBuffer = 31, "with NTS, the buffer has under 724 bytes";
-        NotWhole = 32, "the record is none that a call has made";
+        NotWhole = 32, "the record was not made by a call";
     }
 }
 
@@ -125,7 +131,7 @@ numbered! {
         NeverSent = 12, "nothing was sent yet";
         AlreadyMeasured = 13, "the last poll was answered already";
         Expired = 14, "too late: the time of the request is over";
-        NotWhole = 32, "the record is none that a call has made";
+        NotWhole = 32, "the record was not made by a call";
         BrokenList = 33, "with NTS, the cookie list is broken";
     }
 }
@@ -141,7 +147,19 @@ numbered! {
         Stratum = 40, "the source is not below our own stratum";
         Loop = 41, "the source gets its time from us";
         Unreachable = 42, "none of the last eight polls was answered";
-        NotWhole = 32, "the record is none that a call has made";
+        NotWhole = 32, "the record was not made by a call";
+    }
+}
+
+numbered! {
+    /// Why there is nothing to look at.
+    ///
+    /// ```
+    /// use reckonstile::{Association, LookRefused};
+    /// assert_eq!(Association::<1>::from_bytes(&mut [0; 818]).unwrap().look().unwrap_err(), LookRefused::NotWhole);
+    /// ```
+    LookRefused {
+        NotWhole = 32, "the bytes are no record: another capacity, or an unknown code";
     }
 }
 
@@ -177,11 +195,11 @@ numbered! {
     ///
     /// ```
     /// use reckonstile::{Association, SaveRefused, Settings};
-    /// let (mut a, _) = Association::new(&Settings::default(), &[]).unwrap();
+    /// let (mut a, _) = Association::<8>::new(&Settings::default(), &[]).unwrap();
     /// assert_eq!(a.save(&mut [0; 62]), Err(SaveRefused::ShortBuffer));
     /// ```
     SaveRefused {
-        NotWhole = 32, "the record is none that a call has made";
+        NotWhole = 32, "the record was not made by a call";
         ShortBuffer = 60, "the buffer is shorter than the file";
     }
 }
@@ -190,14 +208,20 @@ numbered! {
     /// Why a hand-over file is not loaded: the first fault in the file, or else that it is no association.
     ///
     /// ```
-    /// use reckonstile::{Association, LoadRefused};
-    /// assert_eq!(Association::load(b"").unwrap_err(), LoadRefused::Length);
-    /// assert_eq!(Association::load(b"no file").unwrap_err(), LoadRefused::Mark);
+    /// use reckonstile::{Association, LoadRefused, Settings, FILE_BYTES};
+    /// assert_eq!(Association::<8>::load(b"").unwrap_err(), LoadRefused::Length);
+    /// assert_eq!(Association::<8>::load(b"no file").unwrap_err(), LoadRefused::Mark);
+    /// // A file of an association with two slots is not one with eight.
+    /// let mut file = [0; FILE_BYTES];
+    /// let length = Association::<2>::new(&Settings::default(), &[]).unwrap().0.save(&mut file).unwrap();
+    /// assert_eq!(Association::<8>::load(&file[..length]).unwrap_err(), LoadRefused::RecordSize);
+    /// assert!(Association::<2>::load(&file[..length]).is_ok());
     /// ```
     LoadRefused {
+        RecordSize = 31, "the file is of an association with another number of slots";
         Mark = 61, "a record of the file does not have the mark that is due";
         Length = 62, "a wrong length, or bytes that are missing or left over";
-        Content = 63, "a code of no kind, or an association that is not whole";
+        Content = 63, "an unknown code, or an association that is not whole";
     }
 }
 
@@ -255,6 +279,15 @@ impl fmt::Display for CompareRefused {
     }
 }
 
+impl core::error::Error for CompareRefused {
+    fn source(&self) -> Option<&(dyn core::error::Error + 'static)> {
+        match self {
+            CompareRefused::Left(refused) | CompareRefused::Right(refused) => Some(refused),
+            CompareRefused::ShortBuffer | CompareRefused::Other(_) => None,
+        }
+    }
+}
+
 numbered! {
     /// Why a cookie list is not salvaged; nothing is written.
     ///
@@ -290,7 +323,7 @@ macro_rules! naming {
         impl $name {
             pub(crate) const fn from_answer(answer: &ffi::Scheduled) -> Self {
                 match answer.number {
-                    $($number => $name::$variant $({ $place: answer.place })?,)*
+                    $($number => $name::$variant $({ $place: ffi::size(answer.place) })?,)*
                     other => $name::Other(other),
                 }
             }
@@ -316,6 +349,8 @@ macro_rules! naming {
                 }
             }
         }
+
+        impl core::error::Error for $name {}
     };
 }
 
@@ -401,6 +436,7 @@ impl ReplyRefused {
 /// assert!(SendKind::NtsV4.is_nts() && !SendKind::V4.is_nts());
 /// ```
 #[derive(Clone, Copy, Debug, PartialEq, Eq, Hash)]
+#[non_exhaustive]
 pub enum SendKind {
     /// NTPv4.
     V4,
@@ -447,11 +483,12 @@ impl SendKind {
 ///
 /// ```
 /// use reckonstile::{Association, NtpInstant, PollInterval, SendKind, Settings};
-/// let (mut a, _) = Association::new(&Settings::default(), &[]).unwrap();
+/// let (mut a, _) = Association::<8>::new(&Settings::default(), &[]).unwrap();
 /// let poll = a.timer(NtpInstant::from_nanos(0), PollInterval::new(6), 0x0102030405060708, [0; 32], &mut []).unwrap();
 /// assert_eq!((poll.kind, poll.poll, poll.cookie.len(), poll.asked), (SendKind::V4, PollInterval::new(6), 0, 0));
 /// ```
-#[derive(Clone, Copy, Debug, PartialEq, Eq)]
+#[derive(Clone, Copy, PartialEq, Eq)]
+#[non_exhaustive]
 #[must_use]
 pub struct Poll<'b> {
     /// What is sent.
@@ -464,6 +501,19 @@ pub struct Poll<'b> {
     pub asked: u8,
 }
 
+impl fmt::Debug for Poll<'_> {
+    /// Without the cookie's bytes.
+    fn fmt(&self, f: &mut fmt::Formatter<'_>) -> fmt::Result {
+        let cookie = self.cookie.len();
+        f.debug_struct("Poll")
+            .field("kind", &self.kind)
+            .field("poll", &self.poll)
+            .field("cookie", &format_args!("{cookie} bytes"))
+            .field("asked", &self.asked)
+            .finish()
+    }
+}
+
 impl Poll<'_> {
     /// The number of this answer, 20.
     #[must_use]
@@ -472,7 +522,7 @@ impl Poll<'_> {
     }
 }
 
-/// A leap second's announcement.
+/// A leap second's announcement. The protocol has these and no others.
 #[derive(Clone, Copy, Debug, PartialEq, Eq, Hash)]
 pub enum NtpLeapIndicator {
     /// None.
@@ -516,7 +566,7 @@ impl NtpLeapIndicator {
 /// use reckonstile::{cookie_list, Association, Dropped, Settings};
 /// let mut list = [0; 128];
 /// let length = cookie_list([&b"the first of nine"[..], b"2", b"3", b"4", b"5", b"6", b"7", b"8", b"9"], &mut list).unwrap();
-/// let (a, dropped) = Association::new(&Settings { nts: true, ..Settings::default() }, &list[..length]).unwrap();
+/// let (a, dropped) = Association::<8>::new(&Settings { nts: true, ..Settings::default() }, &list[..length]).unwrap();
 /// assert_eq!((a.cookies(), dropped), (8, Dropped { count: 1, bytes: 17 }));
 /// ```
 #[derive(Clone, Copy, Debug, Default, PartialEq, Eq, Hash)]
@@ -536,6 +586,7 @@ pub struct Dropped {
 /// fn slow_by(m: &Measurement) -> f64 { m.offset.to_seconds() }
 /// ```
 #[derive(Clone, Copy, Debug, PartialEq, Eq)]
+#[non_exhaustive]
 #[must_use]
 pub struct Measurement {
     /// The round trip, without the time that the server took.
@@ -575,25 +626,4 @@ impl Measurement {
             dropped: Dropped { count: r.dropped, bytes: r.lost },
         }
     }
-}
-
-#[cfg(feature = "std")]
-mod errors {
-    use super::{
-        AcceptRefused, CheckRefused, CollectRefused, CompareRefused, LoadRefused, MeteredRefused, NewRefused, PlanRefused,
-        ReplyRefused, RequestRefused, SalvageRefused, SaveRefused, TimerRefused,
-    };
-    impl std::error::Error for MeteredRefused {}
-    impl std::error::Error for NewRefused {}
-    impl std::error::Error for TimerRefused {}
-    impl std::error::Error for ReplyRefused {}
-    impl std::error::Error for AcceptRefused {}
-    impl std::error::Error for CollectRefused {}
-    impl std::error::Error for RequestRefused {}
-    impl std::error::Error for SaveRefused {}
-    impl std::error::Error for LoadRefused {}
-    impl std::error::Error for CompareRefused {}
-    impl std::error::Error for SalvageRefused {}
-    impl std::error::Error for CheckRefused {}
-    impl std::error::Error for PlanRefused {}
 }

@@ -1,13 +1,22 @@
 //! The library as C sees it (`include/reckonstile.h`), and the only `unsafe` of this crate: each call once, behind a safe function that hands over what the
 //! library's contract asks for and nothing else.
 //!
-//! What it asks for: a record is valid memory, aligned, and lent to this call alone, which an exclusive (or, for `accept`, a shared) reference is; a slice is a
+//! What it asks for: a record is bytes that are lent to this call alone, which an exclusive (or, for `accept` and `look`, a shared) slice is; a slice is a
 //! pointer that is not null and a length, which every slice of Rust is, an empty one too; what is read and what is written does not overlap, which the borrow checker
 //! sees to. Every struct is of numbers, for which any bytes are a value. No call keeps a pointer, allocates, or unwinds.
 #![allow(unsafe_code)]
 
-use crate::association::ReferenceId;
-use core::mem::{align_of, offset_of, size_of};
+use crate::identifiers::ReferenceId;
+use core::mem::{align_of, offset_of, size_of, MaybeUninit};
+
+/// The revision of the C interface that this crate is written for; [`crate::revision`] gives the library's. `tools/revision` computes it.
+pub const REVISION: u32 = 0xBCF81C62;
+
+/// The bytes of a record before its cookies.
+pub(crate) const HEAD: usize = 92;
+
+/// The bytes of a cookie's place: 724 of the cookie, and its length in two.
+pub(crate) const ROW: usize = 726;
 
 /// The settings of an association, as numbers.
 #[repr(C)]
@@ -15,7 +24,7 @@ use core::mem::{align_of, offset_of, size_of};
 pub struct Settings {
     /// How long a request stays live, in nanoseconds.
     pub window: u64,
-    /// The reference timestamp of an upgrade request; no call reads it here.
+    /// The reference timestamp of an upgrade request; no rule reads it.
     pub upgrademark: u64,
     /// The source's identifier.
     pub source: u32,
@@ -23,7 +32,7 @@ pub struct Settings {
     pub start: u32,
     /// 1 with NTS, else 0.
     pub nts: u16,
-    /// How many of the eight places the stash uses.
+    /// How many cookies the stash holds, 1 to 8.
     pub capacity: u8,
     /// Always 0.
     pub spare: u8,
@@ -35,28 +44,6 @@ pub struct Settings {
     pub min: i8,
     /// The largest poll exponent.
     pub max: i8,
-}
-
-/// One cookie's place.
-#[repr(C)]
-#[derive(Clone, Copy, Debug, PartialEq, Eq)]
-pub struct Slot {
-    /// The cookie, and zeros behind it.
-    pub bytes: [u8; 724],
-    /// The cookie's length.
-    pub len: u16,
-}
-
-/// The cookies.
-#[repr(C)]
-#[derive(Clone, Copy, Debug, PartialEq, Eq)]
-pub struct Stash {
-    /// Eight places; those past the settings' capacity are never used.
-    pub slots: [Slot; 8],
-    /// The place of the oldest cookie, below the capacity.
-    pub read: usize,
-    /// How many cookies there are, at most the capacity.
-    pub held: usize,
 }
 
 /// What the calls change of a record, but for its cookies.
@@ -95,54 +82,67 @@ pub struct State {
     pub present: u32,
 }
 
-/// The record of an association as the library reads and writes it: numbers only. For looking at, and for tests; its layout is not a format to store:
-/// [`crate::Association::save`] writes one.
+/// An association with one server: its record, in bytes that lie where the caller put them.
+///
+/// `SLOTS` is how many cookies it holds, 1 to 8, and decides how long it is ([`Association::BYTES`]). It is made in place, by [`Association::new_in`] and its
+/// like, or on the heap ([`Association::new`], with the feature `std`), and neither copied nor cloned: a cookie has one owner.
+///
+/// ```compile_fail
+/// // Nine slots are one too many.
+/// let mut place = std::mem::MaybeUninit::uninit();
+/// let _ = reckonstile::Association::<9>::new_in(&mut place, &reckonstile::Settings::default(), &[]);
+/// ```
+///
+/// ```
+/// use reckonstile::{Association, NtpInstant, NtpTimestamp, Opened, PollInterval, ReplyRefused, Settings, Times, REQUEST_BYTES};
+///
+/// let (mut a, _) = Association::<8>::new(&Settings::default(), &[])?;
+/// let id = 0x0102030405060708; // 64 random bits, drawn anew for each call
+/// let poll = a.timer(NtpInstant::from_nanos(0), PollInterval::new(6), id, [0; 32], &mut [])?;
+/// let mut out = [0; REQUEST_BYTES];
+/// let len = a.write_request(&poll, id, [0; 32], &mut out)?;
+/// assert_eq!((len, out[0], &out[40..48]), (48, 0x23, &id.to_be_bytes()[..]));
+///
+/// // A server of stratum 2 answers: the origin timestamp is the request's id.
+/// let mut reply = [0; 48];
+/// reply[0] = 0x24;
+/// reply[1] = 2;
+/// reply[24..32].copy_from_slice(&id.to_be_bytes());
+/// reply[32..40].copy_from_slice(&(3u64 << 32).to_be_bytes()); // T2
+/// reply[40..48].copy_from_slice(&(3u64 << 32).to_be_bytes()); // T3
+/// let times = Times { t1: NtpTimestamp::from_bits(1 << 32), t4: NtpTimestamp::from_bits(2 << 32), time: NtpInstant::from_nanos(1_000_000_000) };
+/// let measured = a.reply(&Opened::plain(&reply), times)?;
+/// assert_eq!((measured.delay.to_seconds(), measured.offset.to_seconds()), (1.0, 1.5));
+/// a.accept(16, &[], Default::default())?;
+///
+/// // The same reply once more is not measured twice.
+/// assert_eq!(a.reply(&Opened::plain(&reply), times), Err(ReplyRefused::AlreadyMeasured));
+/// # Ok::<(), Box<dyn std::error::Error>>(())
+/// ```
 #[repr(C)]
-#[derive(Clone, Copy, Debug, PartialEq, Eq)]
-pub struct Record {
-    /// The settings, which no call changes.
-    pub settings: Settings,
-    /// The cookies.
-    pub stash: Stash,
-    /// What the calls change.
-    pub state: State,
+pub struct Association<const SLOTS: usize = 8> {
+    head: [u8; HEAD],
+    rows: [[u8; ROW]; SLOTS],
 }
 
-impl Record {
-    /// The blank record, all zero. It is not whole.
-    pub const BLANK: Record = Record {
-        settings: Settings {
-            window: 0,
-            upgrademark: 0,
-            source: 0,
-            start: 0,
-            nts: 0,
-            capacity: 0,
-            spare: 0,
-            left: 0,
-            startup: 0,
-            min: 0,
-            max: 0,
-        },
-        stash: Stash { slots: [Slot { bytes: [0; 724], len: 0 }; 8], read: 0, held: 0 },
-        state: State {
-            reach: 0,
-            tries: 0,
-            last: 0,
-            remote: 0,
-            refid: 0,
-            version: 0,
-            left: 0,
-            stratum: 0,
-            denial: 0,
-            unanswered: 0,
-            id: 0,
-            deadline: 0,
-            uid: [0; 32],
-            answered: 0,
-            present: 0,
-        },
-    };
+#[repr(C)]
+#[derive(Clone, Copy)]
+pub(crate) struct View {
+    pub settings: Settings,
+    pub state: State,
+    pub number: u64,
+}
+
+#[repr(C)]
+#[derive(Clone, Copy)]
+pub(crate) struct Field {
+    pub number: u32,
+    pub found: u32,
+    pub kind: u32,
+    pub spare: u32,
+    pub body: u64,
+    pub length: u64,
+    pub next: u64,
 }
 
 #[repr(C)]
@@ -167,7 +167,7 @@ pub(crate) struct Timed {
     pub kind: u8,
     pub poll: i8,
     pub asked: u16,
-    pub length: usize,
+    pub length: u64,
 }
 
 #[repr(C)]
@@ -216,7 +216,7 @@ pub(crate) struct Decoded {
 pub(crate) struct Written {
     pub number: u32,
     pub written: u32,
-    pub length: usize,
+    pub length: u64,
 }
 
 #[repr(C)]
@@ -231,11 +231,11 @@ pub(crate) struct Loaded {
 pub(crate) struct Salvaged {
     pub number: u32,
     pub told: u32,
-    pub kept: usize,
-    pub skipped: usize,
-    pub gaps: usize,
-    pub length: usize,
-    pub places: [usize; 32],
+    pub kept: u64,
+    pub skipped: u64,
+    pub gaps: u64,
+    pub length: u64,
+    pub places: [u64; 32],
 }
 
 #[repr(C)]
@@ -243,7 +243,7 @@ pub(crate) struct Salvaged {
 pub(crate) struct Compared {
     pub number: u32,
     pub side: u32,
-    pub entries: usize,
+    pub entries: u64,
 }
 
 #[repr(C)]
@@ -251,7 +251,7 @@ pub(crate) struct Compared {
 pub(crate) struct Scheduled {
     pub number: u32,
     pub named: u32,
-    pub place: usize,
+    pub place: u64,
 }
 
 // The layout that the library has; another one stops the build. `tests/embed` holds the header to the same numbers and to the library's own answers.
@@ -262,7 +262,6 @@ const _: () = {
             && offset_of!(Settings, capacity) == 26
             && offset_of!(Settings, left) == 28
     );
-    assert!(size_of::<Slot>() == 726 && size_of::<Stash>() == 5824);
     assert!(
         size_of::<State>() == 72
             && offset_of!(State, version) == 8
@@ -272,11 +271,13 @@ const _: () = {
             && offset_of!(State, answered) == 64
             && offset_of!(State, present) == 68
     );
+    assert!(size_of::<View>() == 112 && offset_of!(View, state) == 32 && offset_of!(View, number) == 104);
     assert!(
-        size_of::<Record>() == 5928
-            && align_of::<Record>() == 8
-            && offset_of!(Record, stash) == 32
-            && offset_of!(Record, state) == 5856
+        size_of::<Field>() == 40
+            && offset_of!(Field, found) == 4
+            && offset_of!(Field, kind) == 8
+            && offset_of!(Field, body) == 16
+            && offset_of!(Field, next) == 32
     );
     assert!(size_of::<Uid>() == 32 && size_of::<Timed>() == 16 && offset_of!(Timed, length) == 8);
     assert!(size_of::<Made>() == 24 && offset_of!(Made, dropped) == 8);
@@ -290,15 +291,16 @@ const _: () = {
 };
 
 mod c {
-    use super::{Compared, Decoded, Loaded, Made, Record, Replied, Salvaged, Scheduled, Settings, Timed, Uid, Written};
+    use super::{Compared, Decoded, Field, Loaded, Made, Replied, Salvaged, Scheduled, Settings, Timed, Uid, View, Written};
     extern "C" {
-        pub fn reckonstile_size() -> usize;
-        pub fn reckonstile_align() -> usize;
-        pub fn reckonstile_new(a: *mut Record, settings: Settings, list: *const u8, list_len: usize) -> Made;
-        pub fn reckonstile_metered(a: *mut Record, settings: Settings, list: *const u8, list_len: usize) -> Made;
+        pub fn reckonstile_revision() -> u32;
+        pub fn reckonstile_blank(record: *mut u8, size: usize) -> u32;
+        pub fn reckonstile_new(record: *mut u8, size: usize, settings: Settings, list: *const u8, list_len: usize) -> Made;
+        pub fn reckonstile_metered(record: *mut u8, size: usize, settings: Settings, list: *const u8, list_len: usize) -> Made;
         pub fn reckonstile_profile(settings: Settings, list: *const u8, list_len: usize) -> u32;
         pub fn reckonstile_timer(
-            a: *mut Record,
+            record: *mut u8,
+            size: usize,
             time: u64,
             desired: i8,
             id: u64,
@@ -306,8 +308,10 @@ mod c {
             buffer: *mut u8,
             room: usize,
         ) -> Timed;
+        pub fn reckonstile_field_at(packet: *const u8, packet_len: usize, at: usize) -> Field;
         pub fn reckonstile_reply(
-            a: *mut Record,
+            record: *mut u8,
+            size: usize,
             packet: *const u8,
             packet_len: usize,
             end: usize,
@@ -320,7 +324,8 @@ mod c {
             time: u64,
         ) -> Replied;
         pub fn reckonstile_reply_decoded(
-            a: *mut Record,
+            record: *mut u8,
+            size: usize,
             d: Decoded,
             list: *const u8,
             list_len: usize,
@@ -328,7 +333,15 @@ mod c {
             t4: u64,
             time: u64,
         ) -> Replied;
-        pub fn reckonstile_accept(a: *const Record, stratum: u8, local: *const u32, count: usize, bloom: u32) -> u32;
+        pub fn reckonstile_accept(
+            record: *const u8,
+            size: usize,
+            stratum: u8,
+            local: *const u32,
+            count: usize,
+            bloom: u32,
+        ) -> u32;
+        pub fn reckonstile_look(record: *const u8, size: usize) -> View;
         pub fn reckonstile_collect(decrypted: *const u8, decrypted_len: usize, out: *mut u8, room: usize) -> Written;
         pub fn reckonstile_write_request(
             kind: u8,
@@ -342,8 +355,8 @@ mod c {
             out: *mut u8,
             room: usize,
         ) -> Written;
-        pub fn reckonstile_save(a: *mut Record, out: *mut u8, room: usize) -> Written;
-        pub fn reckonstile_load(a: *mut Record, file: *const u8, file_len: usize) -> Loaded;
+        pub fn reckonstile_save(record: *mut u8, size: usize, out: *mut u8, room: usize) -> Written;
+        pub fn reckonstile_load(record: *mut u8, size: usize, file: *const u8, file_len: usize) -> Loaded;
         pub fn reckonstile_compare(
             left: *const u8,
             left_len: usize,
@@ -370,20 +383,119 @@ mod c {
     }
 }
 
-/// The size and the alignment of a record, as the library says them.
-pub(crate) fn layout() -> (usize, usize) {
-    // SAFETY: neither call takes anything or touches memory of ours.
-    unsafe { (c::reckonstile_size(), c::reckonstile_align()) }
+/// A length or a place of an answer. It counts bytes or entries of a slice that was lent, so that it fits.
+pub(crate) const fn size(n: u64) -> usize {
+    n as usize
 }
 
-pub(crate) fn new(a: &mut Record, settings: Settings, list: &[u8]) -> Made {
-    // SAFETY: `a` is lent exclusively; `list` is a pointer that is not null and its length.
-    unsafe { c::reckonstile_new(a, settings, list.as_ptr(), list.len()) }
+pub(crate) fn revision() -> u32 {
+    // SAFETY: the call takes nothing and touches no memory of ours.
+    unsafe { c::reckonstile_revision() }
 }
 
-pub(crate) fn metered(a: &mut Record, settings: Settings, list: &[u8]) -> Made {
-    // SAFETY: `a` is lent exclusively; `list` is a pointer that is not null and its length.
-    unsafe { c::reckonstile_metered(a, settings, list.as_ptr(), list.len()) }
+impl<const SLOTS: usize> Association<SLOTS> {
+    /// The bytes of a record: 818, 1,544, 2,996 and 5,900 for 1, 2, 4 and 8 slots.
+    pub const BYTES: usize = {
+        assert!(SLOTS >= 1 && SLOTS <= 8, "reckonstile: an association has 1 to 8 slots");
+        assert!(size_of::<Self>() == HEAD + ROW * SLOTS && align_of::<Self>() == 1);
+        HEAD + ROW * SLOTS
+    };
+
+    /// The record as bytes, for looking at (docs/EMBEDDING.md has the layout). They hold the cookies, which are secrets, and are a format of one revision:
+    /// [`Association::save`] writes one to store.
+    #[must_use]
+    pub fn as_bytes(&self) -> &[u8] {
+        // SAFETY: the struct is `BYTES` bytes without padding, as asserted there, and is lent as long as the slice.
+        unsafe { core::slice::from_raw_parts(core::ptr::from_ref(self).cast(), Self::BYTES) }
+    }
+
+    /// How many cookies are held.
+    #[must_use]
+    pub fn cookies(&self) -> usize {
+        self.head[28].into()
+    }
+
+    /// What [`crate::write_request`] puts into an upgrade request.
+    pub(crate) fn upgrade_mark(&self) -> u64 {
+        self.head[11..19].iter().fold(0, |mark, byte| mark << 8 | u64::from(*byte))
+    }
+
+    pub(crate) fn bytes_mut(&mut self) -> &mut [u8] {
+        // SAFETY: as above, lent exclusively; and any bytes are a value of the struct.
+        unsafe { core::slice::from_raw_parts_mut(core::ptr::from_mut(self).cast(), Self::BYTES) }
+    }
+
+    /// The association in bytes that the caller has, where there are [`Association::BYTES`] of them. They may be any bytes: where no call of this revision has
+    /// made them, every call answers 32 and changes nothing.
+    ///
+    /// ```
+    /// # use reckonstile::*;
+    /// let mut bytes = [0; 818];
+    /// let a = Association::<1>::from_bytes(&mut bytes).unwrap();
+    /// assert_eq!(a.timer(NtpInstant::from_nanos(0), PollInterval::new(6), 1, [0; 32], &mut []), Err(TimerRefused::NotWhole));
+    /// assert!(Association::<2>::from_bytes(&mut bytes).is_none());
+    /// ```
+    #[must_use]
+    pub fn from_bytes(bytes: &mut [u8]) -> Option<&mut Self> {
+        if bytes.len() != Self::BYTES {
+            return None;
+        }
+        // SAFETY: there are as many bytes as the struct has, it has no alignment, any bytes are a value of it, and they stay lent exclusively.
+        Some(unsafe { &mut *bytes.as_mut_ptr().cast::<Self>() })
+    }
+}
+
+pub(crate) fn blank(record: &mut [u8]) -> u32 {
+    // SAFETY: `record` is lent exclusively; no more than its length is written.
+    unsafe { c::reckonstile_blank(record.as_mut_ptr(), record.len()) }
+}
+
+pub(crate) fn new<'a, const SLOTS: usize>(
+    place: &'a mut MaybeUninit<Association<SLOTS>>,
+    settings: Settings,
+    list: &[u8],
+) -> (Made, Option<&'a mut Association<SLOTS>>) {
+    // SAFETY: `place` has `BYTES` bytes and is lent exclusively; what they were is not read. `list` is a pointer that is not null and its length.
+    let said = unsafe {
+        c::reckonstile_new(place.as_mut_ptr().cast(), Association::<SLOTS>::BYTES, settings, list.as_ptr(), list.len())
+    };
+    // SAFETY: on 0 every byte is written.
+    (said, (said.number == 0).then(|| unsafe { place.assume_init_mut() }))
+}
+
+pub(crate) fn metered<'a, const SLOTS: usize>(
+    place: &'a mut MaybeUninit<Association<SLOTS>>,
+    settings: Settings,
+    list: &[u8],
+) -> (Made, Option<&'a mut Association<SLOTS>>) {
+    // SAFETY: as for `new`.
+    let said = unsafe {
+        c::reckonstile_metered(place.as_mut_ptr().cast(), Association::<SLOTS>::BYTES, settings, list.as_ptr(), list.len())
+    };
+    // SAFETY: on 0 every byte is written.
+    (said, (said.number == 0).then(|| unsafe { place.assume_init_mut() }))
+}
+
+pub(crate) fn load<'a, const SLOTS: usize>(
+    place: &'a mut MaybeUninit<Association<SLOTS>>,
+    file: &[u8],
+) -> (Loaded, Option<&'a mut Association<SLOTS>>) {
+    // SAFETY: as for `new`, with the file in the list's place.
+    let said =
+        unsafe { c::reckonstile_load(place.as_mut_ptr().cast(), Association::<SLOTS>::BYTES, file.as_ptr(), file.len()) };
+    // SAFETY: on 0 every byte is written.
+    (said, (said.number == 0).then(|| unsafe { place.assume_init_mut() }))
+}
+
+/// A record made on the heap, where it stays: `make` is one of the three calls above.
+#[cfg(feature = "std")]
+pub(crate) fn boxed<const SLOTS: usize, T, E>(
+    make: impl FnOnce(&mut MaybeUninit<Association<SLOTS>>) -> Result<T, E>,
+) -> Result<(std::boxed::Box<Association<SLOTS>>, T), E> {
+    let mut place = std::boxed::Box::new_uninit();
+    let made = make(&mut place)?;
+    // SAFETY: `make` was answered 0, so that every byte is written.
+    Ok((unsafe { place.assume_init() }, made))
 }
 
 pub(crate) fn profile(settings: Settings, list: &[u8]) -> u32 {
@@ -391,14 +503,22 @@ pub(crate) fn profile(settings: Settings, list: &[u8]) -> u32 {
     unsafe { c::reckonstile_profile(settings, list.as_ptr(), list.len()) }
 }
 
-pub(crate) fn timer(a: &mut Record, time: u64, desired: i8, id: u64, uid: [u8; 32], buffer: &mut [u8]) -> Timed {
-    // SAFETY: `a` and `buffer` are lent exclusively, so they do not overlap; of the buffer no more than its length is written.
-    unsafe { c::reckonstile_timer(a, time, desired, id, Uid { bytes: uid }, buffer.as_mut_ptr(), buffer.len()) }
+pub(crate) fn timer(record: &mut [u8], time: u64, desired: i8, id: u64, uid: [u8; 32], buffer: &mut [u8]) -> Timed {
+    let uid = Uid { bytes: uid };
+    // SAFETY: `record` and `buffer` are lent exclusively, so they do not overlap; of neither more than its length is written.
+    unsafe {
+        c::reckonstile_timer(record.as_mut_ptr(), record.len(), time, desired, id, uid, buffer.as_mut_ptr(), buffer.len())
+    }
+}
+
+pub(crate) fn field_at(packet: &[u8], at: usize) -> Field {
+    // SAFETY: the packet is only read, and `at` may be any number.
+    unsafe { c::reckonstile_field_at(packet.as_ptr(), packet.len(), at) }
 }
 
 #[allow(clippy::too_many_arguments)]
 pub(crate) fn reply(
-    a: &mut Record,
+    record: &mut [u8],
     packet: &[u8],
     end: usize,
     decrypted: &[u8],
@@ -407,10 +527,11 @@ pub(crate) fn reply(
     t4: u64,
     time: u64,
 ) -> Replied {
-    // SAFETY: `a` is lent exclusively, so none of the three slices, which are only read, lies in it.
+    // SAFETY: `record` is lent exclusively, so none of the three slices, which are only read, lies in it.
     unsafe {
         c::reckonstile_reply(
-            a,
+            record.as_mut_ptr(),
+            record.len(),
             packet.as_ptr(),
             packet.len(),
             end,
@@ -425,14 +546,19 @@ pub(crate) fn reply(
     }
 }
 
-pub(crate) fn reply_decoded(a: &mut Record, d: Decoded, list: &[u8], t1: u64, t4: u64, time: u64) -> Replied {
-    // SAFETY: `a` is lent exclusively, so the list, which is only read, does not lie in it.
-    unsafe { c::reckonstile_reply_decoded(a, d, list.as_ptr(), list.len(), t1, t4, time) }
+pub(crate) fn reply_decoded(record: &mut [u8], d: Decoded, list: &[u8], t1: u64, t4: u64, time: u64) -> Replied {
+    // SAFETY: `record` is lent exclusively, so the list, which is only read, does not lie in it.
+    unsafe { c::reckonstile_reply_decoded(record.as_mut_ptr(), record.len(), d, list.as_ptr(), list.len(), t1, t4, time) }
 }
 
-pub(crate) fn accept(a: &Record, stratum: u8, local: &[ReferenceId], bloom: u32) -> u32 {
+pub(crate) fn accept(record: &[u8], stratum: u8, local: &[ReferenceId], bloom: u32) -> u32 {
     // SAFETY: both are only read; an identifier is a number (repr(transparent)), and the length counts them, as the call wants it.
-    unsafe { c::reckonstile_accept(a, stratum, local.as_ptr().cast::<u32>(), local.len(), bloom) }
+    unsafe { c::reckonstile_accept(record.as_ptr(), record.len(), stratum, local.as_ptr().cast::<u32>(), local.len(), bloom) }
+}
+
+pub(crate) fn look(record: &[u8]) -> View {
+    // SAFETY: the record is only read.
+    unsafe { c::reckonstile_look(record.as_ptr(), record.len()) }
 }
 
 pub(crate) fn collect(decrypted: &[u8], out: &mut [u8]) -> Written {
@@ -440,14 +566,9 @@ pub(crate) fn collect(decrypted: &[u8], out: &mut [u8]) -> Written {
     unsafe { c::reckonstile_collect(decrypted.as_ptr(), decrypted.len(), out.as_mut_ptr(), out.len()) }
 }
 
-pub(crate) fn save(a: &mut Record, out: &mut [u8]) -> Written {
-    // SAFETY: `a` and `out` are lent exclusively, so they do not overlap; of the buffer no more than its length is written.
-    unsafe { c::reckonstile_save(a, out.as_mut_ptr(), out.len()) }
-}
-
-pub(crate) fn load(a: &mut Record, file: &[u8]) -> Loaded {
-    // SAFETY: `a` is lent exclusively, so the file, which is only read, does not lie in it.
-    unsafe { c::reckonstile_load(a, file.as_ptr(), file.len()) }
+pub(crate) fn save(record: &mut [u8], out: &mut [u8]) -> Written {
+    // SAFETY: `record` and `out` are lent exclusively, so they do not overlap; of neither more than its length is written.
+    unsafe { c::reckonstile_save(record.as_mut_ptr(), record.len(), out.as_mut_ptr(), out.len()) }
 }
 
 #[allow(clippy::too_many_arguments)]

@@ -5,8 +5,8 @@
 //! numbers, and lets nothing be passed that the library's contract does not allow. docs/EMBEDDING.md has the order of calls and what to do on each number,
 //! docs/CALLERS.md what is handed over; `examples/connector.rs` is a whole client.
 //!
-//! No dependencies. Without the feature `std` the crate is `no_std` and allocates nothing; `std` (on by default) adds conversions from and to `std::time`.
-//! The library is code for x86-64 Linux, and so is this crate.
+//! No dependencies. Without the feature `std` the crate is `no_std` and allocates nothing; `std` (on by default) adds conversions from and to `std::time`, and
+//! associations on the heap. The library is made for x86-64 Linux; one for another target is named in `RECKONSTILE_LIB` (docs/EMBEDDING.md).
 #![no_std]
 #![deny(missing_docs, unsafe_code)]
 #![warn(unsafe_op_in_unsafe_fn)]
@@ -14,34 +14,35 @@
 #[cfg(feature = "std")]
 extern crate std;
 
-#[cfg(not(all(target_arch = "x86_64", target_os = "linux", target_env = "gnu", target_pointer_width = "64")))]
-compile_error!(
-    "reckonstile links a proved library of x86-64 Linux code: build for --target x86_64-unknown-linux-gnu (on another machine `tools/cargo` does so, and runs the \
-     programs under the toolchain's emulator; docs/EMBEDDING.md)"
-);
-
 mod answers;
 mod association;
+mod decoded;
 mod ffi;
+mod identifiers;
+mod opened;
+mod settings;
 mod time;
 mod tools;
 
 pub use answers::{
-    AcceptRefused, Action, CheckRefused, CollectRefused, CompareRefused, Dropped, LoadRefused, Measurement, MeteredRefused,
-    NewRefused, NtpLeapIndicator, PlanRefused, Poll, ReplyRefused, RequestRefused, SalvageRefused, SaveRefused, SendKind,
-    TimerRefused,
+    AcceptRefused, Action, CheckRefused, CollectRefused, CompareRefused, Dropped, LoadRefused, LookRefused, Measurement,
+    MeteredRefused, NewRefused, NtpLeapIndicator, PlanRefused, Poll, ReplyRefused, RequestRefused, SalvageRefused, SaveRefused,
+    SendKind, TimerRefused,
 };
 pub use association::{
-    collect, cookie_list, layout, write_request, Association, Bloom, DecodedReply, Kisses, Loaded, Packet, ProtocolVersion,
-    ReferenceId, Settings, Source, Times, Uid, COOKIE_BYTES, FILE_BYTES, REQUEST_BYTES, SLOTS,
+    collect, cookie_list, revision, write_request, Bloom, Source, Times, View, COOKIE_BYTES, FILE_BYTES, REQUEST_BYTES,
 };
-pub use ffi::Record;
+pub use decoded::{DecodedReply, Kisses, Uid};
+pub use ffi::{Association, REVISION};
+pub use identifiers::ReferenceId;
+pub use opened::{Open, OpenFault, Opened, ShortScratch};
+pub use settings::{ProtocolVersion, Settings, SettingsFault};
 pub use time::{NtpDuration, NtpInstant, NtpTimestamp, PollInterval, PollIntervalLimits};
 pub use tools::{
     check_calendar, compare, plan_calendar, salvage, Difference, Differences, Salvaged, ENTRIES, LIST_BYTES, NO_COOKIE,
 };
 
-/// The parts of a [`Record`].
+/// The parts of a [`View`].
 pub mod record {
-    pub use crate::ffi::{Record, Settings, Slot, Stash, State};
+    pub use crate::ffi::{Settings, State};
 }

@@ -17,6 +17,7 @@ const ENTRY_BYTES: usize = 19;
 
 /// A field in which two boxes differ (docs/COMPARE.md has the codes).
 #[derive(Clone, Copy, Debug, PartialEq, Eq, Hash)]
+#[non_exhaustive]
 pub struct Difference {
     /// Which field it is; 32 to 39 are the cookies, the oldest first.
     pub code: u8,
@@ -71,7 +72,7 @@ impl Differences<'_> {
 /// ```
 /// use reckonstile::{compare, Association, Settings, LIST_BYTES};
 /// let file = |startup_tries| {
-///     let (mut a, _) = Association::new(&Settings { startup_tries, ..Settings::default() }, &[]).unwrap();
+///     let (mut a, _) = Association::<8>::new(&Settings { startup_tries, ..Settings::default() }, &[]).unwrap();
 ///     let mut out = [0; reckonstile::FILE_BYTES];
 ///     let length = a.save(&mut out).unwrap();
 ///     out[..length].to_vec()
@@ -83,7 +84,7 @@ impl Differences<'_> {
 /// ```
 pub fn compare<'b>(left: &[u8], right: &[u8], out: &'b mut [u8]) -> Result<Differences<'b>, CompareRefused> {
     let said = ffi::compare(left, right, out);
-    match (said.number, out.get(..ENTRY_BYTES * said.entries)) {
+    match (said.number, out.get(..ENTRY_BYTES * ffi::size(said.entries))) {
         (0, Some(list)) => Ok(Differences { list }),
         (number, _) => Err(CompareRefused::from_answer(number, said.side)),
     }
@@ -130,13 +131,13 @@ impl Salvaged<'_> {
 /// ```
 pub fn salvage<'b>(list: &[u8], out: &'b mut [u8]) -> Result<Salvaged<'b>, SalvageRefused> {
     let said = ffi::salvage(list, out);
-    match (said.number, out.get(..said.length)) {
+    match (said.number, out.get(..ffi::size(said.length))) {
         (0, Some(list)) => Ok(Salvaged {
             list,
-            kept: said.kept,
-            skipped: said.skipped,
-            gaps: said.gaps,
-            places: said.places,
+            kept: ffi::size(said.kept),
+            skipped: ffi::size(said.skipped),
+            gaps: ffi::size(said.gaps),
+            places: said.places.map(ffi::size),
             told: said.told as usize,
         }),
         (number, _) => Err(SalvageRefused::from_number(number)),

@@ -1,13 +1,41 @@
 //! The crate's own words, held to what docs/CALLERS.md and the cases of RULES say; the behaviour behind them is held to the drill by `tests/embed`.
 use reckonstile::{
-    check_calendar, cookie_list, plan_calendar, salvage, Action, Association, Bloom, CheckRefused, Dropped, NewRefused,
-    NtpInstant, NtpTimestamp, Packet, PlanRefused, PollInterval, ProtocolVersion, Record, ReferenceId, ReplyRefused,
-    RequestRefused, SalvageRefused, SendKind, Settings, TimerRefused, Times, COOKIE_BYTES, ENTRIES, FILE_BYTES, REQUEST_BYTES,
+    check_calendar, cookie_list, plan_calendar, salvage, Action, Association, Bloom, CheckRefused, Dropped, LoadRefused,
+    NewRefused, NtpInstant, NtpTimestamp, Opened, PlanRefused, PollInterval, PollIntervalLimits, ProtocolVersion, ReferenceId,
+    ReplyRefused, RequestRefused, SalvageRefused, SendKind, Settings, SettingsFault, TimerRefused, Times, COOKIE_BYTES,
+    ENTRIES, FILE_BYTES, REQUEST_BYTES,
 };
+use std::mem::MaybeUninit;
 use std::time::{Duration, SystemTime, UNIX_EPOCH};
 
 fn times(time: u64) -> Times {
     Times { t1: NtpTimestamp::from_bits(0), t4: NtpTimestamp::from_bits(0), time: NtpInstant::from_nanos(time) }
+}
+
+/// Places of a record's bytes, as the header's table has them.
+const NTS: usize = 21;
+const START: usize = 19;
+const CAPACITY: usize = 26;
+const READ: usize = 27;
+const UNANSWERED: usize = 31;
+const VERSION: usize = 32;
+const DENIAL: usize = 41;
+const PRESENT: usize = 42;
+const ANSWERED: usize = 43;
+
+fn made(settings: &Settings) -> Box<Association> {
+    Association::new(settings, &[]).unwrap().0
+}
+
+/// The bytes of an association with one of them changed, as an association.
+fn changed(a: &Association, at: usize, byte: u8) -> Vec<u8> {
+    let mut bytes = a.as_bytes().to_vec();
+    bytes[at] = byte;
+    bytes
+}
+
+fn over(bytes: &mut [u8]) -> &mut Association {
+    Association::from_bytes(bytes).unwrap()
 }
 
 fn tick(a: &mut Association, time: u64, id: u64) -> Result<SendKind, TimerRefused> {
@@ -23,28 +51,28 @@ fn reply(id: u64) -> [u8; 48] {
 
 #[test]
 fn a_night_in_which_a_modem_keeps_three_replies() {
-    let (mut a, _) = Association::new(&Settings::default(), &[]).unwrap();
+    let mut a = made(&Settings::default());
     for poll in 1..=3 {
         assert_eq!(tick(&mut a, poll * 60_000_000_000, poll), Ok(SendKind::V4));
     }
     assert_eq!(tick(&mut a, 240_000_000_000, 4), Err(TimerRefused::Reset));
     assert_eq!(TimerRefused::Reset.action(), Action::Reset);
-    let before = *a.record();
+    let before = a.as_bytes().to_vec();
     for poll in 1..=3 {
-        assert_eq!(a.reply(&Packet::plain(&reply(poll)), times(14_400_000_000_000)), Err(ReplyRefused::Expired));
+        assert_eq!(a.reply(&Opened::plain(&reply(poll)), times(14_400_000_000_000)), Err(ReplyRefused::Expired));
     }
-    assert_eq!(*a.record(), before);
+    assert_eq!(a.as_bytes(), before);
     assert!(!a.is_reachable());
     assert_eq!(a.accept(17, &[], Bloom::NoFilter).unwrap_err().number(), 42);
 }
 
 #[test]
 fn a_reply_without_a_live_request_says_why() {
-    let (mut a, _) = Association::new(&Settings::default(), &[]).unwrap();
+    let mut a = made(&Settings::default());
     let heard = |a: &mut Association, id: u64, at: u64| {
-        let before = *a.record();
-        let said = a.reply(&Packet::plain(&reply(id)), times(at));
-        assert!(said.is_ok() || *a.record() == before, "a refusal changed the record");
+        let before = a.as_bytes().to_vec();
+        let said = a.reply(&Opened::plain(&reply(id)), times(at));
+        assert!(said.is_ok() || a.as_bytes() == before, "a refusal changed the record");
         said.map(|_| ())
     };
     assert_eq!(heard(&mut a, 1, 0), Err(ReplyRefused::NeverSent));
@@ -56,45 +84,41 @@ fn a_reply_without_a_live_request_says_why() {
     assert_eq!(heard(&mut a, 1, 6_000_000_000), Err(ReplyRefused::NoMatch));
     assert_eq!(heard(&mut a, 1, 11_000_000_001), Err(ReplyRefused::Expired));
     // No call leaves a poll that is answered beside a request that waits.
-    let mut record = *a.record();
-    assert_eq!((record.state.present, record.state.answered), (1, 0));
-    record.state.answered = 1;
-    let mut broken = Association::from_record(record);
-    assert_eq!(heard(&mut broken, 2, 6_000_000_000), Err(ReplyRefused::NotWhole));
+    assert_eq!((a.as_bytes()[PRESENT], a.as_bytes()[ANSWERED]), (1, 0));
+    let mut broken = changed(&a, ANSWERED, 1);
+    assert_eq!(heard(over(&mut broken), 2, 6_000_000_000), Err(ReplyRefused::NotWhole));
 }
 
 #[test]
 fn the_unanswered_polls_are_counted_in_the_record() {
-    let (mut a, _) = Association::new(&Settings::default(), &[]).unwrap();
+    let mut a = made(&Settings::default());
     assert_eq!(a.unanswered_polls(), 8);
     tick(&mut a, 0, 1).unwrap();
     assert_eq!(a.unanswered_polls(), 8);
-    assert!(a.reply(&Packet::plain(&reply(1)), times(0)).is_ok());
+    assert!(a.reply(&Opened::plain(&reply(1)), times(0)).is_ok());
     assert_eq!(a.unanswered_polls(), 0);
     for poll in 2..=9 {
         tick(&mut a, 0, poll).unwrap();
         assert_eq!(u64::from(a.unanswered_polls()), poll - 1);
     }
     // A number that disagrees with reach is none that a call has made.
-    let record = *a.record();
     for unanswered in (0..=255).filter(|n| *n != 8) {
-        let mut broken = record;
-        broken.state.unanswered = unanswered;
-        assert_eq!(Association::from_record(broken).accept(17, &[], Bloom::NoFilter).unwrap_err().number(), 32);
+        let mut broken = changed(&a, UNANSWERED, unanswered);
+        assert_eq!(over(&mut broken).accept(17, &[], Bloom::NoFilter).unwrap_err().number(), 32);
     }
     // A hand-over file does not carry it: a load sets it from reach.
     let mut file = [0; FILE_BYTES];
     let length = a.save(&mut file).unwrap();
-    assert_eq!(Association::load(&file[..length]).unwrap().association.unanswered_polls(), 8);
+    assert_eq!(Association::<8>::load(&file[..length]).unwrap().0.unanswered_polls(), 8);
 }
 
 #[test]
 fn the_window_ends_at_its_last_nanosecond() {
     let window = 5_000_000_000;
     for (after, measured) in [(0, true), (window, true), (window + 1, false)] {
-        let (mut a, _) = Association::new(&Settings::default(), &[]).unwrap();
+        let mut a = made(&Settings::default());
         tick(&mut a, 7, 1).unwrap();
-        assert_eq!(a.reply(&Packet::plain(&reply(1)), times(7 + after)).is_ok(), measured, "{after}");
+        assert_eq!(a.reply(&Opened::plain(&reply(1)), times(7 + after)).is_ok(), measured, "{after}");
     }
 }
 
@@ -103,7 +127,7 @@ fn cookies_go_in_and_out() {
     let mut list = [0; 64];
     let length = cookie_list([&[1; 20][..], &[2; 20]], &mut list).unwrap();
     let settings = Settings { nts: true, ..Settings::default() };
-    let (mut a, _) = Association::new(&settings, &list[..length]).unwrap();
+    let (mut a, _) = Association::<8>::new(&settings, &list[..length]).unwrap();
     assert_eq!(a.cookies(), 2);
     let mut short = [0; COOKIE_BYTES - 1];
     assert_eq!(
@@ -118,7 +142,7 @@ fn cookies_go_in_and_out() {
     assert_eq!(length, 48 + 36 + 7 * 24);
     assert_eq!(a.write_request(&poll, 1, [9; 32], &mut out[..length - 1]), Err(RequestRefused::ShortBuffer));
     assert_eq!((a.cookies(), a.pending_uid()), (1, Some([9; 32])));
-    assert_eq!(Association::new(&settings, &list[..5]).unwrap_err(), NewRefused::BrokenList);
+    assert_eq!(Association::<8>::new(&settings, &list[..5]).unwrap_err(), NewRefused::BrokenList);
 }
 
 #[test]
@@ -126,12 +150,12 @@ fn cookies_that_do_not_fit_are_told() {
     let mut list = [0; 128];
     let length = cookie_list([&[1; 20][..], &[2; 3], &[], &[], &[], &[], &[], &[], &[9; 4], &[]], &mut list).unwrap();
     let settings = Settings { nts: true, ..Settings::default() };
-    let (a, dropped) = Association::new(&settings, &list[..length]).unwrap();
+    let (a, dropped) = Association::<8>::new(&settings, &list[..length]).unwrap();
     assert_eq!((a.cookies(), dropped), (8, Dropped { count: 2, bytes: 23 }));
-    let (_, dropped) = Association::new(&settings, &[]).unwrap();
+    let (_, dropped) = Association::<8>::new(&settings, &[]).unwrap();
     assert_eq!(dropped, Dropped::default());
     // Without NTS the list is not looked at.
-    let (_, dropped) = Association::new(&Settings::default(), &list[..length]).unwrap();
+    let (_, dropped) = Association::<8>::new(&Settings::default(), &list[..length]).unwrap();
     assert_eq!(dropped, Dropped::default());
 }
 
@@ -139,8 +163,8 @@ fn cookies_that_do_not_fit_are_told() {
 fn a_stash_of_two_holds_the_newest_two() {
     let mut list = [0; 64];
     let length = cookie_list([&[1; 20][..], &[2; 3], &[3; 4]], &mut list).unwrap();
-    let settings = Settings { nts: true, capacity: 2, ..Settings::default() };
-    let (mut a, dropped) = Association::new(&settings, &list[..length]).unwrap();
+    let settings = Settings { nts: true, ..Settings::default() };
+    let (mut a, dropped) = Association::<2>::new(&settings, &list[..length]).unwrap();
     assert_eq!((a.cookies(), dropped), (2, Dropped { count: 1, bytes: 20 }));
     let mut buffer = [0; COOKIE_BYTES];
     for (cookie, asked) in [(&[2; 3][..], 1), (&[3; 4], 2)] {
@@ -154,92 +178,169 @@ fn a_stash_of_two_holds_the_newest_two() {
 #[test]
 fn a_version_is_kept() {
     for version in [ProtocolVersion::V4, ProtocolVersion::UpgradedToV5, ProtocolVersion::V5] {
-        let (a, _) = Association::new(&Settings { version, ..Settings::default() }, &[]).unwrap();
+        let (a, _) = Association::<8>::new(&Settings { version, ..Settings::default() }, &[]).unwrap();
         assert_eq!(a.version(), version);
     }
 }
 
 #[test]
 fn the_retired_version_is_refused_in_a_record_and_becomes_v4_in_a_file() {
-    let (mut a, _) = Association::new(&Settings { version: ProtocolVersion::V5, ..Settings::default() }, &[]).unwrap();
+    let mut a = made(&Settings { version: ProtocolVersion::V5, ..Settings::default() });
     tick(&mut a, 0, 1).unwrap();
-    let record = *a.record();
     for left in [0, 8, 255] {
-        let mut broken = [record; 2];
-        (broken[0].settings.start, broken[0].settings.left) = (1, left);
-        (broken[1].state.version, broken[1].state.left) = (1, left);
-        for broken in broken {
-            let mut b = Association::from_record(broken);
-            assert_eq!(tick(&mut b, 0, 2).unwrap_err(), TimerRefused::NotWhole);
+        for place in [START, VERSION] {
+            let mut broken = changed(&a, place, 1);
+            broken[place + 1] = left;
+            let before = broken.clone();
+            let b = over(&mut broken);
+            assert_eq!(tick(b, 0, 2).unwrap_err(), TimerRefused::NotWhole);
             assert_eq!(b.save(&mut [0; FILE_BYTES]).unwrap_err().number(), 32);
-            assert_eq!(b.record(), &broken);
+            assert_eq!(b.as_bytes(), before);
         }
     }
     // The start version stands at 23 of a file, the version behind the mark VE.
     let mut file = [0; FILE_BYTES];
     let length = a.save(&mut file).unwrap();
     let version = (0..length).find(|at| file[*at..].starts_with(b"VE\0\x02")).unwrap() + 4;
-    let loaded = Association::load(&file[..length]).unwrap();
-    assert_eq!((loaded.association.version(), loaded.retired), (ProtocolVersion::V5, false));
+    let loaded = |file: &[u8]| {
+        let (a, retired) = Association::<8>::load(&file[..length]).unwrap();
+        (a.version(), retired, a.as_bytes()[START])
+    };
+    assert_eq!(loaded(&file), (ProtocolVersion::V5, false, 3));
     let mut old = file;
     (old[23], old[24]) = (1, 7);
-    let loaded = Association::load(&old[..length]).unwrap();
-    assert_eq!((loaded.association.version(), loaded.retired), (ProtocolVersion::V5, true));
-    assert_eq!((loaded.association.record().settings.start, loaded.association.record().settings.left), (0, 0));
+    assert_eq!(loaded(&old), (ProtocolVersion::V5, true, 0));
     (old[version], old[version + 1]) = (1, 0);
-    let loaded = Association::load(&old[..length]).unwrap();
-    assert_eq!((loaded.association.version(), loaded.retired), (ProtocolVersion::V4, true));
+    assert_eq!(loaded(&old), (ProtocolVersion::V4, true, 0));
     // Upgraded is not retired: it loads as it is.
     (file[23], file[version]) = (2, 2);
-    let loaded = Association::load(&file[..length]).unwrap();
-    assert_eq!((loaded.association.version(), loaded.retired), (ProtocolVersion::UpgradedToV5, false));
+    assert_eq!(loaded(&file), (ProtocolVersion::UpgradedToV5, false, 2));
 }
 
 #[test]
-fn settings_out_of_range_are_refused() {
+fn settings_out_of_range_are_refused_and_named() {
     let good = Settings::default();
-    let windows = [Duration::ZERO, Duration::from_nanos(60_000_000_001), Duration::MAX];
-    for bad in windows
-        .map(|poll_window| Settings { poll_window, ..good })
-        .into_iter()
-        .chain([0, 9].map(|startup_tries| Settings { startup_tries, ..good }))
-        .chain([0, 9, 255].map(|capacity| Settings { capacity, ..good }))
-    {
-        assert_eq!(Association::new(&bad, &[]).unwrap_err(), NewRefused::Settings);
+    let limits = |min, max| PollIntervalLimits { min: PollInterval::new(min), max: PollInterval::new(max) };
+    let window = |poll_window| Settings { poll_window, ..good };
+    let bad = [
+        (Settings { poll_interval_limits: limits(-1, 10), ..good }, SettingsFault::PollMin),
+        (Settings { poll_interval_limits: limits(4, 18), ..good }, SettingsFault::PollMax),
+        (Settings { poll_interval_limits: limits(11, 10), ..good }, SettingsFault::PollOrder),
+        (Settings { startup_tries: 0, ..good }, SettingsFault::StartupTries),
+        (Settings { startup_tries: 9, ..good }, SettingsFault::StartupTries),
+        (window(Duration::ZERO), SettingsFault::PollWindow),
+        (window(Duration::from_nanos(60_000_000_001)), SettingsFault::PollWindow),
+        (window(Duration::MAX), SettingsFault::PollWindow),
+    ];
+    for (settings, fault) in bad {
+        assert_eq!(Association::<8>::new(&settings, &[]).unwrap_err(), NewRefused::Settings, "{settings:?}");
+        assert_eq!(settings.check(), Err(fault));
     }
-    assert!(Association::new(&Settings { poll_window: Duration::from_nanos(1), ..good }, &[]).is_ok());
+    // Each limit itself is within the range, and no fault is found in it.
+    for settings in [
+        window(Duration::from_nanos(1)),
+        window(Duration::from_secs(60)),
+        Settings { poll_interval_limits: limits(0, 17), ..good },
+        Settings { poll_interval_limits: limits(17, 17), startup_tries: 8, ..good },
+        Settings { startup_tries: 1, ..good },
+    ] {
+        assert_eq!((Association::<8>::new(&settings, &[]).err(), settings.check()), (None, Ok(())));
+    }
+}
+
+#[test]
+fn a_record_is_as_long_as_its_slots_are_many() {
+    fn holds<const SLOTS: usize>() -> usize {
+        let mut list = [0; 8 * 5];
+        let length = cookie_list([&[7][..]; 8], &mut list).unwrap();
+        let mut place = MaybeUninit::<Association<SLOTS>>::uninit();
+        let settings = Settings { nts: true, ..Settings::default() };
+        let (a, dropped) = Association::new_in(&mut place, &settings, &list[..length]).unwrap();
+        assert_eq!((a.cookies(), dropped.count), (SLOTS, 8 - SLOTS as u64));
+        assert_eq!(a.look().unwrap().settings.capacity, SLOTS as u8);
+        // A file of it loads in the same type, and in no other.
+        let mut file = [0; FILE_BYTES];
+        let length = a.save(&mut file).unwrap();
+        let mut other = MaybeUninit::<Association<SLOTS>>::uninit();
+        let (b, retired) = Association::load_in(&mut other, &file[..length]).unwrap();
+        assert_eq!((b.cookies(), retired, b.as_bytes().len()), (SLOTS, false, std::mem::size_of_val(b)));
+        if SLOTS != 3 {
+            assert_eq!(Association::<3>::load(&file[..length]).unwrap_err(), LoadRefused::RecordSize);
+        }
+        assert_eq!(std::mem::align_of::<Association<SLOTS>>(), 1);
+        b.as_bytes().len()
+    }
+    assert_eq!([holds::<1>(), holds::<2>(), holds::<4>(), holds::<8>()], [818, 1544, 2996, 5900]);
+}
+
+#[test]
+fn a_cookie_is_not_among_what_is_shown() {
+    let cookie = [0xC7; 40];
+    let mut list = [0; 44];
+    let length = cookie_list([&cookie[..]], &mut list).unwrap();
+    let (mut a, _) = Association::<2>::new(&Settings { nts: true, ..Settings::default() }, &list[..length]).unwrap();
+    let shown = |text: &str| ["c7", "C7", "199"].iter().any(|byte| text.contains(byte));
+    assert!(shown(&format!("{cookie:?}")), "else this test sees nothing");
+    assert!(!shown(&format!("{a:?}")) && format!("{a:?}").contains("cookies: 1"));
+    let mut buffer = [0; COOKIE_BYTES];
+    let poll = a.timer(NtpInstant::from_nanos(0), PollInterval::new(6), 1, [0; 32], &mut buffer).unwrap();
+    assert!(poll.cookie == cookie && !shown(&format!("{poll:?}")));
 }
 
 #[test]
 fn more_identifiers_than_any_machine_has() {
     let mut local = vec![ReferenceId::from_bits(1); 10_000];
-    let (mut a, _) = Association::new(&Settings { source: ReferenceId::from_bits(2), ..Settings::default() }, &[]).unwrap();
+    let mut a = made(&Settings { source: ReferenceId::from_bits(2), ..Settings::default() });
     tick(&mut a, 0, 1).unwrap();
-    let _ = a.reply(&Packet::plain(&reply(1)), times(0)).unwrap();
+    let _ = a.reply(&Opened::plain(&reply(1)), times(0)).unwrap();
     assert_eq!(a.accept(16, &local, Bloom::NoFilter), Ok(()));
     local.push(ReferenceId::from_bits(2));
     assert_eq!(a.accept(16, &local, Bloom::NoFilter).unwrap_err().number(), 41);
 }
 
 #[test]
-fn a_record_of_any_numbers_is_refused_untouched() {
-    let whole = *Association::new(&Settings::default(), &[]).unwrap().0.record();
-    let mut broken = [whole; 8];
-    broken[0].settings.nts = 2;
-    broken[1].settings.start = 4;
-    broken[2].state.denial = 255;
-    broken[3].state.version = u32::MAX;
-    broken[4].stash.read = usize::MAX;
-    broken[5] = Record::BLANK;
-    broken[6].settings.capacity = 9;
-    broken[7].settings.spare = 1;
-    for record in broken {
-        let mut a = Association::from_record(record);
-        assert_eq!(tick(&mut a, 0, 1), Err(TimerRefused::NotWhole));
-        assert_eq!(a.reply(&Packet::plain(&reply(1)), times(0)), Err(ReplyRefused::NotWhole));
+fn a_record_of_any_bytes_is_refused_untouched() {
+    let whole = made(&Settings::default());
+    let mut blank = made(&Settings::default());
+    blank.blank();
+    assert!(blank.as_bytes().iter().all(|byte| *byte == 0));
+    for mut bytes in [
+        changed(&whole, NTS, 2),
+        changed(&whole, START, 4),
+        changed(&whole, DENIAL, 255),
+        changed(&whole, VERSION, 255),
+        changed(&whole, READ, 255),
+        changed(&whole, CAPACITY, 9),
+        changed(&whole, CAPACITY, 4),
+        changed(&whole, whole.as_bytes().len() - 1, 1),
+        blank.as_bytes().to_vec(),
+    ] {
+        let before = bytes.clone();
+        let a = over(&mut bytes);
+        assert_eq!(tick(a, 0, 1), Err(TimerRefused::NotWhole));
+        assert_eq!(a.reply(&Opened::plain(&reply(1)), times(0)), Err(ReplyRefused::NotWhole));
         assert_eq!(a.accept(17, &[], Bloom::NoFilter).unwrap_err().number(), 32);
-        assert_eq!(*a.record(), record);
+        assert_eq!(a.as_bytes(), before);
     }
+    // What can be read is shown, so that one sees what is wrong; an unknown code, and another size than the capacity's, cannot.
+    assert_eq!(over(&mut changed(&whole, UNANSWERED, 3)).look().unwrap().state.unanswered, 3);
+    for mut bytes in [changed(&whole, NTS, 2), changed(&whole, CAPACITY, 4), blank.as_bytes().to_vec()] {
+        assert_eq!(over(&mut bytes).look().unwrap_err().number(), 32);
+    }
+}
+
+#[test]
+fn a_refusal_is_an_error_without_std() {
+    fn told(error: &dyn core::error::Error) -> String {
+        error.to_string()
+    }
+    assert_eq!(told(&TimerRefused::NoCookie), "no cookie is left: exchange keys again and begin with a new association (23)");
+    assert_eq!(told(&SettingsFault::PollMin), "poll_interval_limits.min is below 0");
+    let refused = reckonstile::compare(b"", b"", &mut []).unwrap_err();
+    assert_eq!(
+        core::error::Error::source(&refused).map(told).as_deref(),
+        Some("a wrong length, or bytes that are missing or left over (62)")
+    );
 }
 
 #[test]
@@ -255,7 +356,7 @@ fn the_system_clock_as_a_timestamp() {
 
 #[test]
 fn an_association_may_go_to_another_thread() {
-    let (mut a, _) = Association::new(&Settings::default(), &[]).unwrap();
+    let mut a = made(&Settings::default());
     let kind = std::thread::spawn(move || tick(&mut a, 0, 1)).join().unwrap();
     assert_eq!(kind, Ok(SendKind::V4));
 }
@@ -266,12 +367,12 @@ fn a_damaged_list_starts_an_association() {
     let length = cookie_list([&[1; 20][..], &[2; 20]], &mut list).unwrap();
     let settings = Settings { nts: true, ..Settings::default() };
     list[2] = 9; // the length of the first cookie, which no longer fits
-    assert_eq!(Association::new(&settings, &list[..length]).unwrap_err(), NewRefused::BrokenList);
+    assert_eq!(Association::<8>::new(&settings, &list[..length]).unwrap_err(), NewRefused::BrokenList);
     let mut out = [0xEE; 64];
     let salvaged = salvage(&list[..length], &mut out).unwrap();
     assert_eq!((salvaged.kept, salvaged.skipped, salvaged.gaps, salvaged.places()), (1, 24, 1, &[0][..]));
     assert_eq!(salvaged.list, &list[24..length]);
-    assert_eq!(Association::new(&settings, salvaged.list).unwrap().0.cookies(), 1);
+    assert_eq!(Association::<1>::new(&settings, salvaged.list).unwrap().0.cookies(), 1);
     assert_eq!(out[24..], [0xEE; 40]);
     assert_eq!(salvage(&list[..length], &mut out[..length - 1]).unwrap_err(), SalvageRefused::ShortBuffer);
 }

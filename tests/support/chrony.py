@@ -21,6 +21,16 @@ def lacks():
     return ''
 
 
+def has_ipv6():
+    """whether this machine has ::1"""
+    try:
+        with socket.socket(socket.AF_INET6, socket.SOCK_DGRAM) as s:
+            s.bind(('::1', 0))
+        return True
+    except OSError:
+        return False
+
+
 def free_port(kind):
     with socket.socket(socket.AF_INET, kind) as s:
         s.bind(('127.0.0.1', 0))
@@ -42,6 +52,8 @@ class Chronyd:
             raise RuntimeError('openssl made no certificate: ' + made.stdout.decode('utf-8', 'replace'))
         conf = os.path.join(self.folder, 'chrony.conf')
         with open(conf, 'w') as f:
+            if has_ipv6():
+                f.write('bindaddress ::1\nallow ::1\n')
             f.write('port %d\nbindaddress 127.0.0.1\ncmdport 0\nbindcmdaddress /\npidfile %s/pid\nallow 127.0.0.1\nlocal stratum %d\nnoclientlog\n'
                     'ntsport %d\nntsserverkey %s\nntsservercert %s\nntsdumpdir %s/keys\nmaxntsconnections 20\n'
                     % (self.port, self.folder, stratum, self.nts_port, key, self.certificate, self.folder))

@@ -1,5 +1,8 @@
-"""What this machine has to build and run x86-64 Linux programs with: compilers, Rust, an emulator, and the static library. The proved library is x86-64 code, so on
-another machine everything that links it is compiled across and run under an emulator. Each thing that is missing is named with the package that has it."""
+"""What this machine has to build and run programs over the static library with: compilers, Rust, an emulator, and the library. What `rt staticlib` makes is x86-64
+code, so on another machine everything that links it is compiled across and run under an emulator. Where RECKONSTILE_LIB names a library that is made for this machine,
+nothing of that is needed. Each thing that is missing is named with the package that has it."""
+import importlib.machinery
+import importlib.util
 import os
 import platform
 import shutil
@@ -7,10 +10,31 @@ import subprocess
 import sys
 
 ROOT = os.path.dirname(os.path.dirname(os.path.dirname(os.path.abspath(__file__))))
-NATIVE = platform.machine() == 'x86_64'
-TARGET = 'x86_64-unknown-linux-gnu'
+
+
+def archive(path):
+    if os.path.isfile(path):
+        return path
+    return next((p for p in (os.path.join(path, name) for name in ('libreckonstile.a', 'libexports.a')) if os.path.isfile(p)), None)
+
+
+def made_for():
+    """the machine whose code the library is: what the first object of the one that RECKONSTILE_LIB names says, and else x86_64"""
+    named = archive(os.environ.get('RECKONSTILE_LIB') or '')
+    if named:
+        with open(named, 'rb') as f:
+            data = f.read()
+        at = data.find(b'\x7fELF')
+        return {62: 'x86_64', 183: 'aarch64', 243: 'riscv64'}.get(int.from_bytes(data[at + 18:at + 20], 'little') if at >= 0 else 0, 'another machine')
+    return 'x86_64'
+
+
+MACHINE = made_for()
+NATIVE = platform.machine() == MACHINE
+TARGET = MACHINE + '-unknown-linux-gnu'
 SYSROOT = '/usr/x86_64-linux-gnu'
 BUILT = os.environ.get('RECKONSTILE_TARGET') or os.path.join(ROOT, 'target')  # tests/all works in a copy, which has nothing built
+OWN = '/usr/lib/%s-linux-gnu' % platform.machine()
 UNPACKED = os.path.join(BUILT, 'rust-x86-64')
 
 
@@ -19,7 +43,9 @@ class Lacks(Exception):
 
 
 def tool(variable, native, cross, package):
-    """a compiler for x86-64: the one that a variable names, or the machine's own"""
+    """a compiler for the library's machine: the one that a variable names, or the machine's own"""
+    if not NATIVE and MACHINE != 'x86_64':
+        raise Lacks('the library that RECKONSTILE_LIB names is code for %s: name one for this machine or for x86-64' % MACHINE)
     named = os.environ.get(variable) or (native if NATIVE else cross)
     found = shutil.which(named)
     if not found:
@@ -45,7 +71,7 @@ def kit():
 
 
 def emulated(static=False):
-    """what stands before a program's name to run it: nothing on x86-64. The toolchain's own emulator runs C programs; it ends with a fault where a program opens
+    """what stands before a program's name to run it: nothing where it is this machine's. The toolchain's own emulator runs C programs; it ends with a fault where a program opens
     /proc/self/maps, as Rust's standard library does when it starts, so for Rust Debian's has to be there."""
     if NATIVE:
         return []
@@ -58,12 +84,6 @@ def emulated(static=False):
 
 
 # ---- the library
-
-def archive(path):
-    if os.path.isfile(path):
-        return path
-    return next((p for p in (os.path.join(path, name) for name in ('libreckonstile.a', 'libembed.a')) if os.path.isfile(p)), None)
-
 
 def newest_source():
     folders = [os.path.join(ROOT, 'crates', c, part) for c in os.listdir(os.path.join(ROOT, 'crates')) for part in ('src', 'specs', 'proofs')]
@@ -84,17 +104,25 @@ def library(make=True):
     if not shutil.which('rt'):
         raise Lacks('Rattle\'s command rt, which proves and makes the library, is not on the PATH; install the toolchain that README.md names, or set RECKONSTILE_LIB')
     if not make:
-        raise Lacks('the static library is not made, or a source is newer; `rt staticlib embed` proves and makes it')
+        raise Lacks('the static library is not made, or a source is newer; `rt staticlib exports` proves and makes it')
     print('proving and making the static library; the first time that takes some minutes', file=sys.stderr)
     os.makedirs(os.path.join(ROOT, 'target'), exist_ok=True)
     log = os.path.join(ROOT, 'target', 'staticlib.log')
     with open(log, 'wb') as f:
-        made = subprocess.run(['rt', 'staticlib', 'embed'], cwd=ROOT, stdin=subprocess.DEVNULL, stdout=f, stderr=subprocess.STDOUT)
+        made = subprocess.run(['rt', 'staticlib', 'exports'], cwd=ROOT, stdin=subprocess.DEVNULL, stdout=f, stderr=subprocess.STDOUT)
     found = archive(folder)
     if made.returncode or not found:
-        raise Lacks('`rt staticlib embed` made no library (target/staticlib.log has the whole of it)')
+        raise Lacks('`rt staticlib exports` made no library (target/staticlib.log has the whole of it)')
     os.utime(found)
     return found
+
+
+def script(name):
+    """a program of tools/, as a module"""
+    loader = importlib.machinery.SourceFileLoader(name, os.path.join(ROOT, 'tools', name))
+    module = importlib.util.module_from_spec(importlib.util.spec_from_loader(name, loader))
+    loader.exec_module(module)
+    return module
 
 
 # ---- C
@@ -123,7 +151,7 @@ def has_std(rustc):
 
 
 def rust():
-    """the environment in which cargo builds for x86-64 and runs what it built"""
+    """the environment in which cargo builds for the library's machine and runs what it built"""
     if not shutil.which('cargo'):
         raise Lacks('there is no cargo (rustup, or Debian: apt-get install cargo)')
     wrapper = os.path.join(UNPACKED, 'rustc')
@@ -139,6 +167,8 @@ def rust():
         environment.setdefault('RUSTDOC', beside)
     environment.setdefault('CARGO_TARGET_DIR', os.path.join(BUILT, 'rust'))
     nettle = os.path.join(UNPACKED, 'nettle', 'usr', 'lib', 'x86_64-linux-gnu')
+    if NATIVE and os.path.isdir(OWN):
+        environment.setdefault('NETTLE_LIB', OWN)
     if not NATIVE:
         environment['CARGO_TARGET_X86_64_UNKNOWN_LINUX_GNU_LINKER'] = linker
         environment['CARGO_TARGET_X86_64_UNKNOWN_LINUX_GNU_RUNNER'] = runner
@@ -147,11 +177,20 @@ def rust():
     return environment
 
 
-def needs():
-    """the C functions that the library leaves to the program that links it"""
+def symbols():
     named = subprocess.run([cc(), '-print-prog-name=nm'], stdout=subprocess.PIPE).stdout.decode().strip()
     said = subprocess.run([named, library()], stdout=subprocess.PIPE, stderr=subprocess.DEVNULL).stdout.decode().splitlines()
-    lines = [line.split() for line in said]
+    return [line.split() for line in said]
+
+
+def gives():
+    """the functions that the library has for programs"""
+    return sorted({words[2] for words in symbols() if len(words) == 3 and words[1] == 'T'})
+
+
+def needs():
+    """the C functions that the library leaves to the program that links it"""
+    lines = symbols()
     given = {words[2] for words in lines if len(words) == 3}
     return sorted({words[1] for words in lines if len(words) == 2 and words[0] == 'U'} - given)
 
@@ -161,8 +200,8 @@ def cargo(arguments, **more):
 
 
 def has_nettle():
-    """whether a static nettle for x86-64 is there, by which the example connector speaks NTS"""
-    folders = [os.environ.get('NETTLE_LIB', ''), os.path.join(UNPACKED, 'nettle', 'usr', 'lib', 'x86_64-linux-gnu')] + (['/usr/lib/x86_64-linux-gnu'] if NATIVE else [])
+    """whether a static nettle is there, by which the example connector speaks NTS"""
+    folders = [os.environ.get('NETTLE_LIB', ''), OWN if NATIVE else os.path.join(UNPACKED, 'nettle', 'usr', 'lib', 'x86_64-linux-gnu')]
     return any(os.path.isfile(os.path.join(folder, 'libnettle.a')) for folder in folders if folder)
 
 

@@ -60,7 +60,7 @@ class Logs:
         nts = rng.random() < 0.6
         if word != 'profile':
             self.now = rng.choice((0, rng.randrange(10**12), MAX64 - 10**10))
-        capacity = rng.choice((1, 2, 2, 4, 4, 7)) if good else rng.choice((0, 9, 255, 8))
+        capacity = rng.choice((1, 2, 2, 3, 4, 4, 5, 6, 7)) if good else rng.choice((0, 9, 255, 8))
         return word + ' min=%d max=%d startup=%d window=%d mark=%s start=%s nts=%s source=%08x list=%s%s' % (
             low if good else rng.choice((-128, -1, 18, low)), rng.choice((low, max(low, 10), 17)) if good else rng.choice((18, 127, -1, 10)),
             rng.choice((1, 3, 3, 3, 4) if metered else (1, 3, 8)) if good else rng.choice((0, 9, 255, 3)), rng.choice((1, 5 * 10**9, 60 * 10**9)) if good else rng.choice((0, 60 * 10**9 + 1, MAX64)),

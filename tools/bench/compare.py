@@ -35,7 +35,7 @@ def octets_of(name):
     if digits and len(digits) % 2 == 0 and re.fullmatch(rb'[0-9a-fA-F]+', digits):
         octets = bytes.fromhex(digits.decode())
     if len(octets) > ROOM:
-        ends.die('%s has %d bytes, and no hand-over file has more than %d' % (name, len(octets), ROOM))
+        ends.die('%s has %d bytes: no hand-over file has more than 5872, and the program takes up to %d' % (name, len(octets), ROOM))
     return octets
 
 

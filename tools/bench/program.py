@@ -21,7 +21,7 @@ LOG = os.path.join(TARGET, 'drill.log')
 LOCK = os.path.join(TARGET, 'drill.lock')
 
 # Seconds that each crate's check took by the clock, two at a time on two idle cores (docs/LANDINGS.md). They serve to say how much is left, and nothing else.
-SECONDS = dict(words=8, identifiers=2, reach=3, cookielist=5, cookiestash=21, lent_stash=26, version=5, time_types=6, header=16, fields=8, uid_groups=9,
+SECONDS = dict(words=8, identifiers=2, reach=3, cookielist=5, cookiestash=21, version=5, time_types=6, header=16, fields=8, uid_groups=9,
                collector=11, association=13, timer_rules=15, timer=14, incoming=16, reply_clauses=12, reply_rules=22, reply=19, accept=9, request=20, walker=6,
                salvage=10, calendar=22, drill_text=71, drill_tools=50, drill_record=66, drill_calls=65, drill=71)
 TOGETHER = 0.8  # two crates at a time, but for those that wait for each other

@@ -2,4 +2,5 @@
 pub mod Among
 pub mod Numbers
 pub mod Crate
+pub mod Below
 pub mod Determined

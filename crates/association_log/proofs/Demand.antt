@@ -48,7 +48,7 @@ pub new-pends-nothing : (s : Settings) (list : List ℕ) → pendingIn (newOf s 
 unfolding noPending
 new-pends-nothing s list = ap pendingIn (new-request s list)
 
-new-unanswered : (s : Settings) (list : List ℕ) → newOf s list .association .state .request .answered ≡ false
+pub new-unanswered : (s : Settings) (list : List ℕ) → newOf s list .association .state .request .answered ≡ false
 unfolding noPending
 new-unanswered s list = ap (λ (q : Pending). q .answered) (new-request s list)
 

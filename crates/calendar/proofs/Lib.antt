@@ -14,3 +14,4 @@ pub mod PlanNumbers
 pub mod Plans
 pub mod Example
 pub mod Determined
+pub mod Fitted

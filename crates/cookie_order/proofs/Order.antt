@@ -3,7 +3,7 @@
 -- Assumes nothing.
 use mathlib.Core.Path.{_≡_, refl, sym, ap, subst, _∙_}
 use mathlib.Core.Bool.{Bool, true, false, _&&_, cond}
-use mathlib.Core.List.{List, [], _∷_, _++_, append-nil, append-assoc}
+use mathlib.Core.List.{List, [], _∷_, _++_, map, append-nil, append-assoc}
 use mathlib.Core.Logic.{_⊎_, inl, inr}
 use Prim.Native.Nat.{ℕ, _≤_, _<_}
 use native.Mathlib.Omega.{arith}
@@ -15,8 +15,9 @@ use Rattle.cookielist.specs.List.{cookiesIn}
 use Rattle.cookiestash.specs.declared.CookieStash.{CookieStash}
 use Rattle.cookiestash.specs.Stash as stash
 use Rattle.cookiestash.specs.Stash.{inRange, getOf}
+use Rattle.cookiestash.specs.Queue.{cookieOf, cookies}
 use Rattle.cookiestash.specs.StoreList.{storeListOf}
-use Rattle.lent_stash.specs.Lent.{wrote}
+use Rattle.cookiestash.specs.Handed.{wrote}
 use Rattle.version.specs.declared.ProtocolVersion.{ProtocolVersion}
 use Rattle.version.specs.declared.ProtocolVersion.the-variants.{V4, Upgrading, Upgraded, V5}
 use Rattle.version.specs.Send.{kindOf}
@@ -24,6 +25,7 @@ use Rattle.association.specs.declared.Settings.{Settings}
 use Rattle.association.specs.declared.Association.{Association}
 use Rattle.association.specs.declared.NewOut.{NewOut}
 use Rattle.association.specs.Record.{blankOf, freshOf, withStash}
+use Rattle.association.specs.Whole.{Whole}
 use Rattle.association.specs.New as new
 use Rattle.association.specs.Numbers as A
 use Rattle.association.proofs.New.{capacity-in}
@@ -52,10 +54,10 @@ use Rattle.cookie_order.proofs.Stash.{Holds, new-holds, First, first, h
 -- ---- one call
 
 -- what it hands out and what is held after it are, in order, some of what was held and of what it stores
-record Went (inside : List (List ℕ)) (nts : Bool) (d : M.Done machine) (next : Association) : Type 0 where
-  left : List (List ℕ)
-  holds : Holds (next .settings .capacity) (next .stash) left
-  order : SomeOf (handedBy d ++ left) (inside ++ storedBy nts d)
+pub record Went (inside : List (List ℕ)) (nts : Bool) (d : M.Done machine) (next : Association) : Type 0 where
+  pub left : List (List ℕ)
+  pub holds : Holds (next .settings .capacity) (next .stash) left
+  pub order : SomeOf (handedBy d ++ left) (inside ++ storedBy nts d)
 
 -- a call that leaves the stash
 stays : {inside : List (List ℕ)} {nts : Bool} {d : M.Done machine} {next : Association} → handedBy d ≡ [] → Holds (next .settings .capacity) (next .stash) inside → Went inside nts d next
@@ -150,17 +152,17 @@ module _ (a : Association) (inside : List (List ℕ)) (h : Holds (a .settings .c
         let k = listed (a .settings .nts) (arrivalOf r .list) (timer-numbers.in-range a whole) in
         record { left = k .inside; holds = k .holds; order = k .order }
 
-  went : (c : M.Call rule) → Went inside (a .settings .nts) (M.made machine a c) (M.step machine a c)
+  pub went : (c : M.Call rule) → Went inside (a .settings .nts) (M.made machine a c) (M.step machine a c)
   went (M.timer t) = timer-went t
   went (M.reply r) = replied r (reply-numbers.given a (read r) (arrivalOf r))
 
 -- ---- a log from any record
 
 -- one call, and those behind it
-joined : (h left inside s more : List (List ℕ)) {later : List (List ℕ)} → SomeOf (h ++ left) (inside ++ s) → SomeOf later (left ++ more) → SomeOf (h ++ later) (inside ++ (s ++ more))
+pub joined : (h left inside s more : List (List ℕ)) {later : List (List ℕ)} → SomeOf (h ++ left) (inside ++ s) → SomeOf later (left ++ more) → SomeOf (h ++ later) (inside ++ (s ++ more))
 joined h left inside s more one rest = some-some (some-behind h rest) (rw (append-assoc h left more, append-assoc inside s more) at (some-before one more))
 
-handed-some : (calls : List (M.Call rule)) (a : Association) (inside : List (List ℕ)) → Holds (a .settings .capacity) (a .stash) inside →
+pub handed-some : (calls : List (M.Call rule)) (a : Association) (inside : List (List ℕ)) → Holds (a .settings .capacity) (a .stash) inside →
     let done = M.run machine a calls in SomeOf (handedOut done) (inside ++ storedIn (a .settings .nts) done)
 handed-some [] a inside h = some-none (inside ++ [])
 handed-some (c ∷ cs) a inside h =
@@ -170,6 +172,15 @@ handed-some (c ∷ cs) a inside h =
     let d = M.made machine a c in
     joined (handedBy d) (w .left) inside (storedBy (a .settings .nts) d) (storedIn (a .settings .nts) more) (w .order)
     (subst (λ (g : Settings). SomeOf (handedOut more) (w .left ++ storedIn (g .nts) more)) (laws .settings-kept a c) rest)
+
+-- from any whole record that holds these cookies: some of them and of what was stored since
+module _ (a : Association) (w : Whole a) (inside : List (List ℕ)) (held : cookies (a .settings .capacity) (a .stash) ≡ map cookieOf inside) where
+  pub any-cookie-order : (calls : List (M.Call rule)) → let done = M.run machine a calls in SomeOf (handedOut done) (inside ++ storedIn (a .settings .nts) done)
+  any-cookie-order calls = handed-some calls a inside (record { held = held; room = w .stash .room })
+
+  pub code-any-cookie-order : {b : Association} {calls : List (M.Call rule)} {done : List (M.Done machine)} → Ran a calls done b →
+      SomeOf (handedOut done) (inside ++ storedIn (a .settings .nts) done)
+  code-any-cookie-order {calls} r = rw (ran-is-run r .0) (any-cookie-order calls)
 
 -- ---- a log from a new association
 
@@ -229,18 +240,21 @@ stored-less b c ds (inr e) =
     (subst (λ (xs : List (List ℕ)). SomeOf xs (storedIn c ds)) (sym (none-stored ds)) (some-none (storedIn c ds)))
 
 module _ (s : Settings) (list : List ℕ) where
-  abbrev made : Association
+  abbrev pub made : Association
   made = new.newOf s list .association
 
-  -- whatever `new` answered
-  pub cookie-order : (calls : List (M.Call rule)) → let done = M.run machine made calls in SomeOf (handedOut done) (storedFrom s list done)
-  cookie-order calls =
-      let done = M.run machine made calls in
+  -- what is some of what a new one holds and of what is stored since is some of the order of storing, whatever `new` answered
+  pub from-new : {handed : List (List ℕ)} (done : List (M.Done machine)) →
+      ((inside : List (List ℕ)) → Holds (made .settings .capacity) (made .stash) inside → SomeOf handed (inside ++ storedIn (made .settings .nts) done)) → SomeOf handed (storedFrom s list done)
+  from-new done some =
       let k = new-by s list (new-numbers.given s list) in
-      some-some (handed-some calls made (k .inside) (k .holds))
+      some-some (some (k .inside) (k .holds))
       (some-some (some-before (k .order) (storedIn (made .settings .nts) done))
       (some-behind (storedOn (new.numberOf (new.newOf s list .answer)) (s .nts) list)
       (stored-less (made .settings .nts) (s .nts) done (nts-by s list (new-numbers.given s list)))))
+
+  pub cookie-order : (calls : List (M.Call rule)) → let done = M.run machine made calls in SomeOf (handedOut done) (storedFrom s list done)
+  cookie-order calls = from-new (M.run machine made calls) (handed-some calls made)
 
   -- by the places in the order of storing, which rise
   pub cookie-places : (calls : List (M.Call rule)) → let done = M.run machine made calls in Placed [] (handedOut done) (storedFrom s list done)

@@ -18,7 +18,7 @@ use Rattle.cookiestash.specs.StoreList.{storeListed, storeListOf}
 use Rattle.cookiestash.proofs.Range.{within, store-range, store-slots}
 use Rattle.cookiestash.proofs.Queue.{rest-queue}
 use Rattle.cookiestash.proofs.Cookies.{store-room, store-full}
-use Rattle.lent_stash.specs.Lent.{wrote}
+use Rattle.cookiestash.specs.Handed.{wrote}
 use Rattle.cookie_order.specs.Some.{SomeOf}
 use Rattle.cookie_order.specs.Cookies.{cookiesOf}
 use Rattle.cookie_order.proofs.Some.{some-all, some-before, some-front, some-rest, some-some}

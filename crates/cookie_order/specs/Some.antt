@@ -2,8 +2,8 @@
 -- Assumes nothing.
 use mathlib.Core.Path.{_≡_}
 use mathlib.Core.List.{List, [], _∷_, map}
-use Prim.Native.Nat.{ℕ, suc, _≤_}
-use lib.ListN.{getD}
+use Prim.Native.Nat.{ℕ, suc, _≤_, _<_}
+use lib.ListN.{length, getD}
 
 -- by walking along the list: what stands at a place is taken, or passed over, and then those behind it
 pub data SomeOf {A : Type 0} : List A → List A → Type 0 where
@@ -16,8 +16,14 @@ abbrev pub Rising : ℕ → List ℕ → Type 0
 Rising least [] = Unit {0}
 Rising least (p ∷ ps) = (least ≤ p) × Rising (suc p) ps
 
--- by the places: they rise, so none is used twice, and what is taken stands there
+-- places of a list with so many
+abbrev pub Below : ℕ → List ℕ → Type 0
+Below n [] = Unit {0}
+Below n (p ∷ ps) = (p < n) × Below n ps
+
+-- by the places: they rise, so none is used twice, each is one of the list, and what is taken stands there
 pub record Placed {A : Type 0} (d : A) (xs ys : List A) : Type 0 where
   pub places : List ℕ
   pub rising : Rising 0 places
+  pub below : Below (length ys) places
   pub there : xs ≡ map (λ p. getD ys p d) places

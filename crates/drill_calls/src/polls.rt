@@ -87,7 +87,7 @@ fn timer_over(
     out: &mut [u8],
 ) -> Ran {
     let desired = PollInterval(v.signed8(key::DESIRED));
-    let done = timer::timer_owned(
+    let done = timer::timer_core(
         a,
         v.number(key::NOW),
         desired,

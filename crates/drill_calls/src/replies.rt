@@ -158,7 +158,7 @@ fn judged(
     let t1 = NtpTimestamp(v.number(key::T1));
     let t4 = NtpTimestamp(v.number(key::T4));
     let end = v.number(reply_key::AUTH) as usize;
-    let done = reply::reply_owned(a, packet, end, decrypted, list, t1, t4, v.number(key::NOW));
+    let done = reply::reply_core(a, packet, end, decrypted, list, t1, t4, v.number(key::NOW));
     answered(done, b"reply ", out)
 }
 
@@ -257,7 +257,7 @@ fn decoded_of(v: Values) -> DecodedReply {
 fn reply5_over(a: Association, v: Values, list: &[u8], out: &mut [u8]) -> Ran {
     let t1 = NtpTimestamp(v.number(key::T1));
     let t4 = NtpTimestamp(v.number(key::T4));
-    let done = reply::reply_decoded_owned(a, decoded_of(v), list, t1, t4, v.number(key::NOW));
+    let done = reply::reply_decoded_core(a, decoded_of(v), list, t1, t4, v.number(key::NOW));
     answered(done, b"reply5 ", out)
 }
 

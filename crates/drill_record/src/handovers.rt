@@ -30,7 +30,7 @@ fn put_saved(out: &mut [u8], answer: SaveAnswer, buffer: &[u8]) -> usize {
 
 // The association goes into a buffer of so many bytes, and comes back without its cookies where it did.
 fn saved(a: Association, buffer: &mut [u8], out: &mut [u8]) -> Ran {
-    let done = handover_save::save_owned(a, buffer);
+    let done = handover_save::save(a, buffer);
     let answer = done.answer;
     let end = put_saved(out, answer, buffer);
     let association = done.association;

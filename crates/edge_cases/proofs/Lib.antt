@@ -1,2 +1,4 @@
--- The theorem.
+-- The theorems.
 pub mod Holds
+pub mod Rules
+pub mod Written

@@ -113,10 +113,6 @@ Right (measured t1 t2 t3 t4 d o l) = (delayOf t1 t2 t3 t4 ≡ d) × (offsetOf t1
 Right (halved s h) = halfToZero s ≡ h
 Right (differ a b d) = difference a b ≡ d
 
-abbrev pub All : List Case → Type 0
-All [] = Unit {0}
-All (c ∷ cs) = Right c × All cs
-
 -- negsuc k is -1 - k
 abbrev pub table : List Case
 table =

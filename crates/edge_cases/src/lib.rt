@@ -1,2 +1,3 @@
-// The starred cases of RULES: one table of the definitions, under a single theorem. No code.
-// Rule: RULES, "Either side of each edge"; the table in specs/Table.antt, the theorem in proofs/Holds.antt.
+// Cases of RULES: tables of the definitions, each under a single theorem. No code.
+// Promises: the starred cases; either side of each other edge of the rules; packets, files, lists and comparisons byte by byte.
+// Rule: RULES, "Either side of each edge"; the tables in specs/Table.antt, Rules.antt and Written.antt, the theorems in proofs/.

@@ -3,4 +3,5 @@ pub mod Listing
 pub mod Told
 pub mod Numbers
 pub mod Files
+pub mod Exchanged
 pub mod Determined

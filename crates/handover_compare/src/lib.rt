@@ -113,16 +113,6 @@ fn entry(f: Field) -> [u8; 19]
     ]
 }
 
-// Copies bytes to an offset of the buffer, and gives the offset behind them.
-fn put(out: &mut [u8], at: usize, piece: &[u8]) -> usize
-    requires { ⌜ at + length (now piece) ≤ length (now out) ⌝ }
-    ensures { λ r. ⌜ Put (now (out .entry)) at (now (piece .entry)) r (now (out .exit)) ⌝ }
-{
-    let n = piece.len();
-    bytes::copy(piece, &mut out[at..]);
-    at + n
-}
-
 // The entry of a field, where it differs.
 fn put_field(out: &mut [u8], at: usize, f: Field) -> usize
     requires { ⌜ at + length (listBytes (differing (f ∷ []))) ≤ length (now out) ⌝ }
@@ -132,7 +122,7 @@ fn put_field(out: &mut [u8], at: usize, f: Field) -> usize
         return at;
     }
     let e = entry(f);
-    put(out, at, &e)
+    handover_save::lay(out, at, &e)
 }
 
 // The entries of eight fields.

@@ -9,4 +9,6 @@ pub mod Numbers
 pub mod Longest
 pub mod Again
 pub mod Emptied
+pub mod Lengths
+pub mod Retired
 pub mod Determined

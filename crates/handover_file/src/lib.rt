@@ -1,5 +1,5 @@
 // The hand-over file: what it is, byte by byte, and what its writer and its reader answer.
-// Promises (theorems): a written file is read as its record with nothing sent; records are equal exactly when their files are; no two files load as one record.
+// Promises (theorems): a written file is read as its record with nothing sent; whole records agree in all that is written exactly if their files are the same.
 // Rule: RULES, No. 6 and No. 14; definitions in specs/Sections.antt, specs/Cookies.antt, specs/File.antt and specs/Answers.antt, number by number in specs/Numbers.antt.
 use association::Association;
 ghost use mathlib.Core.Path.{_≡_};

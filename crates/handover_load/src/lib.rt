@@ -55,11 +55,13 @@ fn no_stash() -> Stashed
     }
 }
 
-// The reading place, the body's first byte.
-fn place_of(b: &[u8]) -> u8
-    requires { ⌜ 0 < length (now b) ⌝ }
+// The reading place, the body's first byte; 0 where there is none.
+pub fn place_of(b: &[u8]) -> u8
     ensures { λ r. ⌜ r ≡ getD (now (b .entry)) 0 0 ⌝ }
 {
+    if b.len() == 0 {
+        return 0;
+    }
     b[0]
 }
 
@@ -108,7 +110,7 @@ fn refused(answer: LoadAnswer) -> LoadOut
 }
 
 // The state that its four bodies are, with nothing pending.
-fn state_in(effort: &[u8], version: &[u8], polls: &[u8], source: &[u8]) -> State
+pub fn state_in(effort: &[u8], version: &[u8], polls: &[u8], source: &[u8]) -> State
     ensures { λ r. ⌜ r ≡ stateIn (now (effort .entry)) (now (version .entry)) (now (polls .entry)) (now (source .entry)) ⌝ }
 {
     let e = handover_groups::effort_of(effort);
@@ -126,7 +128,7 @@ fn state_in(effort: &[u8], version: &[u8], polls: &[u8], source: &[u8]) -> State
 }
 
 // Whether the start version or the version is of the retired kind.
-fn is_retired(settings: Settings, state: State) -> bool
+pub fn is_retired(settings: Settings, state: State) -> bool
     ensures { λ r. ⌜ r ≡ retired settings state ⌝ }
 {
     let start = settings.start;
@@ -138,7 +140,7 @@ fn is_retired(settings: Settings, state: State) -> bool
 }
 
 // The settings with V4 in place of the retired kind.
-fn settled_settings(mut s: Settings) -> Settings
+pub fn settled_settings(mut s: Settings) -> Settings
     ensures { λ r. ⌜ r ≡ settledSettings s ⌝ }
 {
     let given = s.start;
@@ -148,7 +150,7 @@ fn settled_settings(mut s: Settings) -> Settings
 }
 
 // The state with V4 in place of the retired kind.
-fn settled_state(mut s: State) -> State
+pub fn settled_state(mut s: State) -> State
     ensures { λ r. ⌜ r ≡ settledState s ⌝ }
 {
     let given = s.version;

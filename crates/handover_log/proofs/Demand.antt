@@ -1,37 +1,59 @@
--- Demand 3 of the association, from a loaded one: whatever a file is read as, nothing is pending.
+-- Demand 3 and No. 3 of the association, from a loaded one, of its logs and of runs of the code's calls: whatever a file is read as, nothing is pending and no reply was measured.
 -- Assumes nothing.
-use mathlib.Core.Path.{_≡_, refl}
+use mathlib.Core.Path.{_≡_, refl, ap}
+use mathlib.Core.Bool.{false}
 use mathlib.Core.List.{List}
 use mathlib.Core.Option.{none}
 use Prim.Native.Nat.{ℕ}
 use Rattle.words.proofs.Tests.{either}
+use Rattle.association.specs.declared.Association.{Association}
 use Rattle.association.specs.Record.{noPending, blankOf, wholeOf}
 use Rattle.handover_file.specs.declared.LoadOut.{LoadOut}
 use Rattle.handover_file.specs.Sections.{Cut, bodies, misplaced, missized, cutAs}
 use Rattle.handover_file.specs.File.{shapes, known, recordIn, settledState, settled}
 use Rattle.handover_file.specs.Answers.{loadIn, onCut, loadOf}
 use Rattle.log.specs.Log.{Accepted}
-use Rattle.log.specs.Machine.{Call, logOf}
+use Rattle.log.specs.Machine.{Call, Done, logged, run, after, logOf}
 use Rattle.log.specs.Demand.{Demand3}
+use Rattle.log.specs.Why.{Why}
 use Rattle.log.proofs.Strike.{demand3}
+use Rattle.log.proofs.Why.{why-told}
 use Rattle.association_log.specs.Association.{rule, pendingIn, machine}
 use Rattle.association_log.proofs.Obeys.{laws}
+use Rattle.association_log.proofs.Bridge.{Ran, ran-is-run}
 
-abbrev Nothing : LoadOut → Type 0
-Nothing o = pendingIn (o .association .state .request) ≡ none
+abbrev pub Nothing : LoadOut → Type 0
+Nothing o = (pendingIn (o .association .state .request) ≡ none) × (o .association .state .request .answered ≡ false)
 
-cut-pends-nothing : (c : Cut) → Nothing (onCut c)
+cut-nothing : (c : Cut) → Nothing (onCut c)
 unfolding loadIn recordIn settled settledState blankOf noPending
-cut-pends-nothing (bodies bs) = either Nothing (known bs) (λ k. either Nothing (wholeOf (settled (recordIn bs))) (λ e. refl) (λ e. refl)) (λ k. refl)
-cut-pends-nothing misplaced = refl
-cut-pends-nothing missized = refl
+cut-nothing (bodies bs) = either Nothing (known bs) (λ k. either Nothing (wholeOf (settled (recordIn bs))) (λ e. (refl, refl)) (λ e. (refl, refl))) (λ k. (refl, refl))
+cut-nothing misplaced = (refl, refl)
+cut-nothing missized = (refl, refl)
 
-pub load-pends-nothing : (f : List ℕ) → pendingIn (loadOf f .association .state .request) ≡ none
+pub load-nothing : (f : List ℕ) → Nothing (loadOf f)
 unfolding loadOf
-load-pends-nothing f = cut-pends-nothing (cutAs shapes f)
+load-nothing f = cut-nothing (cutAs shapes f)
 
 -- any log of accepted timers and well-formed replies from a loaded association
 pub loaded-demand3 : (f : List ℕ) (calls : List (Call rule)) →
     let a = loadOf f .association in
     Accepted (logOf machine a calls) → Demand3 machine a calls
-loaded-demand3 f calls ok = demand3 machine laws (loadOf f .association) calls (load-pends-nothing f) ok
+loaded-demand3 f calls ok = demand3 machine laws (loadOf f .association) calls (load-nothing f .0) ok
+
+-- any log at all from a loaded association says by itself why a reply had no live request
+pub loaded-why : (f : List ℕ) (calls : List (Call rule)) → Why machine (loadOf f .association) calls
+loaded-why f calls = why-told machine laws (loadOf f .association) calls (load-nothing f .0) (load-nothing f .1)
+
+-- and so of any run of the code's calls
+pub code-loaded-demand3 : (f : List ℕ) {b : Association} {cs : List (Call rule)} {ds : List (Done machine)} →
+    let a = loadOf f .association in
+    Ran a cs ds b → Accepted (logged machine ds) → (ds ≡ run machine a cs) × (b ≡ after machine a cs) × Demand3 machine a cs
+code-loaded-demand3 f {cs} r ok =
+    let k = ran-is-run r in
+    (k .0, k .1, loaded-demand3 f cs (rw (k .0) at ok))
+
+pub code-loaded-why : (f : List ℕ) {b : Association} {cs : List (Call rule)} {ds : List (Done machine)} →
+    let a = loadOf f .association in
+    Ran a cs ds b → (logged machine ds ≡ logOf machine a cs) × Why machine a cs
+code-loaded-why f {cs} r = (ap (logged machine) (ran-is-run r .0), loaded-why f cs)

@@ -1,2 +1,6 @@
--- Demand 3 from a loaded association.
+-- Logs from a loaded association, and logs that hold saves.
 pub mod Demand
+pub mod Saves
+pub mod Saving
+pub mod Cookies
+pub mod Carried

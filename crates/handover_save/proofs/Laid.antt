@@ -1,15 +1,18 @@
 -- Bytes put into a buffer, one piece behind the other, are the pieces put there at once.
 -- Assumes nothing.
 use Prim.Native.Nat.{ℕ, _+_, _-_, _≤_}
-use mathlib.Core.Path.{_≡_, sym, ap, _∙_}
+use mathlib.Core.Path.{_≡_, refl, sym, ap, _∙_}
+use mathlib.Core.Bool.{Bool, true, false}
 use mathlib.Core.List.{List, [], _++_, append-assoc, append-nil}
 use native.Mathlib.Nat.{zero-add}
 use native.Mathlib.Omega.{arith}
+use borrow.Author.Tests.{le-leb, lt-leb, leb-true, leb-false}
 use borrow.Rule.Slice.PartMut.{putMid}
+use lib.Dec.{leb}
 use lib.ListN.{length, take, drop, length-append, length-drop, take-append-drop, drop-of-length-le}
 use lib.Seq.{take-at, take-all, drop-at, drop-drop, length-take-le, take-length}
 use Rattle.handover_file.specs.Answers.{over}
-use Rattle.handover_save.specs.Put.{laidAt, Put}
+use Rattle.handover_save.specs.Put.{laidAt, Put, Laid, laid, layOf}
 
 -- what a copy into the buffer's end leaves
 pub put-is : (out piece ys : List ℕ) (at : ℕ) → at + length piece ≤ length out → ys ≡ take (length piece) piece ++ drop (length piece) (take (length out - at) (drop at out))
@@ -71,3 +74,28 @@ put-put {out = out} {p = p} {at = at} {r = r} w v a b h =
 
 pub put-long : {out p : List ℕ} {at r : ℕ} (w : List ℕ) → Put out at w r p → at + length w ≤ length out → length p ≡ length out
 put-long {out = out} {at = at} w a h = ap length (a .leaves) ∙ laid-length out at w h
+
+-- ---- what is laid: put where it fits, and else not
+
+module _ (out : List ℕ) (at : ℕ) (w : List ℕ) where
+  pub lays : {r : ℕ} {left : List ℕ} → at + length w ≤ length out → Put out at w r left → laid r left ≡ layOf out at w
+  unfolding layOf
+  lays h p = (λ i. laid (p .ends i) (p .leaves i)) ∙ sym (rw (le-leb (at + length w) (length out) h))
+
+  pub lays-not : leb (at + length w) (length out) ≡ false → laid at out ≡ layOf out at w
+  unfolding layOf
+  lays-not e = sym (rw e)
+
+  pub laid-put : {r : ℕ} {left : List ℕ} → laid r left ≡ layOf out at w → at + length w ≤ length out → Put out at w r left
+  unfolding layOf
+  laid-put {r = r} {left = left} e h =
+      let k : laid r left ≡ laid (at + length w) (laidAt out at w) = e ∙ rw (le-leb (at + length w) (length out) h) in
+      record { ends = ap (λ (l : Laid). l .ends) k; leaves = ap (λ (l : Laid). l .left) k }
+
+-- the test of a room: so many bytes, and then the offset
+pub fits-by : (at n room : ℕ) → n ≤ room → leb at (room - n) ≡ leb (at + n) room
+fits-by at n room h = by (leb (at + n) room) refl
+  where
+    by : (b : Bool) → leb (at + n) room ≡ b → leb at (room - n) ≡ b
+    by true p = le-leb at (room - n) (omega (arith, leb-true (at + n) room p))
+    by false p = lt-leb at (room - n) (omega (arith, leb-false (at + n) room p))

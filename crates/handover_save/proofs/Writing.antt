@@ -2,8 +2,10 @@
 -- Assumes nothing.
 use Prim.Native.Nat.{ℕ, zero, suc, _+_, _-_, _*_, _≤_, _<_}
 use mathlib.Core.Path.{_≡_, refl, sym, ap, subst, _∙_}
+use mathlib.Core.Bool.{false}
 use mathlib.Core.List.{List, [], _∷_, _++_, map, append-assoc}
 use native.Mathlib.Omega.{arith}
+use lib.Dec.{leb}
 use lib.ListN.{length, take, length-append}
 use lib.Seq.{length-take-le}
 use Rattle.words.specs.Bytes.{toBe}
@@ -19,11 +21,11 @@ use Rattle.association.specs.declared.State.{State}
 use Rattle.handover_groups.specs.Settings.{settingsBytes}
 use Rattle.handover_groups.specs.State.{effortBytes, versionBytes, pollsBytes, sourceBytes}
 use Rattle.handover_groups.proofs.OfSettings.{settings-long}
-use Rattle.handover_groups.proofs.OfState.{effort-long, version-long, polls-long}
+use Rattle.handover_groups.proofs.OfState.{effort-long, version-long, polls-long, source-long}
 use Rattle.handover_file.specs.Sections.{recordOf}
 use Rattle.handover_file.specs.Cookies.{cookieBytes, cookiesBytes, stashBytes}
-use Rattle.handover_save.specs.Put.{laidAt, Put, headOf, stateRecords, groupsFile}
-use Rattle.handover_save.proofs.Laid.{laid-none, laid-on, put-put, put-long}
+use Rattle.handover_save.specs.Put.{laidAt, Put, headOf, stateRecords, groupsFile, laid, layOf}
+use Rattle.handover_save.proofs.Laid.{laid-none, laid-on, put-put, put-long, lays, lays-not}
 
 -- ---- one cookie
 
@@ -206,3 +208,28 @@ file-put settings s state {f = f} e {o = o} {o₁ = o₁} {o₃ = o₃} {r₁ = 
     let k₂ : r₁ + length (recordOf 0x5354 (stashBytes (settings .capacity) s)) ≤ length o₁ = omega (arith, a .ends) in
     subst (λ (w : List ℕ). Put o 0 (recordOf 0x5345 w ++ (recordOf 0x5354 (stashBytes (settings .capacity) s) ++ stateRecords state)) r₃ o₃) e
     (put-put (recordOf 0x5345 f) (recordOf 0x5354 (stashBytes (settings .capacity) s) ++ stateRecords state) a (put-put (recordOf 0x5354 (stashBytes (settings .capacity) s)) (stateRecords state) b c k₂) k₁)
+
+-- ---- records laid where they fit
+
+pub settings-record-long : (s : Settings) → length (recordOf 0x5345 (settingsBytes s)) ≡ 31
+settings-record-long s = record-long 0x5345 (settingsBytes s) ∙ ap (λ (j : ℕ). 4 + j) (settings-long s)
+
+pub state-records-long : (s : State) → length (stateRecords s) ≡ 28
+unfolding stateRecords
+state-records-long s =
+    simp (length-append, record-long, effort-long, version-long, polls-long, source-long)
+
+module _ (out : List ℕ) (at : ℕ) where
+  pub settings-lays : (s : Settings) {f : List ℕ} {r : ℕ} {left : List ℕ} → f ≡ settingsBytes s → at + 31 ≤ length out → Put out at (recordOf 0x5345 f) r left
+      → laid r left ≡ layOf out at (recordOf 0x5345 (settingsBytes s))
+  settings-lays s {r = r} {left = left} e h p =
+      lays out at (recordOf 0x5345 (settingsBytes s)) (omega (arith, settings-record-long s)) (subst (λ (f : List ℕ). Put out at (recordOf 0x5345 f) r left) e p)
+
+  pub settings-lays-not : (s : Settings) → leb (at + 31) (length out) ≡ false → laid at out ≡ layOf out at (recordOf 0x5345 (settingsBytes s))
+  settings-lays-not s e = lays-not out at (recordOf 0x5345 (settingsBytes s)) (ap (λ (n : ℕ). leb (at + n) (length out)) (settings-record-long s) ∙ e)
+
+  pub state-lays : (s : State) {r : ℕ} {left : List ℕ} → at + 28 ≤ length out → Put out at (stateRecords s) r left → laid r left ≡ layOf out at (stateRecords s)
+  state-lays s h p = lays out at (stateRecords s) (omega (arith, state-records-long s)) p
+
+  pub state-lays-not : (s : State) → leb (at + 28) (length out) ≡ false → laid at out ≡ layOf out at (stateRecords s)
+  state-lays-not s e = lays-not out at (stateRecords s) (ap (λ (n : ℕ). leb (at + n) (length out)) (state-records-long s) ∙ e)

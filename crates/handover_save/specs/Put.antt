@@ -2,7 +2,9 @@
 -- Assumes nothing.
 use Prim.Native.Nat.{ℕ, _+_}
 use mathlib.Core.Path.{_≡_}
+use mathlib.Core.Bool.{cond}
 use mathlib.Core.List.{List, _++_}
+use lib.Dec.{leb}
 use lib.ListN.{length, take, drop}
 use Rattle.words.specs.Bytes.{toBe}
 use Rattle.cookiestash.specs.declared.CookieStash.{CookieStash}
@@ -21,6 +23,18 @@ laidAt out at w = take at out ++ (w ++ drop (at + length w) out)
 pub record Put (out : List ℕ) (at : ℕ) (w : List ℕ) (end : ℕ) (left : List ℕ) : Type 0 where
   pub ends : end ≡ at + length w
   pub leaves : left ≡ laidAt out at w
+
+-- what laying bytes gives: the offset behind them, and the buffer
+pub record Laid : Type 0 where
+  pub ends : ℕ
+  pub left : List ℕ
+
+abbrev pub laid : ℕ → List ℕ → Laid
+laid r out = record { ends = r; left = out }
+
+-- where they do not fit nothing is written, and the offset itself comes back
+unfoldable pub layOf : List ℕ → ℕ → List ℕ → Laid
+layOf out at w = cond (leb (at + length w) (length out)) (laid (at + length w) (laidAt out at w)) (laid at out)
 
 abbrev pub headOf : ℕ → ℕ → List ℕ
 headOf mark len = toBe 2 mark ++ toBe 2 len

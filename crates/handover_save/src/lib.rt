@@ -11,19 +11,21 @@ use handover_file::SaveOut;
 ghost use mathlib.Core.Path.{_≡_};
 ghost use mathlib.Core.List.{_++_};
 ghost use Prim.Native.Nat.{_+_, _≤_, _<_};
+ghost use lib.Dec.{leb};
 ghost use lib.ListN.{length};
 ghost use Rattle.words.specs.Bytes.{toBe};
 ghost use Rattle.cookiestash.specs.Whole.{WholeSlot, Whole};
 ghost use Rattle.cookiestash.specs.Queue.{seen, cookies};
+ghost use Rattle.handover_groups.specs.Settings.{settingsBytes};
 ghost use Rattle.handover_file.specs.Sections.{recordOf};
 ghost use Rattle.handover_file.specs.Cookies.{cookieBytes, cookiesBytes, stashBytes, emptyAt};
-ghost use Rattle.handover_file.specs.Answers.{saved, handed, handedOf};
-ghost use Rattle.handover_save.specs.Put.{Put, headOf, stateRecords, groupsFile};
+ghost use Rattle.handover_file.specs.Answers.{handed, handedOf};
+ghost use Rattle.handover_save.specs.Put.{Put, laid, layOf, headOf, stateRecords, groupsFile};
 
 // The marks of the records: S E, S T, R E, V E, P O, S O.
 const SETTINGS_MARK: u16 = 0x5345;
 
-const STASH_MARK: u16 = 0x5354;
+pub const STASH_MARK: u16 = 0x5354;
 
 const EFFORT_MARK: u16 = 0x5245;
 
@@ -47,7 +49,7 @@ fn put(out: &mut [u8], at: usize, piece: &[u8]) -> usize
 }
 
 // The head of a record: its mark, and the length of its body.
-fn head(mark: u16, len: u16) -> [u8; 4]
+pub fn head(mark: u16, len: u16) -> [u8; 4]
     ensures { λ r. ⌜ r ≡ headOf mark len ⌝ }
 {
     let m = words::be16_bytes(mark);
@@ -149,6 +151,47 @@ fn put_file(out: &mut [u8], settings: Settings, s: CookieStash, state: State, le
     put_state(out, to, state)
 }
 
+// Whether so many bytes fit at an offset of a room.
+fn fits(room: usize, at: usize, n: usize) -> bool
+    ensures { λ r. ⌜ r ≡ leb (at + n) room ⌝ }
+{
+    if room < n {
+        return false;
+    }
+    at <= room - n
+}
+
+// Bytes go to an offset of the buffer, and the offset behind them comes back; where they do not fit nothing is written, and the offset itself comes back.
+pub fn lay(out: &mut [u8], at: usize, piece: &[u8]) -> usize
+    ensures { λ r. ⌜ laid r (now (out .exit)) ≡ layOf (now (out .entry)) at (now (piece .entry)) ⌝ }
+{
+    if !fits(out.len(), at, piece.len()) {
+        return at;
+    }
+    put(out, at, piece)
+}
+
+// The record of the settings, laid as `lay` does it.
+pub fn lay_settings(out: &mut [u8], at: usize, settings: Settings) -> usize
+    ensures { λ r. ⌜ laid r (now (out .exit)) ≡ layOf (now (out .entry)) at (recordOf 0x5345 (settingsBytes settings)) ⌝ }
+{
+    if !fits(out.len(), at, 31) {
+        return at;
+    }
+    let first = handover_groups::settings_bytes(settings);
+    put_record(out, at, SETTINGS_MARK, &first)
+}
+
+// The records of the state, laid as `lay` does it.
+pub fn lay_state(out: &mut [u8], at: usize, state: State) -> usize
+    ensures { λ r. ⌜ laid r (now (out .exit)) ≡ layOf (now (out .entry)) at (stateRecords state) ⌝ }
+{
+    if !fits(out.len(), at, 28) {
+        return at;
+    }
+    put_state(out, at, state)
+}
+
 // A stash with no cookie, at a reading place.
 fn emptied(read: usize) -> CookieStash
     ensures { λ r. ⌜ r ≡ emptyAt read ⌝ }
@@ -158,8 +201,8 @@ fn emptied(read: usize) -> CookieStash
     s
 }
 
-// Writes the file of an association of one's own, and hands the association back without its cookies: a cookie has one owner.
-pub fn save_owned(a: Association, buffer: &mut [u8]) -> SaveOut
+// Writes the file of an association, and hands the association back without its cookies: a cookie has one owner.
+pub fn save(a: Association, buffer: &mut [u8]) -> SaveOut
     ensures { λ r. ⌜ handed r (now (buffer .exit)) ≡ handedOf a (now (buffer .entry)) ⌝ }
 {
     if !a.whole() {
@@ -189,14 +232,4 @@ pub fn save_owned(a: Association, buffer: &mut [u8]) -> SaveOut
             state,
         },
     }
-}
-
-// Writes the file of the association that the caller lends, which is left without its cookies.
-pub fn save(a: &mut Association, buffer: &mut [u8]) -> SaveAnswer
-    ensures { λ r. ⌜ handed (saved r (now (a .exit))) (now (buffer .exit)) ≡ handedOf (now (a .entry)) (now (buffer .entry)) ⌝ }
-{
-    let old = *a;
-    let out = save_owned(old, buffer);
-    *a = out.association;
-    out.answer
 }

@@ -1,19 +1,24 @@
 -- A metered association answers any log as the plain one of the same settings and list does, and what is proved of logs from a new association is proved of its logs too (RULES, No. 11).
 -- Assumes nothing.
 use mathlib.Core.Path.{_≡_, ap, sym, _∙_}
-use mathlib.Core.List.{List}
+use mathlib.Core.List.{List, []}
 use Prim.Native.Nat.{ℕ}
 use Rattle.association.specs.declared.Settings.{Settings}
 use Rattle.association.specs.declared.Association.{Association}
 use Rattle.association.specs.New.{newOf}
 use Rattle.log.specs.Log.{Accepted}
-use Rattle.log.specs.Machine.{Call, Done, run, after, logOf}
+use Rattle.log.specs.Machine.{Call, Done, logged, run, after, logOf}
 use Rattle.log.specs.Demand.{Demand3}
+use Rattle.log.specs.Why.{Why}
 use Rattle.association_log.specs.Association.{rule, machine}
-use Rattle.association_log.proofs.Demand.{association-demand3}
+use Rattle.association_log.proofs.Demand.{association-demand3, association-why}
 use Rattle.association_log.proofs.Bridge.{Ran, ran-is-run}
 use Rattle.histories.specs.Rate.{CrateSame}
 use Rattle.histories.proofs.Rate.{new-same}
+use Rattle.cookie_order.specs.Some.{SomeOf, Placed}
+use Rattle.cookie_order.specs.Cookies.{storedFrom, handedOut}
+use Rattle.cookie_order.proofs.Some.{placed}
+use Rattle.cookie_order.proofs.Order.{cookie-order}
 use Rattle.metered.specs.Profile.{numberOf, profileOf, meteredOf}
 use Rattle.metered.proofs.Plain.{same-record, once-over-both}
 
@@ -31,12 +36,40 @@ module _ (s : Settings) (list : List ℕ) (met : numberOf (profileOf s list) ≡
       (done ≡ run machine (newOf s list .association) calls) × (b ≡ after machine (newOf s list .association) calls)
   code-same-run {calls} r = let k = ran-is-run r in let e = same-run calls in (k .0 ∙ e .0, k .1 ∙ e .1)
 
+  -- the order of the cookies (RULES, No. 14): those handed out are some of those stored, at places that rise
+  pub metered-cookie-order : (calls : List (Call rule)) → let done = run machine (meteredOf s list .association) calls in SomeOf (handedOut done) (storedFrom s list done)
+  metered-cookie-order calls = rw (same-run calls .0) (cookie-order s list calls)
+
+  pub metered-cookie-places : (calls : List (Call rule)) → let done = run machine (meteredOf s list .association) calls in Placed [] (handedOut done) (storedFrom s list done)
+  metered-cookie-places calls = placed [] (metered-cookie-order calls)
+
+  pub code-metered-cookie-order : {b : Association} {calls : List (Call rule)} {done : List (Done machine)} → Ran (meteredOf s list .association) calls done b →
+      SomeOf (handedOut done) (storedFrom s list done)
+  code-metered-cookie-order {calls} r = rw (code-same-run r .0) (cookie-order s list calls)
+
 -- demand 3 of the plain call is demand 3 of this one
 pub metered-demand3 : (s : Settings) (list : List ℕ) (calls : List (Call rule)) →
     let a = meteredOf s list .association in
     Accepted (logOf machine a calls) → Demand3 machine a calls
 metered-demand3 s list calls =
     once-over-both (λ (a : Association). Accepted (logOf machine a calls) → Demand3 machine a calls) (λ s list. association-demand3 s list calls) s list
+
+-- and so is what the log says of a reply without a live request (RULES, No. 3)
+pub metered-why : (s : Settings) (list : List ℕ) (calls : List (Call rule)) → Why machine (meteredOf s list .association) calls
+metered-why s list calls = once-over-both (λ (a : Association). Why machine a calls) (λ s list. association-why s list calls) s list
+
+-- both of any run of the code's calls
+pub code-metered-demand3 : (s : Settings) (list : List ℕ) {b : Association} {cs : List (Call rule)} {ds : List (Done machine)} →
+    let a = meteredOf s list .association in
+    Ran a cs ds b → Accepted (logged machine ds) → (ds ≡ run machine a cs) × (b ≡ after machine a cs) × Demand3 machine a cs
+code-metered-demand3 s list {cs} r ok =
+    let k = ran-is-run r in
+    (k .0, k .1, metered-demand3 s list cs (rw (k .0) at ok))
+
+pub code-metered-why : (s : Settings) (list : List ℕ) {b : Association} {cs : List (Call rule)} {ds : List (Done machine)} →
+    let a = meteredOf s list .association in
+    Ran a cs ds b → (logged machine ds ≡ logOf machine a cs) × Why machine a cs
+code-metered-why s list {cs} r = (ap (logged machine) (ran-is-run r .0), metered-why s list cs)
 
 -- and so it is with the crate's rule of RATE, which no log from either call tells from ours
 pub metered-same : (s : Settings) (list : List ℕ) (calls : List (Call rule)) → CrateSame (meteredOf s list .association) calls

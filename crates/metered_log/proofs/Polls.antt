@@ -83,11 +83,11 @@ last-least least false desired p h k = k
 -- ---- a log from any record
 
 -- what is kept along a log: no poll was below it, and neither is the remote minimum
-record Held (least : ℤ) (done : List (M.Done machine)) (a : Association) : Type 0 where
-  sparing : Sparing least done a
-  remote : least ≤ℤ remoteOf a
+pub record Held (least : ℤ) (done : List (M.Done machine)) (a : Association) : Type 0 where
+  pub sparing : Sparing least done a
+  pub remote : least ≤ℤ remoteOf a
 
-held-kept : (least : ℤ) (done : List (M.Done machine)) (a : Association) (c : M.Call rule) → Held least done a → Held least (done ++ M.made machine a c ∷ []) (M.step machine a c)
+pub held-kept : (least : ℤ) (done : List (M.Done machine)) (a : Association) (c : M.Call rule) → Held least done a → Held least (done ++ M.made machine a c ∷ []) (M.step machine a c)
 held-kept least done a (M.timer t) k =
     let r = rang a (t .poll) (length (t .buffer)) in
     let sent = eqb (timer.numberOf (timed a t .0 .0)) 20 in
@@ -146,16 +146,22 @@ new-sparing s list e calls =
 
 -- ---- a log from a metered association
 
--- over any log from the metered call that answered 0, no sent poll has a last poll below 8
+-- the metered call that answered 0 begins with both poll values at 8 or more
+pub metered-held : (s : Settings) (list : List ℕ) → numberOf (profileOf s list) ≡ 0 → Held (pos 8) [] (meteredOf s list .association)
+metered-held s list e =
+    let least : pos 8 ≤ℤ s .min .0 = ltZ-no (rw (settled s list e .brief .slow .min) tt) in
+    let p = ap (λ (a : Association). a .state .polls) (same-record s list e) ∙ new-polls s list (plain-made s list e) in
+    record {
+      sparing = record { sent = tt; last = subst (λ (q : Polls). pos 8 ≤ℤ q .last .0) (sym p) least };
+      remote = subst (λ (q : Polls). pos 8 ≤ℤ q .remote .0) (sym p) least;
+    }
+
+-- over any log from it no sent poll has a last poll below 8
 pub never-below-8 : (s : Settings) (list : List ℕ) → numberOf (profileOf s list) ≡ 0 → (calls : List (M.Call rule)) →
     let a = meteredOf s list .association in Sparing (pos 8) (M.run machine a calls) (M.after machine a calls)
 never-below-8 s list e calls =
-    let least : pos 8 ≤ℤ s .min .0 = ltZ-no (rw (settled s list e .brief .slow .min) tt) in
-    let p = ap (λ (a : Association). a .state .polls) (same-record s list e) ∙ new-polls s list (plain-made s list e) in
-    sparing-from (pos 8) (meteredOf s list .association)
-    (subst (λ (q : Polls). pos 8 ≤ℤ q .remote .0) (sym p) least)
-    (subst (λ (q : Polls). pos 8 ≤ℤ q .last .0) (sym p) least)
-    calls
+    let h = metered-held s list e in
+    sparing-from (pos 8) (meteredOf s list .association) (h .remote) (h .sparing .last) calls
 
 -- and over any run of the code's calls
 pub code-never-below-8 : (s : Settings) (list : List ℕ) → numberOf (profileOf s list) ≡ 0 → {b : Association} {calls : List (M.Call rule)} {done : List (M.Done machine)} →

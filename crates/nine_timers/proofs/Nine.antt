@@ -39,7 +39,7 @@ use Rattle.nine_timers.specs.Nine.{refused, timersIn, givesUp, GaveUp, N
 -- ---- eight shifts within 8 bits leave nothing
 
 -- so many shifts lead to a number
-data Shifts : ℕ → ℕ → Type 0 where
+pub data Shifts : ℕ → ℕ → Type 0 where
   none : {x : ℕ} → Shifts 0 x
   more : {k x : ℕ} → Shifts k x → Shifts (suc k) ((x * 2) % 256)
 
@@ -70,10 +70,10 @@ shifted-out s = let d = shifts-double s in omega (arith, d .sum, shifts-small s 
 -- ---- polls that were sent and not answered
 
 -- what k of them in a row leave, whatever was there before
-record Unheard (k : ℕ) (e : Effort) : Type 0 where
-  few : k ≤ 8
-  shifts : Shifts k (e .reach .0)
-  tries : k ≤ e .tries
+pub record Unheard (k : ℕ) (e : Effort) : Type 0 where
+  pub few : k ≤ 8
+  pub shifts : Shifts k (e .reach .0)
+  pub tries : k ≤ e .tries
 
 one-more : {k : ℕ} {e : Effort} → k < 8 → Unheard k e → Unheard (suc k) (polled e)
 unfolding polled
@@ -103,7 +103,7 @@ still-few {k} a w o u =
 -- ---- one call
 
 -- what a timer does beside k unanswered polls: it gives up, is refused and leaves the record, or counts one more
-data Turn (k : ℕ) (a : Association) : ℕ → TimerOut → Type 0 where
+pub data Turn (k : ℕ) (a : Association) : ℕ → TimerOut → Type 0 where
   gives-up : {n : ℕ} {o : TimerOut} → T (givesUp n) → Turn k a n o
   leaves : {n : ℕ} {o : TimerOut} → refused n ≡ true → o .association ≡ a → Turn k a n o
   counts : {n : ℕ} {o : TimerOut} → refused n ≡ false → Unheard (suc k) (o .association .state .effort) → Turn k a n o
@@ -113,7 +113,7 @@ module _ {k : ℕ} (a : Association) (i : TimerInput) (room : ℕ) (u : Unheard 
   tried : T.Tried a i room → Unheard (suc k) (polled (a .state .effort))
   tried t = one-more (still-few a (t .accepted .whole) (t .going) u) u
 
-  turned : {n : ℕ} {o : TimerOut} → T.Given a i room n o → Turn k a n o
+  pub turned : {n : ℕ} {o : TimerOut} → T.Given a i room n o → Turn k a n o
   unfolding triedOf sentOf
   turned (not-whole w) = leaves refl refl
   turned (short-buffer w s) = leaves refl refl
@@ -125,7 +125,7 @@ module _ {k : ℕ} (a : Association) (i : TimerInput) (room : ℕ) (u : Unheard 
   turned (sent-nts x z) = counts refl (tried (x .tried))
 
 -- a reply that is not measured leaves reach and tries
-unmeasured : {k : ℕ} (a : Association) (r : ReplyIn) → Unheard k (a .state .effort) → T (not (eqb (reply.numberOf (replied a r .0 .answer)) 0)) →
+pub unmeasured : {k : ℕ} (a : Association) (r : ReplyIn) → Unheard k (a .state .effort) → T (not (eqb (reply.numberOf (replied a r .0 .answer)) 0)) →
     Unheard k (M.step machine a (M.reply r) .state .effort)
 unmeasured {k} a r u z =
     let read = readAs (a .settings) (a .state .request) r in
@@ -134,37 +134,39 @@ unmeasured {k} a r u z =
 
 -- ---- a log from any record
 
-later : {D : log.Rule} (e : log.Entry D) {es : List (log.Entry D)} → GaveUp es → GaveUp (e ∷ es)
+pub later : {D : log.Rule} (e : log.Entry D) {es : List (log.Entry D)} → GaveUp es → GaveUp (e ∷ es)
 later e g = record { older = e ∷ g .older; newer = g .newer; poll = g .poll; number = g .number; parts = ap (λ (l : List (log.Entry _)). e ∷ l) (g .parts); gave-up = g .gave-up }
 
 -- after k polls that were sent and not answered, nine less k are enough
 abbrev Enough : ℕ → Association → List (M.Call rule) → Type 0
 Enough k a calls = NoZero (M.logOf machine a calls) → 9 ≤ k + timersIn (M.logOf machine a calls) → GaveUp (M.logOf machine a calls)
 
--- one timer, before calls of which it is known
-first : {k : ℕ} {a : Association} {n : ℕ} {o : TimerOut} (t : TimerIn) (cs : List (M.Call rule)) → Unheard k (a .state .effort) → Turn k a n o →
-    ((j : ℕ) → Unheard j (o .association .state .effort) → Enough j (o .association) cs) →
-    let es = M.logOf machine (o .association) cs in NoZero es → 9 ≤ k + timersIn (log.timed t n ∷ es) → GaveUp (log.timed t n ∷ es)
-first t cs u (gives-up g) rest z m = record { older = []; newer = _; poll = t; number = _; parts = refl; gave-up = g }
-first {k} {n} {o} t cs u (leaves r e) rest z m =
+-- one timer, before a log of which it is known
+pub first : {k : ℕ} {a : Association} {n : ℕ} {o : TimerOut} (t : TimerIn) (es : List (log.Entry rule)) → Unheard k (a .state .effort) → Turn k a n o →
+    ((j : ℕ) → Unheard j (o .association .state .effort) → 9 ≤ j + timersIn es → GaveUp es) → 9 ≤ k + timersIn (log.timed t n ∷ es) → GaveUp (log.timed t n ∷ es)
+first t es u (gives-up g) rest m = record { older = []; newer = es; poll = t; number = _; parts = refl; gave-up = g }
+first {k} t es u (leaves r e) rest m =
     let v = subst (λ (b : Association). Unheard k (b .state .effort)) (sym e) u in
-    later _ (rest k v z (omega (arith, m, when (timersIn (M.logOf machine (o .association) cs)) (suc (timersIn (M.logOf machine (o .association) cs))) r)))
-first {k} {n} {o} t cs u (counts r v) rest z m =
-    later _ (rest (suc k) v z (omega (arith, m, unless (timersIn (M.logOf machine (o .association) cs)) (suc (timersIn (M.logOf machine (o .association) cs))) r)))
+    later _ (rest k v (omega (arith, m, when (timersIn es) (suc (timersIn es)) r)))
+first {k} t es u (counts r v) rest m = later _ (rest (suc k) v (omega (arith, m, unless (timersIn es) (suc (timersIn es)) r)))
 
 enough : (calls : List (M.Call rule)) (k : ℕ) (a : Association) → Unheard k (a .state .effort) → Enough k a calls
 enough [] k a u z m = absurd (omega (arith, u .few))
 enough (M.timer t ∷ cs) k a u z m =
     let room = length (t .buffer) in
-    first t cs u (turned a (t .poll) room u (timer-numbers.given a (t .poll) room)) (λ j. enough cs j (M.step machine a (M.timer t))) (z .1) m
+    let b = M.step machine a (M.timer t) in
+    first t (M.logOf machine b cs) u (turned a (t .poll) room u (timer-numbers.given a (t .poll) room)) (λ j v. enough cs j b v (z .1)) m
 enough (M.reply r ∷ cs) k a u z m = later _ (enough cs k (M.step machine a (M.reply r)) (unmeasured a r u (z .0)) (z .1) m)
+
+-- nothing is asked of a record for its being the first of so many
+pub none-yet : (e : Effort) → Unheard 0 e
+none-yet e = record { few = omega arith; shifts = none; tries = omega arith }
 
 -- from any record, whole or not, whatever came before
 pub nine-timers : (a : Association) (calls : List (M.Call rule)) → NineTimers machine a calls
 nine-timers a calls before nine behind e z m =
     let s = stretch machine a calls before nine behind e in
-    let u : Unheard 0 (s .start .state .effort) = record { few = omega arith; shifts = none; tries = omega arith } in
-    rw (s .same) (enough (s .calls) 0 (s .start) u (rw (s .same) at z) (omega (arith, ap timersIn (s .same))))
+    rw (s .same) (enough (s .calls) 0 (s .start) (none-yet (s .start .state .effort)) (rw (s .same) at z) (omega (arith, ap timersIn (s .same))))
 
 -- and in the log of any run of the code's calls
 pub code-nine-timers : {a b : Association} {calls : List (M.Call rule)} {done : List (M.Done machine)} → Ran a calls done b →

@@ -9,8 +9,8 @@ use borrow.Fn.World.{ArgsD, ResD}
 use Rattle.words.specs.Determined.{Determined, DeterminedLent, PostOf}
 use Rattle.reply.proofs.reply as reply
 use Rattle.reply.proofs.reply_decoded as reply-decoded
-use Rattle.reply.proofs.reply_owned as reply-owned
-use Rattle.reply.proofs.reply_decoded_owned as reply-decoded-owned
+use Rattle.reply.proofs.reply_core.Reads as reply-core
+use Rattle.reply.proofs.reply_decoded_core.Reads as reply-decoded-core
 
 abbrev pub reply-post : (κs : Lfts 4) → ArgsD reply.signature κs → ResD reply.signature κs → AtExit reply.ended κs → Type 0
 reply-post =
@@ -22,24 +22,14 @@ reply-decoded-post =
     PostOf reply-decoded.ended (λ w. reply-decoded.clauses (w .𝓤) (w .H) (w .𝓖 .A) (w .𝓜 .mem) (w .𝓡 .run)) (λ w κs a. tt)
     (λ κs a y e. all-models _ (λ w. r-last _) (λ w. refl) (λ w. refl) (λ w. refl))
 
-abbrev pub reply-owned-post : (κs : Lfts 3) → ArgsD reply-owned.signature κs → ResD reply-owned.signature κs → AtExit reply-owned.ended κs → Type 0
-reply-owned-post =
-    PostOf reply-owned.ended (λ w. reply-owned.clauses (w .𝓤) (w .H) (w .𝓖 .A) (w .𝓜 .mem) (w .𝓡 .run)) (λ w κs a. tt)
-    (λ κs a y e. all-models _ (λ w. r-last _) (λ w. refl) (λ w. refl) (λ w. refl))
-
-abbrev pub reply-decoded-owned-post : (κs : Lfts 1) → ArgsD reply-decoded-owned.signature κs → ResD reply-decoded-owned.signature κs → AtExit reply-decoded-owned.ended κs → Type 0
-reply-decoded-owned-post =
-    PostOf reply-decoded-owned.ended (λ w. reply-decoded-owned.clauses (w .𝓤) (w .H) (w .𝓖 .A) (w .𝓜 .mem) (w .𝓡 .run)) (λ w κs a. tt)
-    (λ κs a y e. all-models _ (λ w. r-last _) (λ w. refl) (λ w. refl) (λ w. refl))
-
 pub reply-determined : DeterminedLent reply-post (λ κs e. now (e .0))
 reply-determined κs a y z e f p q = (p .0 ∙ sym (q .0), p .1 ∙ sym (q .1))
 
 pub reply-decoded-determined : DeterminedLent reply-decoded-post (λ κs e. now (e .0))
 reply-decoded-determined κs a y z e f p q = (p .0 ∙ sym (q .0), p .1 ∙ sym (q .1))
 
-pub reply-owned-determined : Determined reply-owned-post
-reply-owned-determined κs a y z e f p q = p ∙ sym q
+pub reply-core-determined : Determined reply-core.Post
+reply-core-determined κs a y z e f p q = p ∙ sym q
 
-pub reply-decoded-owned-determined : Determined reply-decoded-owned-post
-reply-decoded-owned-determined κs a y z e f p q = p ∙ sym q
+pub reply-decoded-core-determined : Determined reply-decoded-core.Post
+reply-decoded-core-determined κs a y z e f p q = p ∙ sym q

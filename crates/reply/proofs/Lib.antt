@@ -3,6 +3,6 @@ pub mod Numbers
 pub mod Why
 pub mod After
 pub mod Kept
-pub mod Thin
 pub mod Eight
+pub mod Measured
 pub mod Determined

@@ -1,14 +1,15 @@
-// The reply: both forms of the call, on a record that the caller lends and on one of its own.
+// The reply, in both forms. The cores go over a record by value; above them thin calls update the record that the caller lends.
 // Promises: each number exactly under its rule, and the next record; a whole record stays whole, and a refusal leaves it as it was.
 // Rule: RULES, part 11 and No. 5; definitions in specs/Reply.antt, number by number in specs/Numbers.antt.
 use association::Association;
 use cookiestash::Dropped;
 use incoming::DecodedReply;
 use reply_rules::ReplyAnswer;
+use reply_rules::Verdict;
 use time_types::NtpTimestamp;
 ghost use mathlib.Core.Path.{_≡_};
 ghost use Rattle.reply_clauses.specs.After.{arrival};
-ghost use Rattle.reply.specs.Reply.{replyOf, replyDecodedOf};
+ghost use Rattle.reply.specs.Reply.{judged, replyOf, replyDecodedOf};
 
 // What a caller is told of a reply: its answer, and what fell out of the stash while the reply's cookies were stored.
 pub struct Replied {
@@ -22,9 +23,36 @@ pub struct ReplyOut {
     pub association: Association,
 }
 
-// The byte form (V3, V4) on a record that the caller lends: it is updated, where it lies. Copied are its settings, its state, and the cookies that are stored.
-pub fn reply(
-    a: &mut Association,
+// What was judged is done: the next state is stored, and where cookies are stored those of the list go into the stash.
+fn judged(a: Association, verdict: Verdict, list: &[u8]) -> ReplyOut
+    ensures { λ r. ⌜ r ≡ judged a (now (list .entry)) verdict ⌝ }
+{
+    let answer = verdict.answer;
+    let state = verdict.state;
+    let mut next = a;
+    next.state = state;
+    if verdict.stores {
+        let settings = a.settings;
+        let stash = a.stash;
+        let stored = stash.store_list(settings.capacity, list);
+        let dropped = stored.dropped;
+        let filled = stored.stash;
+        next.stash = filled;
+        return ReplyOut {
+            replied: Replied { answer, dropped },
+            association: next,
+        };
+    }
+    let dropped = Dropped::none();
+    ReplyOut {
+        replied: Replied { answer, dropped },
+        association: next,
+    }
+}
+
+// The byte form (V3, V4), on a record by value.
+pub fn reply_core(
+    a: Association,
     packet: &[u8],
     end: usize,
     decrypted: &[u8],
@@ -32,11 +60,12 @@ pub fn reply(
     t1: NtpTimestamp,
     t4: NtpTimestamp,
     time: u64,
-) -> Replied
-    ensures { λ r. ⌜ (r ≡ replyOf (now (a .entry)) (now (packet .entry)) end (now (decrypted .entry)) (arrival (now (list .entry)) t1 t4 time) .replied) × (now (a .exit) ≡ replyOf (now (a .entry)) (now (packet .entry)) end (now (decrypted .entry)) (arrival (now (list .entry)) t1 t4 time) .association) ⌝ }
+) -> ReplyOut
+    ensures { λ r. ⌜ r ≡ replyOf a (now (packet .entry)) end (now (decrypted .entry)) (arrival (now (list .entry)) t1 t4 time) ⌝ }
 {
     let settings = a.settings;
-    let seen = lent_stash::see(&a.stash, settings.capacity);
+    let stash = a.stash;
+    let seen = stash.seen(settings.capacity);
     let state = a.state;
     let verdict = reply_rules::judge_packet(
         settings,
@@ -50,15 +79,48 @@ pub fn reply(
         t4,
         time,
     );
-    a.state = verdict.state;
-    let dropped = lent_stash::refill(&mut a.stash, settings.capacity, verdict.stores, list);
-    Replied {
-        answer: verdict.answer,
-        dropped,
-    }
+    judged(a, verdict, list)
 }
 
-// The decoded form (V5 only) on a record that the caller lends.
+// The decoded form (V5 only), on a record by value.
+pub fn reply_decoded_core(
+    a: Association,
+    d: DecodedReply,
+    list: &[u8],
+    t1: NtpTimestamp,
+    t4: NtpTimestamp,
+    time: u64,
+) -> ReplyOut
+    ensures { λ r. ⌜ r ≡ replyDecodedOf a d (arrival (now (list .entry)) t1 t4 time) ⌝ }
+{
+    let settings = a.settings;
+    let stash = a.stash;
+    let seen = stash.seen(settings.capacity);
+    let state = a.state;
+    let verdict = reply_rules::judge_decoded(settings, state, seen, d, list, t1, t4, time);
+    judged(a, verdict, list)
+}
+
+// The byte form: the association that the caller lends is updated.
+pub fn reply(
+    a: &mut Association,
+    packet: &[u8],
+    end: usize,
+    decrypted: &[u8],
+    list: &[u8],
+    t1: NtpTimestamp,
+    t4: NtpTimestamp,
+    time: u64,
+) -> Replied
+    ensures { λ r. ⌜ (r ≡ replyOf (now (a .entry)) (now (packet .entry)) end (now (decrypted .entry)) (arrival (now (list .entry)) t1 t4 time) .replied) × (now (a .exit) ≡ replyOf (now (a .entry)) (now (packet .entry)) end (now (decrypted .entry)) (arrival (now (list .entry)) t1 t4 time) .association) ⌝ }
+{
+    let old = *a;
+    let out = reply_core(old, packet, end, decrypted, list, t1, t4, time);
+    *a = out.association;
+    out.replied
+}
+
+// The decoded form: the association that the caller lends is updated.
 pub fn reply_decoded(
     a: &mut Association,
     d: DecodedReply,
@@ -69,54 +131,8 @@ pub fn reply_decoded(
 ) -> Replied
     ensures { λ r. ⌜ (r ≡ replyDecodedOf (now (a .entry)) d (arrival (now (list .entry)) t1 t4 time) .replied) × (now (a .exit) ≡ replyDecodedOf (now (a .entry)) d (arrival (now (list .entry)) t1 t4 time) .association) ⌝ }
 {
-    let settings = a.settings;
-    let seen = lent_stash::see(&a.stash, settings.capacity);
-    let state = a.state;
-    let verdict = reply_rules::judge_decoded(settings, state, seen, d, list, t1, t4, time);
-    a.state = verdict.state;
-    let dropped = lent_stash::refill(&mut a.stash, settings.capacity, verdict.stores, list);
-    Replied {
-        answer: verdict.answer,
-        dropped,
-    }
-}
-
-// The same call on a record of one's own.
-pub fn reply_owned(
-    a: Association,
-    packet: &[u8],
-    end: usize,
-    decrypted: &[u8],
-    list: &[u8],
-    t1: NtpTimestamp,
-    t4: NtpTimestamp,
-    time: u64,
-) -> ReplyOut
-    ensures { λ r. ⌜ r ≡ replyOf a (now (packet .entry)) end (now (decrypted .entry)) (arrival (now (list .entry)) t1 t4 time) ⌝ }
-{
-    let mut u = a;
-    let replied = reply(&mut u, packet, end, decrypted, list, t1, t4, time);
-    ReplyOut {
-        replied,
-        association: u,
-    }
-}
-
-// The same call on a record of one's own.
-pub fn reply_decoded_owned(
-    a: Association,
-    d: DecodedReply,
-    list: &[u8],
-    t1: NtpTimestamp,
-    t4: NtpTimestamp,
-    time: u64,
-) -> ReplyOut
-    ensures { λ r. ⌜ r ≡ replyDecodedOf a d (arrival (now (list .entry)) t1 t4 time) ⌝ }
-{
-    let mut u = a;
-    let replied = reply_decoded(&mut u, d, list, t1, t4, time);
-    ReplyOut {
-        replied,
-        association: u,
-    }
+    let old = *a;
+    let out = reply_decoded_core(old, d, list, t1, t4, time);
+    *a = out.association;
+    out.replied
 }

@@ -3,4 +3,5 @@ pub mod Placing
 pub mod Sizes
 pub mod Fitting
 pub mod Longest
+pub mod Numbers
 pub mod Determined

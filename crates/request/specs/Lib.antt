@@ -2,3 +2,4 @@
 pub mod Extension
 pub mod Request
 pub mod Answer
+pub mod Numbers

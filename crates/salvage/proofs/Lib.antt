@@ -6,4 +6,5 @@ pub mod Clean
 pub mod Undamaged
 pub mod Twice
 pub mod Answers
+pub mod Gaps
 pub mod Determined

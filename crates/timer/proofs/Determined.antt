@@ -12,20 +12,15 @@ use Rattle.words.specs.Determined.{DeterminedLent, PostOf}
 use Rattle.association.specs.declared.Association.{Association}
 use Rattle.timer.specs.Timer.{Timed}
 use Rattle.timer.proofs.timer as timer
-use Rattle.timer.proofs.timer_owned as timer-owned
+use Rattle.timer.proofs.timer_core.Reads as timer-core
 
 abbrev pub timer-post : (κs : Lfts 2) → ArgsD timer.signature κs → ResD timer.signature κs → AtExit timer.ended κs → Type 0
 timer-post =
     PostOf timer.ended (λ w. timer.clauses (w .𝓤) (w .H) (w .𝓖 .A) (w .𝓜 .mem) (w .𝓡 .run)) (λ w κs a. tt)
     (λ κs a y e. all-models _ (λ w. r-last _) (λ w. refl) (λ w. refl) (λ w. refl))
 
-abbrev pub timer-owned-post : (κs : Lfts 1) → ArgsD timer-owned.signature κs → ResD timer-owned.signature κs → AtExit timer-owned.ended κs → Type 0
-timer-owned-post =
-    PostOf timer-owned.ended (λ w. timer-owned.clauses (w .𝓤) (w .H) (w .𝓖 .A) (w .𝓜 .mem) (w .𝓡 .run)) (λ w κs a. tt)
-    (λ κs a y e. all-models _ (λ w. r-last _) (λ w. refl) (λ w. refl) (λ w. refl))
-
 pub timer-determined : DeterminedLent {S = Association × List ℕ} timer-post (λ κs e. (now (e .0), now (e .1 .1 .1 .1 .1 .0)))
 timer-determined κs a y z e f p q = let e = p ∙ sym q in (ap (λ (t : Timed). t .gives .answer) e, ap (λ (t : Timed). (t .gives .association, t .left)) e)
 
-pub timer-owned-determined : DeterminedLent timer-owned-post (λ κs e. now (e .1 .1 .1 .1 .1 .0))
-timer-owned-determined κs a y z e f p q = let e = p ∙ sym q in (ap (λ (t : Timed). t .gives) e, ap (λ (t : Timed). t .left) e)
+pub timer-core-determined : DeterminedLent timer-core.Post (λ κs e. now (e .1 .1 .1 .1 .1 .0))
+timer-core-determined κs a y z e f p q = let e = p ∙ sym q in (ap (λ (t : Timed). t .gives) e, ap (λ (t : Timed). t .left) e)

@@ -7,7 +7,7 @@ use Prim.Native.Nat.{ℕ}
 use lib.ListN.{length}
 use Rattle.cookiestash.specs.Stash.{getOf}
 use Rattle.cookiestash.specs.Whole.{seenOf}
-use Rattle.lent_stash.specs.Lent.{wrote}
+use Rattle.cookiestash.specs.Handed.{wrote}
 use Rattle.association.specs.declared.Association.{Association}
 use Rattle.timer_rules.specs.declared.Decision.{Decision}
 use Rattle.timer_rules.specs.declared.TimerInput.{TimerInput}

@@ -2,6 +2,6 @@
 pub mod Numbers
 pub mod After
 pub mod Kept
-pub mod Thin
+pub mod Core
 pub mod Eight
 pub mod Determined

@@ -4,9 +4,10 @@ use mathlib.Core.Bool.{cond}
 use mathlib.Core.List.{List}
 use Prim.Native.Nat.{ℕ}
 use lib.ListN.{length}
+use Rattle.cookiestash.specs.declared.Slot.{Slot}
 use Rattle.cookiestash.specs.Stash.{getOf}
 use Rattle.cookiestash.specs.Whole.{seenOf}
-use Rattle.lent_stash.specs.Lent.{wrote}
+use Rattle.cookiestash.specs.Handed.{wrote}
 use Rattle.association.specs.declared.Association.{Association}
 use Rattle.timer_rules.specs.declared.Decision.{Decision}
 use Rattle.timer_rules.specs.declared.TimerAnswer.{TimerAnswer}
@@ -17,6 +18,10 @@ use Rattle.timer.specs.declared.TimerOut.{TimerOut}
 
 abbrev pub out : TimerAnswer → Association → TimerOut
 out r a = record { answer = r; association = a }
+
+-- the cookie that is taken
+abbrev pub oldest : Association → Slot
+oldest a = getOf (a .settings .capacity) (a .stash) .slot
 
 -- the record after a decision: the settings, the stash without its oldest cookie where that is taken, and the next state
 abbrev pub decided : Association → Decision → TimerOut
@@ -37,7 +42,7 @@ handed NotWhole = 0
 
 -- only 20 with NTS writes to the buffer
 unfoldable pub bufferOf : Association → TimerInput → List ℕ → List ℕ
-bufferOf a i buffer = wrote (getOf (a .settings .capacity) (a .stash) .slot .bytes) (handed (timerOf a i (length buffer) .answer)) buffer
+bufferOf a i buffer = wrote (oldest a .bytes) (handed (timerOf a i (length buffer) .answer)) buffer
 
 -- all that a call gives: its answer with the next record, and what is left in the buffer
 pub record Timed : Type 0 where

@@ -1,13 +1,18 @@
-// The timer: a poll is sent, or the association gives up. The call is made on a record that the caller lends, or on one of its own.
+// The timer: a poll is sent, or the association gives up. The core goes over a record by value; above it a thin call updates the record that the caller lends.
 // Promises: each number exactly under its rule, the next record and every byte of the buffer; a whole record stays whole.
 // Rule: RULES, part 10; definitions in specs/Timer.antt, number by number in specs/Numbers.antt.
 use association::Association;
+use cookiestash::Slot;
 use time_types::PollInterval;
+use timer_rules::Decision;
 use timer_rules::TimerAnswer;
 use timer_rules::TimerInput;
 ghost use mathlib.Core.Path.{_≡_};
+ghost use mathlib.Core.Bool.{cond};
+ghost use Prim.Native.Nat.{min};
+ghost use Rattle.cookiestash.specs.Handed.{handedOf};
 ghost use Rattle.timer_rules.specs.Poll.{timerInput};
-ghost use Rattle.timer.specs.Timer.{out, timed, timedOf};
+ghost use Rattle.timer.specs.Timer.{out, oldest, decided, timed, timedOf};
 
 // What the timer gives: its answer, and the next record.
 pub struct TimerOut {
@@ -15,7 +20,74 @@ pub struct TimerOut {
     pub association: Association,
 }
 
-// The timer: the association that the caller lends is updated, where it lies. Copied are its settings, its state, and the bytes of a cookie that is handed out.
+fn least(a: usize, b: usize) -> usize
+    ensures { λ r. ⌜ r ≡ min a b ⌝ }
+{
+    if a <= b { a } else { b }
+}
+
+// The stored bytes of a cookie go to the start of the buffer, as many as it has room for.
+fn hand_out(slot: Slot, buffer: &mut [u8])
+    ensures { λ _. ⌜ now (buffer .exit) ≡ handedOf slot (now (buffer .entry)) ⌝ }
+{
+    let cookie = slot.bytes;
+    let n = least(cookiestash::stored_bytes(slot.len as usize), buffer.len());
+    bytes::copy(&cookie[0..n], buffer);
+}
+
+// What was decided is done: the next state is stored, and where a cookie is taken the oldest goes to the buffer.
+fn decided(a: Association, decision: Decision, buffer: &mut [u8]) -> TimerOut
+    ensures { λ r. ⌜ (r ≡ decided a decision) × (now (buffer .exit) ≡ cond (decision .takes) (handedOf (oldest a) (now (buffer .entry))) (now (buffer .entry))) ⌝ }
+{
+    let answer = decision.answer;
+    let state = decision.state;
+    let mut next = a;
+    next.state = state;
+    if decision.takes {
+        let settings = a.settings;
+        let stash = a.stash;
+        let taken = stash.get(settings.capacity);
+        let slot = taken.slot;
+        hand_out(slot, buffer);
+        let rest = taken.stash;
+        next.stash = rest;
+        return TimerOut {
+            answer,
+            association: next,
+        };
+    }
+    TimerOut {
+        answer,
+        association: next,
+    }
+}
+
+// The timer, on a record by value.
+pub fn timer_core(
+    a: Association,
+    time: u64,
+    desired: PollInterval,
+    id: u64,
+    uid: [u8; 32],
+    buffer: &mut [u8],
+) -> TimerOut
+    ensures { λ r. ⌜ timed r (now (buffer .exit)) ≡ timedOf a (timerInput time desired id uid) (now (buffer .entry)) ⌝ }
+{
+    let settings = a.settings;
+    let stash = a.stash;
+    let seen = stash.seen(settings.capacity);
+    let state = a.state;
+    let input = TimerInput {
+        time,
+        desired,
+        id,
+        uid,
+    };
+    let decision = timer_rules::decide(settings, state, seen, input, buffer.len());
+    decided(a, decision, buffer)
+}
+
+// The timer: the association that the caller lends is updated.
 pub fn timer(
     a: &mut Association,
     time: u64,
@@ -26,36 +98,8 @@ pub fn timer(
 ) -> TimerAnswer
     ensures { λ r. ⌜ timed (out r (now (a .exit))) (now (buffer .exit)) ≡ timedOf (now (a .entry)) (timerInput time desired id uid) (now (buffer .entry)) ⌝ }
 {
-    let settings = a.settings;
-    let seen = lent_stash::see(&a.stash, settings.capacity);
-    let state = a.state;
-    let input = TimerInput {
-        time,
-        desired,
-        id,
-        uid,
-    };
-    let decision = timer_rules::decide(settings, state, seen, input, buffer.len());
-    a.state = decision.state;
-    lent_stash::take(&mut a.stash, settings.capacity, decision.takes, buffer);
-    decision.answer
-}
-
-// The same call on a record of one's own.
-pub fn timer_owned(
-    a: Association,
-    time: u64,
-    desired: PollInterval,
-    id: u64,
-    uid: [u8; 32],
-    buffer: &mut [u8],
-) -> TimerOut
-    ensures { λ r. ⌜ timed r (now (buffer .exit)) ≡ timedOf a (timerInput time desired id uid) (now (buffer .entry)) ⌝ }
-{
-    let mut u = a;
-    let answer = timer(&mut u, time, desired, id, uid, buffer);
-    TimerOut {
-        answer,
-        association: u,
-    }
+    let old = *a;
+    let out = timer_core(old, time, desired, id, uid, buffer);
+    *a = out.association;
+    out.answer
 }

@@ -5,7 +5,7 @@ use mathlib.Core.Bool.{_||_, cond}
 use mathlib.Core.List.{List, [], _∷_}
 use Prim.Native.Nat.{ℕ}
 use lib.Dec.{eqb}
-use Rattle.association.specs.Actions.{Action, send, updateSystem, setTimer, demobilize, reset}
+use Rattle.association.specs.Actions.{Action, lastPoll, send, updateSystem, setTimer, demobilize, reset}
 use Rattle.timer_rules.specs.declared.TimerAnswer.{TimerAnswer}
 use Rattle.timer_rules.specs.declared.TimerAnswer.the-variants.{Sent, Reset, Demobilize, NoCookie, CookieTooLarge, ShortBuffer, NotWhole}
 
@@ -19,17 +19,17 @@ numberOf CookieTooLarge = 24
 numberOf ShortBuffer = 31
 numberOf NotWhole = 32
 
--- 20 is send, system update, timer; 22 demobilize; 21, 23 and 24 reset; others none
+-- 20 is send, system update, timer, by the last poll; 22 demobilize; 21, 23 and 24 reset; others none
 abbrev pub actionsOf : ℕ → List Action
 actionsOf n =
-    cond (eqb n 20) (send ∷ updateSystem ∷ setTimer ∷ [])
+    cond (eqb n 20) (send ∷ updateSystem ∷ setTimer lastPoll ∷ [])
     (cond (eqb n 22) (demobilize ∷ [])
     (cond (eqb n 21 || eqb n 23 || eqb n 24) (reset ∷ [])
     []))
 
 -- number by number
 pub record TimerActs (actions : ℕ → List Action) : Type 0 where
-  pub sent-20 : actions 20 ≡ send ∷ updateSystem ∷ setTimer ∷ []
+  pub sent-20 : actions 20 ≡ send ∷ updateSystem ∷ setTimer lastPoll ∷ []
   pub reset-21 : actions 21 ≡ reset ∷ []
   pub demobilize-22 : actions 22 ≡ demobilize ∷ []
   pub reset-23 : actions 23 ≡ reset ∷ []

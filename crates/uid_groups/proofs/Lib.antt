@@ -2,4 +2,5 @@
 pub mod Prefix
 pub mod Groups
 pub mod Uids
+pub mod Untrusted
 pub mod Determined

@@ -1,45 +1,7 @@
 //! What a connector with NTS does beside the association (RFC 8915): it keeps the keys and cookies of a key exchange, puts the authenticator (the 0404 field) behind a
 //! request, and opens those of a reply. The cipher, AES-SIV-CMAC-256, is nettle's; with the feature `nettle` off there is none.
+use reckonstile::{Opened, ShortScratch};
 use std::error::Error;
-
-/// What a reply is handed in with.
-pub struct Opened {
-    /// The authenticated end.
-    pub end: usize,
-    /// The decrypted fields.
-    pub decrypted: Vec<u8>,
-    /// The new cookies.
-    pub list: Vec<u8>,
-}
-
-const REFUSED: Opened = Opened { end: 0, decrypted: Vec::new(), list: Vec::new() };
-
-/// The extension fields of a V4 packet from byte 48 on, up to a tail of at most 24 bytes: place, type and length with the head. They end where one is broken, which the
-/// association sees by itself.
-fn fields(packet: &[u8]) -> impl Iterator<Item = (usize, u16, usize)> + '_ {
-    let mut at = 48;
-    std::iter::from_fn(move || {
-        let rest = packet.get(at..).filter(|rest| rest.len() > 24)?;
-        let length = usize::from(u16::from_be_bytes([rest[2], rest[3]]));
-        if length < 16 || length % 4 != 0 || length > rest.len() {
-            return None;
-        }
-        at += length;
-        Some((at - length, u16::from_be_bytes([rest[0], rest[1]]), length))
-    })
-}
-
-fn is_v4(packet: &[u8]) -> bool {
-    packet.len() >= 48 && packet[0] >> 3 & 7 == 4
-}
-
-/// A reply without NTS: a 0404 field is not to be met.
-pub fn plain(packet: &[u8]) -> Opened {
-    if is_v4(packet) && fields(packet).any(|(_, kind, _)| kind == 0x0404) {
-        return REFUSED;
-    }
-    Opened { end: 48, ..REFUSED }
-}
 
 #[cfg(not(feature = "nettle"))]
 mod cipher {
@@ -51,8 +13,11 @@ mod cipher {
         pub fn seal(&self, _: &[u8], _: &[u8], _: &[u8]) -> Vec<u8> {
             Vec::new()
         }
-        pub fn open(&self, _: &[u8], _: &[u8], _: &[u8]) -> Option<Vec<u8>> {
-            None
+    }
+    impl reckonstile::Open for Siv {
+        type Error = ();
+        fn open(&mut self, _: &[u8], _: &[u8], _: &[u8], _: &mut [u8]) -> Result<usize, ()> {
+            Err(())
         }
     }
 }
@@ -116,24 +81,40 @@ mod cipher {
             }
             out
         }
+    }
 
-        /// The text, where the tag is right.
-        pub fn open(&self, data: &[u8], nonce: &[u8], sealed: &[u8]) -> Option<Vec<u8>> {
-            let mut out = vec![0; sealed.len().checked_sub(TAG)?];
-            // SAFETY: each pointer has the bytes of its length, and `sealed` a tag more than `out`.
+    /// Why a field does not open.
+    pub enum Sealed {
+        /// It is shorter than a tag.
+        Short,
+        /// Its tag is another.
+        Tag,
+    }
+
+    impl reckonstile::Open for Siv {
+        type Error = Sealed;
+
+        fn open(&mut self, associated: &[u8], nonce: &[u8], ciphertext: &[u8], plain: &mut [u8]) -> Result<usize, Sealed> {
+            let length = ciphertext.len().checked_sub(TAG).ok_or(Sealed::Short)?;
+            let out = plain.get_mut(..length).ok_or(Sealed::Short)?;
+            // SAFETY: each pointer has the bytes of its length, and `ciphertext` a tag more than `out`.
             let right = unsafe {
                 nettle_siv_cmac_aes128_decrypt_message(
                     self,
                     nonce.len(),
                     nonce.as_ptr(),
-                    data.len(),
-                    data.as_ptr(),
+                    associated.len(),
+                    associated.as_ptr(),
                     out.len(),
                     out.as_mut_ptr(),
-                    sealed.as_ptr(),
+                    ciphertext.as_ptr(),
                 )
             };
-            (right == 1).then_some(out)
+            if right == 1 {
+                Ok(length)
+            } else {
+                Err(Sealed::Tag)
+            }
         }
     }
 }
@@ -188,32 +169,13 @@ impl Nts {
         Ok(())
     }
 
-    /// Opens each 0404 field of a reply, in order, as docs/CALLERS.md says: one that is broken or does not decrypt makes the authenticated end 0.
-    pub fn open(&self, packet: &[u8]) -> Opened {
-        let mut opened = Opened { end: 48, ..REFUSED };
-        if !is_v4(packet) {
-            return opened;
-        }
-        for (at, _, length) in fields(packet).filter(|field| field.1 == 0x0404) {
-            let Some(text) = self.opened(packet, at, length) else { return REFUSED };
-            // Its fields have to be whole by themselves, before they are put behind those of the field before.
-            if reckonstile::collect(&text, &mut vec![0; text.len()]).is_err() {
-                return REFUSED;
-            }
-            opened.end = at;
-            opened.decrypted.extend(text);
-        }
-        let mut list = vec![0; opened.decrypted.len()];
-        let length = reckonstile::collect(&opened.decrypted, &mut list).unwrap_or(0);
-        list.truncate(length);
-        Opened { list, ..opened }
-    }
-
-    fn opened(&self, packet: &[u8], at: usize, length: usize) -> Option<Vec<u8>> {
-        let body = packet.get(at + 4..at + length)?;
-        let number = |at: usize| Some(usize::from(u16::from_be_bytes([*body.get(at)?, *body.get(at + 1)?])));
-        let (nonce_len, sealed_len) = (number(0)?, number(2)?);
-        let start = 4 + nonce_len.next_multiple_of(4);
-        self.to_client.open(&packet[..at], body.get(4..4 + nonce_len)?, body.get(start..start + sealed_len)?)
+    /// Opens a reply. The two buffers are as long as the packet.
+    pub fn open<'a>(
+        &mut self,
+        packet: &'a [u8],
+        decrypted: &'a mut [u8],
+        list: &'a mut [u8],
+    ) -> Result<Opened<'a>, ShortScratch> {
+        Opened::walk(packet, &mut self.to_client, decrypted, list)
     }
 }

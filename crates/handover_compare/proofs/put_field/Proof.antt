@@ -4,6 +4,7 @@ use mathlib.Core.Path.{ap}
 use native.Mathlib.Omega.{arith}
 use denote.Ref.{now}
 use lib.ListN.{length}
+use Rattle.handover_save.proofs.Laid.{laid-put}
 use Rattle.compare_fields.proofs.Listed.{entry-long}
 use Rattle.handover_compare.proofs.Listing.{none-put, one-put, one-long}
 use borrow.Author.Needs.{needs}
@@ -16,17 +17,22 @@ returns c = none-put (c .before .before .args .f) (c .if1 .taken) (now (c .befor
 entry-requires : tie.Need-entry-requires
 entry-requires c κs = search needs
 
-slice-aggregate-put : tie.Need-slice-aggregate-put
-slice-aggregate-put c = search needs
+slice-aggregate-lay : tie.Need-slice-aggregate-lay
+slice-aggregate-lay c = search needs
 
-put-requires : tie.Need-put-requires
-put-requires c κs = let f = c .before .before .before .before .before .args .f in omega (arith, c .before .before .before .before .before .pre, one-long f (c .before .before .before .if1 .left), ap length (c .before .before .entry .ensures), entry-long f)
+lay-requires : tie.Need-lay-requires
+lay-requires c κs = search needs
 
 same-length : tie.Need-same-length
-same-length c = omega (arith, c .before .before .put .kept .0)
+same-length c = omega (arith, c .before .before .lay .kept .0)
 
 returns-2 : tie.Need-returns-2
-returns-2 c = one-put (c .before .before .before .before .before .before .before .before .args .f) (c .before .before .before .before .before .before .if1 .left) (c .before .before .before .before .before .entry .result) (c .before .before .before .before .before .entry .ensures) (c .before .before .put .ensures)
+returns-2 c =
+    let f = c .before .before .before .before .before .before .before .before .args .f in
+    let differs = c .before .before .before .before .before .before .if1 .left in
+    let e = c .before .before .before .before .before .entry .ensures in
+    let p = laid-put _ _ _ (c .before .before .lay .ensures) (omega (arith, c .before .before .before .before .before .before .before .before .pre, one-long f differs, ap length e, entry-long f)) in
+    one-put f differs (c .before .before .before .before .before .entry .result) e p
 
 pub put-field-spec : {M : Type 1} → statement M
 put-field-spec =
@@ -34,7 +40,7 @@ put-field-spec =
     (tie.spec
     returns
     entry-requires
-    slice-aggregate-put
-    put-requires
+    slice-aggregate-lay
+    lay-requires
     same-length
     returns-2)

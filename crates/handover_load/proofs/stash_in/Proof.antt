@@ -16,7 +16,7 @@ use Rattle.handover_cut.specs.declared.Held.the-variants.{One}
 use Rattle.handover_cut.specs.Steps.{heldAt}
 use Rattle.handover_load.specs.Read.{stashedOf}
 use Rattle.handover_cut.proofs.Turn.{one-within}
-use Rattle.handover_load.proofs.Reading.{Reading, has-place, begun, no-place, reads-one, too-many, reads-end, never-broken}
+use Rattle.handover_load.proofs.Reading.{Reading, begun, no-place, reads-one, too-many, reads-end, never-broken}
 use Rattle.handover_load.proofs.stash_in.Statement.{statement}
 use Rattle.handover_load.proofs.stash_in.Tie as tie
 
@@ -38,7 +38,7 @@ new-requires : tie.Need-new-requires Inv-loop μ-loop
 new-requires c κs = search needs
 
 place-of-requires : tie.Need-place-of-requires Inv-loop μ-loop
-place-of-requires c κs = has-place _ (c .before .before .pre)
+place-of-requires c κs = search needs
 
 cast-read : tie.Need-cast-read Inv-loop μ-loop
 cast-read c = search needs

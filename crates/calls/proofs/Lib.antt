@@ -1,2 +1,0 @@
--- The laws that the walks of `calls` cite.
-pub mod Lent

@@ -1,5 +1,0 @@
--- Laws that belong to no one function.
-pub mod Thin
-pub mod After
-pub mod Sizes
-pub mod Determined

@@ -1,3 +1,0 @@
--- Laws of the exported comparison.
-pub mod Laws
-pub mod Determined

@@ -1,3 +1,0 @@
--- The laws of `embed_record`.
-pub mod Laws
-pub mod Determined

@@ -1,0 +1,4 @@
+-- The laws of `exports`.
+pub mod Tested
+pub mod After
+pub mod Determined

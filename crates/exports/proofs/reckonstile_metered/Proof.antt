@@ -1,0 +1,64 @@
+-- `reckonstile_metered` meets its contract: by whether the codes of the settings are of a kind.
+-- Assumes nothing.
+use Prim.Native.Nat.{ℕ}
+use mathlib.Core.Path.{ap, _∙_}
+use borrow.Author.Tests.{not-true, not-false}
+use Rattle.exports_values.specs.Answers.{newAnswer}
+use Rattle.exports.specs.Calls.{made, meteredAs}
+use Rattle.exports.proofs.Tested.{metered-none, metered-some}
+use borrow.Author.Needs.{needs}
+use Rattle.exports.proofs.reckonstile_metered.Statement.{statement}
+use Rattle.exports.proofs.reckonstile_metered.Tie as tie
+
+unpack-settings-requires : tie.Need-unpack-settings-requires
+unpack-settings-requires c κs = search needs
+
+blank-requires : tie.Need-blank-requires
+blank-requires c κs = search needs
+
+none-requires : tie.Need-none-requires
+none-requires c κs = search needs
+
+new-answer-requires : tie.Need-new-answer-requires
+new-answer-requires c κs = search needs
+
+same-length : tie.Need-same-length
+same-length c = search needs
+
+returns : tie.Need-returns
+returns c =
+    let a = c .before .before .before .before .before .before .before .before .before .before .before .args in
+    (λ i. made ((c .new-answer .ensures ∙ ap (newAnswer 30) (c .before .none .ensures)) i) (c .before .before .before .before .blank .ensures i)) ∙ metered-none (a .settings) (a .list .now) _ (c .before .before .before .before .before .before .before .before .unpack-settings .ensures) (not-true _ (c .before .before .before .before .before .before .if1 .taken)) (a .bytes .now)
+
+metered-requires : tie.Need-metered-requires
+metered-requires c κs = search needs
+
+number-requires : tie.Need-number-requires
+number-requires c κs = search needs
+
+new-answer-requires-2 : tie.Need-new-answer-requires-2
+new-answer-requires-2 c κs = search needs
+
+same-length-2 : tie.Need-same-length-2
+same-length-2 c = search needs
+
+returns-2 : tie.Need-returns-2
+returns-2 c =
+    let a = c .before .before .before .before .before .before .before .before .before .before .before .before .before .args in
+    (λ i. made ((c .new-answer2 .ensures ∙ ap (λ (k : ℕ). newAnswer k (c .before .before .before .before .before .metered .result .dropped)) (c .before .number .ensures)) i) (c .before .before .before .before .before .metered .last .0)) ∙ ap meteredAs (c .before .before .before .before .before .metered .ensures) ∙ metered-some (a .settings) (a .list .now) _ (c .before .before .before .before .before .before .before .before .before .before .unpack-settings .ensures) (not-false _ (c .before .before .before .before .before .before .before .before .if1 .left)) (a .bytes .now)
+
+pub reckonstile-metered-spec : {M : Type 1} → statement M
+reckonstile-metered-spec =
+    tie.close
+    (tie.spec
+    unpack-settings-requires
+    blank-requires
+    none-requires
+    new-answer-requires
+    same-length
+    returns
+    metered-requires
+    number-requires
+    new-answer-requires-2
+    same-length-2
+    returns-2)

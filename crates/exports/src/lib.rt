@@ -1,0 +1,330 @@
+// What a caller from C or Rust links: the calls of the association, over a record in bytes that the caller lends, and the tools beside it.
+// Promises: each is the call behind it, its answer told in numbers and every lent byte as that call leaves it; any bytes at all are answered.
+// Rule: RULES, parts 7 and 10 to 12, and No. 1, No. 5, No. 6, No. 9 to No. 11 and No. 13; definitions in specs/Calls.antt, of the tools in exports_tools.
+use cookiestash::Dropped;
+use exports_tools::CCalendarAnswer;
+use exports_tools::CCompared;
+use exports_tools::CSalvaged;
+use exports_values::CDecoded;
+use exports_values::CField;
+use exports_values::CLoadAnswer;
+use exports_values::CNewAnswer;
+use exports_values::CReplied;
+use exports_values::CSettings;
+use exports_values::CState;
+use exports_values::CTimerAnswer;
+use exports_values::CUid;
+use exports_values::CWritten;
+use reply::Replied;
+use time_types::NtpTimestamp;
+use time_types::PollInterval;
+ghost use mathlib.Core.Path.{_≡_};
+ghost use lib.ListN.{length, replicate};
+ghost use Rattle.fields.specs.Field.{packetStep};
+ghost use Rattle.collector.specs.Collector.{collectOf, bufferOf as listed};
+ghost use Rattle.request.specs.Answer.{requestOf, bufferOf as requested};
+ghost use Rattle.timer_rules.specs.Poll.{timerInput};
+ghost use Rattle.reply_clauses.specs.After.{arrival};
+ghost use Rattle.accept.specs.Accept.{numberOf};
+ghost use Rattle.handover_file.specs.Answers.{loadOf};
+ghost use Rattle.record_bytes.specs.Record.{openedOf};
+ghost use Rattle.record_timer.specs.Timer.{timerCall};
+ghost use Rattle.record_reply.specs.Reply.{repliedCall, replyCall};
+ghost use Rattle.record_accept.specs.Accept.{acceptCall};
+ghost use Rattle.record_save.specs.Save.{saveCall};
+ghost use Rattle.record_load.specs.Load.{loadedBy};
+ghost use Rattle.salvage.specs.Salvage.{salvageOf, bufferOf as cleaned};
+ghost use Rattle.calendar.specs.Calendar.{checkOf};
+ghost use Rattle.calendar.specs.Plan.{planOf, bufferOf as planned};
+ghost use Rattle.handover_compare.specs.Answers.{compareOf, outOf};
+ghost use Rattle.exports_tools.specs.Told.{salvagedAs, checkedAs, plannedAs, comparedAs};
+ghost use Rattle.exports_values.specs.Codes.{sendIn};
+ghost use Rattle.exports_values.specs.Decoded.{decodedRead};
+ghost use Rattle.exports_values.specs.Answers.{bloomIn, collectedAs, requestedAs, fieldAs};
+ghost use Rattle.exports.specs.Calls.{made, madeBy, meteredBy, profiledOf, timed, timedAs, toldAs, replied, repliedAs};
+ghost use Rattle.exports.specs.Calls.{saved, savedBy, loaded, loadedAs, viewOf};
+
+// What the header that a program was compiled with has to say too.
+const REVISION: u32 = 0xBCF8_1C62;
+
+#[no_mangle]
+pub extern "C" fn reckonstile_revision() -> u32
+    ensures { λ r. ⌜ r ≡ 0xBCF81C62 ⌝ }
+{
+    REVISION
+}
+
+// The record becomes blank, every byte zero: 0.
+#[no_mangle]
+pub extern "C" fn reckonstile_blank(bytes: &mut [u8]) -> u32
+    ensures { λ r. ⌜ (r ≡ 0) × (now (bytes .exit) ≡ replicate (length (now (bytes .entry))) 0) ⌝ }
+{
+    record_new::blank(bytes);
+    0
+}
+
+// The bytes become a new association: 0. Blank where it is refused: 30, 33, 38; then 31 where they are not as many as the capacity asks for, and stay.
+#[no_mangle]
+pub extern "C" fn reckonstile_new(bytes: &mut [u8], settings: CSettings, list: &[u8]) -> CNewAnswer
+    ensures { λ r. ⌜ made r (now (bytes .exit)) ≡ madeBy settings (now (list .entry)) (now (bytes .entry)) ⌝ }
+{
+    let g = exports_values::unpack_settings(settings);
+    if !g.ok {
+        record_new::blank(bytes);
+        return exports_values::new_answer(30, Dropped::none());
+    }
+    let inner = g.settings;
+    let created = record_new::new(bytes, inner, list);
+    let told = created.answer;
+    let dropped = created.dropped;
+    exports_values::new_answer(told.number(), dropped)
+}
+
+// The bytes become a metered association: 0. Blank where it is refused: 30, 33 to 37; then 31 where they are not as many as the capacity asks for, and stay.
+#[no_mangle]
+pub extern "C" fn reckonstile_metered(
+    bytes: &mut [u8],
+    settings: CSettings,
+    list: &[u8],
+) -> CNewAnswer
+    ensures { λ r. ⌜ made r (now (bytes .exit)) ≡ meteredBy settings (now (list .entry)) (now (bytes .entry)) ⌝ }
+{
+    let g = exports_values::unpack_settings(settings);
+    if !g.ok {
+        record_new::blank(bytes);
+        return exports_values::new_answer(30, Dropped::none());
+    }
+    let inner = g.settings;
+    let created = record_new::metered(bytes, inner, list);
+    let told = created.answer;
+    let dropped = created.dropped;
+    exports_values::new_answer(told.number(), dropped)
+}
+
+// The number that `reckonstile_metered` gives where the bytes are as many as the capacity asks for; there is no record.
+#[no_mangle]
+pub extern "C" fn reckonstile_profile(settings: CSettings, list: &[u8]) -> u32
+    ensures { λ r. ⌜ r ≡ profiledOf settings (now (list .entry)) ⌝ }
+{
+    let g = exports_values::unpack_settings(settings);
+    if !g.ok {
+        return 30;
+    }
+    let inner = g.settings;
+    let told = metered::profile(inner, list);
+    let number = told.number();
+    number as u32
+}
+
+// The timer: 20 to 24, 31, 32.
+#[no_mangle]
+pub extern "C" fn reckonstile_timer(
+    bytes: &mut [u8],
+    time: u64,
+    desired: PollInterval,
+    id: u64,
+    uid: CUid,
+    buffer: &mut [u8],
+) -> CTimerAnswer
+    ensures { λ r. ⌜ timed r (now (bytes .exit)) (now (buffer .exit))
+        ≡ timedAs (timerCall (now (bytes .entry)) (timerInput time desired id (uid .bytes)) (now (buffer .entry))) ⌝ }
+{
+    let given = uid.bytes;
+    let answer = record_timer::timer(bytes, time, desired, id, given, buffer);
+    exports_values::timer_answer(answer)
+}
+
+fn told(out: Replied) -> CReplied
+    ensures { λ r. ⌜ r ≡ toldAs out ⌝ }
+{
+    let said = out.answer;
+    let dropped = out.dropped;
+    let answer = exports_values::reply_answer(said);
+    CReplied { answer, dropped }
+}
+
+// A reply of V3 or V4, as bytes: 0 to 14, 32, 33.
+#[no_mangle]
+pub extern "C" fn reckonstile_reply(
+    bytes: &mut [u8],
+    packet: &[u8],
+    end: usize,
+    decrypted: &[u8],
+    list: &[u8],
+    t1: NtpTimestamp,
+    t4: NtpTimestamp,
+    time: u64,
+) -> CReplied
+    ensures { λ r. ⌜ replied r (now (bytes .exit))
+        ≡ repliedAs (replyCall (now (bytes .entry)) (now (packet .entry)) end (now (decrypted .entry)) (arrival (now (list .entry)) t1 t4 time)) ⌝ }
+{
+    let out = record_reply::reply(bytes, packet, end, decrypted, list, t1, t4, time);
+    told(out)
+}
+
+// A reply of V5, decoded by the caller: the same numbers. One with a code of no kind cannot be decoded: 1, after the test of the record.
+#[no_mangle]
+pub extern "C" fn reckonstile_reply_decoded(
+    bytes: &mut [u8],
+    d: CDecoded,
+    list: &[u8],
+    t1: NtpTimestamp,
+    t4: NtpTimestamp,
+    time: u64,
+) -> CReplied
+    ensures { λ r. ⌜ replied r (now (bytes .exit))
+        ≡ repliedAs (repliedCall (now (bytes .entry)) (decodedRead d) (arrival (now (list .entry)) t1 t4 time)) ⌝ }
+{
+    if !exports_values::decoded_ok(d) {
+        let out = record_reply::undecodable(bytes);
+        return told(out);
+    }
+    let reply = exports_values::decoded_in(d);
+    let out = record_reply::reply_decoded(bytes, reply, list, t1, t4, time);
+    told(out)
+}
+
+// Whether the source may be used: 0, 40, 41, 42, 32. The record is only read.
+#[no_mangle]
+pub extern "C" fn reckonstile_accept(bytes: &[u8], stratum: u8, local: &[u32], bloom: u32) -> u32
+    ensures { λ r. ⌜ r ≡ numberOf (acceptCall (now (bytes .entry)) stratum (now (local .entry)) (bloomIn bloom)) ⌝ }
+{
+    let word = exports_values::bloom_in(bloom);
+    let answer = record_accept::accept(bytes, stratum, local, word);
+    let number = answer.number();
+    number as u32
+}
+
+// The record as a hand-over file, from the buffer's start on: 0, 32, 60. Its cookies are the file's then, and it comes back without them.
+#[no_mangle]
+pub extern "C" fn reckonstile_save(bytes: &mut [u8], out: &mut [u8]) -> CWritten
+    ensures { λ r. ⌜ saved r (now (bytes .exit)) (now (out .exit)) ≡ savedBy (saveCall (now (bytes .entry)) (now (out .entry))) ⌝ }
+{
+    let answer = record_save::save(bytes, out);
+    exports_values::saved(answer)
+}
+
+// The bytes become the association of a hand-over file, with nothing sent yet: 0, and whether a version of it was of the retired kind.
+// Blank where it is refused: 61, 62, 63; then 31 where they are not as many as its capacity asks for, and stay.
+#[no_mangle]
+pub extern "C" fn reckonstile_load(bytes: &mut [u8], file: &[u8]) -> CLoadAnswer
+    ensures { λ r. ⌜ loaded r (now (bytes .exit)) ≡ loadedAs (loadedBy (now (bytes .entry)) (loadOf (now (file .entry)))) ⌝ }
+{
+    let told = record_load::load(bytes, file);
+    exports_values::load_answer(told.number, told.retired)
+}
+
+// What a display or a log shows: 0, the settings and the state; or 32, and those of zeros.
+#[repr(C)]
+pub struct CView {
+    pub settings: CSettings,
+    pub state: CState,
+    pub number: u64,
+}
+
+// The settings and the state of a record as numbers; the record is only read.
+#[no_mangle]
+pub extern "C" fn reckonstile_look(bytes: &[u8]) -> CView
+    ensures { λ r. ⌜ r ≡ viewOf (openedOf (now (bytes .entry))) ⌝ }
+{
+    let found = record_bytes::open_record(bytes);
+    let inner = found.settings;
+    let old = found.state;
+    let settings = exports_values::pack_settings(inner);
+    let state = exports_values::pack_state(old);
+    if !found.ok {
+        return CView {
+            settings,
+            state,
+            number: 32,
+        };
+    }
+    CView {
+        settings,
+        state,
+        number: 0,
+    }
+}
+
+// The cookies among decrypted fields, as a list from the buffer's start on: 0, 1, 31.
+#[no_mangle]
+pub extern "C" fn reckonstile_collect(decrypted: &[u8], out: &mut [u8]) -> CWritten
+    ensures { λ r. ⌜ (r ≡ collectedAs (collectOf (now (decrypted .entry)) (length (now (out .entry)))))
+        × (now (out .exit) ≡ listed (now (decrypted .entry)) (now (out .entry))) ⌝ }
+{
+    let answer = collector::collect(decrypted, out);
+    exports_values::collected(answer)
+}
+
+// The request that a timer's 20 asks for, from the buffer's start on: 0, 50, 51, 52.
+#[no_mangle]
+pub extern "C" fn reckonstile_write_request(
+    kind: u8,
+    poll: PollInterval,
+    id: u64,
+    upgrademark: u64,
+    uid: CUid,
+    cookie: &[u8],
+    asked: u8,
+    out: &mut [u8],
+) -> CWritten
+    ensures { λ r. ⌜ (r ≡ requestedAs (requestOf (sendIn kind) poll id upgrademark (uid .bytes) (now (cookie .entry)) asked (length (now (out .entry)))))
+        × (now (out .exit) ≡ requested (sendIn kind) poll id upgrademark (uid .bytes) (now (cookie .entry)) asked (now (out .entry))) ⌝ }
+{
+    let send = exports_values::send_in(kind);
+    let bytes = uid.bytes;
+    let answer = request::write_request(send, poll, id, upgrademark, bytes, cookie, asked, out);
+    exports_values::requested(answer)
+}
+
+// What stands at an offset of a packet, so that nobody writes the walk over its fields again: 0, 1.
+#[no_mangle]
+pub extern "C" fn reckonstile_field_at(packet: &[u8], at: usize) -> CField
+    ensures { λ r. ⌜ r ≡ fieldAs (packetStep (now (packet .entry)) at) ⌝ }
+{
+    let step = fields::packet_field_at(packet, at);
+    exports_values::field(step)
+}
+
+// The clean list of a damaged one, from the buffer's start on: 0, 70.
+#[no_mangle]
+pub extern "C" fn reckonstile_salvage(list: &[u8], out: &mut [u8]) -> CSalvaged
+    ensures { λ r. ⌜ (r ≡ salvagedAs (salvageOf (now (list .entry)) (length (now (out .entry)))))
+        × (now (out .exit) ≡ cleaned (now (list .entry)) (now (out .entry))) ⌝ }
+{
+    exports_tools::salvage(list, out)
+}
+
+// The fields in which two hand-over files differ, from the buffer's start on: 0, 61 to 63, 71.
+#[no_mangle]
+pub extern "C" fn reckonstile_compare(left: &[u8], right: &[u8], out: &mut [u8]) -> CCompared
+    ensures { λ r. ⌜ (r ≡ comparedAs (compareOf (now (left .entry)) (now (right .entry)) (length (now (out .entry)))))
+        × (now (out .exit) ≡ outOf (now (left .entry)) (now (right .entry)) (now (out .entry))) ⌝ }
+{
+    exports_tools::compare(left, right, out)
+}
+
+// Whether a poll calendar is accepted: 0, 80 to 83.
+#[no_mangle]
+pub extern "C" fn reckonstile_check_calendar(
+    cap: u8,
+    starts: &[u16],
+    repeats: &[u16],
+) -> CCalendarAnswer
+    ensures { λ r. ⌜ r ≡ checkedAs (checkOf cap (now (starts .entry)) (now (repeats .entry))) ⌝ }
+{
+    exports_tools::check(cap, starts, repeats)
+}
+
+// The starts of a plan, from the buffer's start on: 0, 80, 81, 84, 31.
+#[no_mangle]
+pub extern "C" fn reckonstile_plan_calendar(
+    cap: u8,
+    repeats: &[u16],
+    starts: &mut [u16],
+) -> CCalendarAnswer
+    ensures { λ r. ⌜ (r ≡ plannedAs (planOf cap (now (repeats .entry)) (length (now (starts .entry)))))
+        × (now (starts .exit) ≡ planned cap (now (repeats .entry)) (now (starts .entry))) ⌝ }
+{
+    exports_tools::plan(cap, repeats, starts)
+}

@@ -1,0 +1,3 @@
+-- The laws of `exports_tools`.
+pub mod Laws
+pub mod Determined

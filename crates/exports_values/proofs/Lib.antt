@@ -1,0 +1,3 @@
+-- The laws of `exports_values`.
+pub mod Laws
+pub mod Determined

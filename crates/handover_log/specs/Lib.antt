@@ -1,0 +1,2 @@
+-- The association as a machine whose logs hold saves too.
+pub mod Saving

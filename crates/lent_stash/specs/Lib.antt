@@ -1,2 +1,0 @@
--- The definitions that the contracts of `lent_stash` cite.
-pub mod Lent

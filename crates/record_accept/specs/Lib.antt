@@ -1,0 +1,2 @@
+-- The definitions that the contracts of `record_accept` cite.
+pub mod Accept

@@ -1,0 +1,21 @@
+// Acceptance of the source of a record in lent bytes.
+// Promises: what `accept` promises of the record that the bytes hold; bytes that are no record give 32.
+// Rule: RULES, part 12; definitions in specs/Accept.antt.
+use accept::AcceptAnswer;
+use accept::Bloom;
+ghost use mathlib.Core.Path.{_≡_};
+ghost use Rattle.record_accept.specs.Accept.{acceptCall};
+
+// What is read of the record are its settings, its state and what is seen of its stash; nothing changes.
+pub fn accept(b: &[u8], stratum: u8, local: &[u32], bloom: Bloom) -> AcceptAnswer
+    ensures { λ r. ⌜ r ≡ acceptCall (now (b .entry)) stratum (now (local .entry)) bloom ⌝ }
+{
+    let found = record_bytes::open_record(b);
+    if !found.ok {
+        return AcceptAnswer::NotWhole;
+    }
+    let settings = found.settings;
+    let state = found.state;
+    let seen = record_stash::see(b, settings.capacity);
+    accept::accept_seen(settings, state, seen, stratum, local, bloom)
+}

@@ -1,0 +1,2 @@
+-- The contracts of `record_load` cite the definitions of others.
+pub mod Load

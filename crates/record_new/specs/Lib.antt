@@ -1,0 +1,2 @@
+-- The definitions that the contracts of `record_new` cite.
+pub mod New

@@ -1,0 +1,60 @@
+-- An association that is made in lent bytes (RULES, "Settings and a whole record", No. 5, No. 11, No. 12 and No. 14), and the blank record.
+-- Bytes of another number than the capacity's: 31, after every other refusal, and they stay. After every other refusal all of them are zero.
+-- Assumes nothing.
+use mathlib.Core.Bool.{cond}
+use mathlib.Core.List.{List}
+use Prim.Native.Nat.{ℕ}
+use lib.Dec.{eqb}
+use lib.ListN.{length, replicate}
+use Rattle.cookiestash.specs.declared.Dropped.{Dropped}
+use Rattle.cookiestash.specs.Falling.{noneDropped}
+use Rattle.association.specs.declared.Settings.{Settings}
+use Rattle.association.specs.declared.Association.{Association}
+use Rattle.association.specs.New as New
+use Rattle.metered.specs.Profile as Profile
+use Rattle.record_stash.specs.Rows.{sizedIn}
+use Rattle.record_bytes.specs.Record.{packed}
+use Rattle.record_new.specs.declared.NewInBytes.{NewInBytes}
+use Rattle.record_new.specs.declared.NewInBytes.the-variants as N
+use Rattle.record_new.specs.declared.MeteredInBytes.{MeteredInBytes}
+use Rattle.record_new.specs.declared.MeteredInBytes.the-variants as M
+
+-- ---- the numbers: those of the call by value, and 31
+
+abbrev pub newNumber : NewInBytes → ℕ
+newNumber (N.Said r) = New.numberOf r
+newNumber N.WrongSize = 31
+
+abbrev pub meteredNumber : MeteredInBytes → ℕ
+meteredNumber (M.Said r) = Profile.numberOf r
+meteredNumber M.WrongSize = 31
+
+-- ---- the calls
+
+-- what is said, what fell out while the first list was stored, and the bytes after
+pub record Call (A : Type 0) : Type 0 where
+  pub answer : A
+  pub dropped : Dropped
+  pub bytes : List ℕ
+
+abbrev pub gave : {A : Type 0} → A → Dropped → List ℕ → Call A
+gave r d b = record { answer = r; dropped = d; bytes = b }
+
+-- number 0: the association goes into the bytes, if they are as many as its capacity asks for; any other: all are zero
+abbrev pub madeIn : {A : Type 0} → List ℕ → ℕ → ℕ → A → A → Dropped → Association → Call A
+madeIn b cap number said wrong d a =
+    cond (eqb number 0)
+    (cond (sizedIn b cap) (gave said d (packed a)) (gave wrong noneDropped b))
+    (gave said noneDropped (replicate (length b) 0))
+
+unfoldable pub newCall : Settings → List ℕ → List ℕ → Call NewInBytes
+newCall s list b =
+    let o = New.newOf s list in madeIn b (s .capacity) (New.numberOf (o .answer)) (N.Said (o .answer)) N.WrongSize (o .dropped) (o .association)
+
+unfoldable pub meteredCall : Settings → List ℕ → List ℕ → Call MeteredInBytes
+meteredCall s list b =
+    let o = Profile.meteredOf s list in madeIn b (s .capacity) (Profile.numberOf (o .answer)) (M.Said (o .answer)) M.WrongSize (o .dropped) (o .association)
+
+-- the blank record
+abbrev pub blanked : List ℕ → List ℕ
+blanked b = replicate (length b) 0

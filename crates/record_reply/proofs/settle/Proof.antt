@@ -1,0 +1,29 @@
+use mathlib.Core.Path.{ap, _∙_}
+use mathlib.Core.List.{List}
+use Prim.Native.Nat.{ℕ}
+use Rattle.record_stash.specs.Slots.{refilledIn}
+use Rattle.record_reply.specs.Reply.{answered, settledIn}
+use borrow.Author.Needs.{needs}
+use Rattle.record_reply.proofs.settle.Statement.{statement}
+use Rattle.record_reply.proofs.settle.Tie as tie
+
+store-state-requires : tie.Need-store-state-requires
+store-state-requires c κs = search needs
+
+refill-requires : tie.Need-refill-requires
+refill-requires c κs = search needs
+
+same-length : tie.Need-same-length
+same-length c = search needs
+
+returns : tie.Need-returns
+unfolding settledIn
+returns c =
+    let args = c .before .before .before .before .before .before .before .before .before .before .before .args in
+    let store-state = c .before .before .before .before .before .before .store-state in
+    let v = args .verdict in
+    let mid = ap (λ (b : List ℕ). refilledIn (args .capacity) (v .stores) (args .list .now) b) (store-state .ensures .0) in
+    (ap (answered (v .answer)) (c .before .before .refill .ensures ∙ mid), store-state .ensures .1)
+
+pub settle-spec : {M : Type 1} → statement M
+settle-spec = tie.close (tie.spec store-state-requires refill-requires same-length returns)

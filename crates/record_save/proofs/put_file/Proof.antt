@@ -1,0 +1,39 @@
+use mathlib.Core.Path.{refl}
+use native.Mathlib.Omega.{arith}
+use Rattle.handover_save.proofs.Laid.{laid-put}
+use Rattle.handover_save.proofs.Writing.{settings-record-long, state-records-long, record-long, file-put}
+use Rattle.record_stash.specs.Rows.{stashIn}
+use borrow.Author.Needs.{needs}
+use Rattle.record_save.proofs.put_file.Statement.{statement}
+use Rattle.record_save.proofs.put_file.Tie as tie
+
+lay-settings-requires : tie.Need-lay-settings-requires
+lay-settings-requires c κs = search needs
+
+put-stash-requires : tie.Need-put-stash-requires
+put-stash-requires c κs =
+    let p = c .before .before .before .before .before .before .before .pre in
+    let l = settings-record-long (c .before .before .before .before .before .before .before .args .settings) in
+    let first = laid-put _ _ _ (c .before .before .before .lay-settings .ensures) (omega (arith, l, p .4)) in
+    (p .0, p .1, p .2, p .3, omega (arith, l, p .4, first .ends, c .before .before .before .lay-settings .kept .0))
+
+lay-state-requires : tie.Need-lay-state-requires
+lay-state-requires c κs = search needs
+
+same-length : tie.Need-same-length
+same-length c = search needs
+
+returns : tie.Need-returns
+returns c =
+    let a = c .before .before .before .before .before .before .before .before .before .before .before .before .before .before .args in
+    let p = c .before .before .before .before .before .before .before .before .before .before .before .before .before .before .pre in
+    let l = settings-record-long (a .settings) in
+    let first = laid-put _ _ _ (c .before .before .before .before .before .before .before .before .before .before .lay-settings .ensures) (omega (arith, l, p .4)) in
+    let stash = c .before .before .before .before .before .before .put-stash .ensures .1 in
+    let last = laid-put _ _ _ (c .before .before .lay-state .ensures) (omega (arith, l, state-records-long (a .state), p .4, first .ends, c .before .before .before .before .before .before .before .before .before .before .lay-settings .kept .0, c .before .before .before .before .before .before .put-stash .kept .0, c .before .before .before .before .before .before .put-stash .ensures .0)) in
+    file-put (a .settings) (stashIn (a .b .now) (a .settings .capacity)) (a .state) refl first stash last (omega (arith, p .2, p .4))
+
+pub put-file-spec : {M : Type 1} → statement M
+put-file-spec =
+    tie.close
+    (tie.spec lay-settings-requires put-stash-requires lay-state-requires same-length returns)

@@ -1,0 +1,3 @@
+-- The definitions that the contracts of `record_stash` cite.
+pub mod Rows
+pub mod Slots

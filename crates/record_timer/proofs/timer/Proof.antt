@@ -1,0 +1,67 @@
+use native.Mathlib.Omega.{arith}
+use borrow.Author.Tests.{not-true, not-false}
+use Rattle.timer_rules.specs.Poll.{timerInput}
+use Rattle.record_timer.proofs.Told.{refused, told}
+use borrow.Author.Needs.{needs}
+use Rattle.record_timer.proofs.timer.Statement.{statement}
+use Rattle.record_timer.proofs.timer.Tie as tie
+
+open-record-requires : tie.Need-open-record-requires
+open-record-requires c κs = search needs
+
+same-length : tie.Need-same-length
+same-length c = search needs
+
+returns : tie.Need-returns
+returns c =
+    let args = c .before .before .before .before .before .before .args in
+    let open-record = c .before .before .open-record in
+    let input = timerInput (args .time) (args .desired) (args .id) (args .uid) in
+    refused (args .b .now) input (args .buffer .now) (open-record .result) (open-record .ensures) (not-true _ (c .if1 .taken))
+
+see-requires : tie.Need-see-requires
+see-requires c κs = search needs
+
+decide-requires : tie.Need-decide-requires
+decide-requires c κs = search needs
+
+store-state-requires : tie.Need-store-state-requires
+store-state-requires c κs = search needs
+
+take-requires : tie.Need-take-requires
+take-requires c κs = search needs
+
+same-length-2 : tie.Need-same-length-2
+same-length-2 c = search needs
+
+same-length-3 : tie.Need-same-length-3
+same-length-3 c = search needs
+
+returns-2 : tie.Need-returns-2
+returns-2 c =
+    let args = c .before .before .before .before .before .before .before .before .before .before .before .before .before .before .before .before .before .before .before .before .before .before .before .args in
+    let slice-known = c .before .before .before .before .before .before .before .before .before .before .before .before .before .before .before .before .before .before .before .before .before .before .slice-known in
+    let open-record = c .before .before .before .before .before .before .before .before .before .before .before .before .before .before .before .before .before .before .before .open-record in
+    let if1 = c .before .before .before .before .before .before .before .before .before .before .before .before .before .before .before .before .before .if1 in
+    let see = c .before .before .before .before .before .before .before .before .before .before .before .before .before .see in
+    let decide = c .before .before .before .before .before .before .before .before .before .before .before .before .decide in
+    let store-state = c .before .before .before .before .before .before .before .before .before .store-state in
+    let take = c .before .before .before .before .take in
+    let input = timerInput (args .time) (args .desired) (args .id) (args .uid) in
+    told (args .b .now) input (args .buffer .now) (λ i. omega (arith, slice-known .given i)) (open-record .result) (open-record .ensures) (not-false _ (if1 .left))
+    (decide .result) (store-state .ensures .1) _ (store-state .ensures .0) (see .result) (see .ensures) (decide .ensures) _ _ (take .ensures)
+
+pub timer-spec : {M : Type 1} → statement M
+timer-spec =
+    tie.close
+    (tie.spec
+    open-record-requires
+    same-length
+    returns
+    see-requires
+    decide-requires
+    store-state-requires
+    take-requires
+    same-length-2
+    same-length-3
+    returns-2)

@@ -1,0 +1,2 @@
+-- The definitions that the contracts of `record_timer` cite.
+pub mod Timer

@@ -1,0 +1,24 @@
+-- The timer on a record in lent bytes: the timer on what they unpack to, packed again. Bytes that are no record: 32, and nothing changes.
+-- Assumes nothing.
+use mathlib.Core.Bool.{cond}
+use mathlib.Core.List.{List}
+use Prim.Native.Nat.{ℕ}
+use Rattle.timer_rules.specs.declared.TimerAnswer.{TimerAnswer}
+use Rattle.timer_rules.specs.declared.TimerAnswer.the-variants.{NotWhole}
+use Rattle.timer_rules.specs.declared.TimerInput.{TimerInput}
+use Rattle.timer.specs.Timer.{Timed, timedOf}
+use Rattle.record_bytes.specs.Record.{ok, unpacked, packed}
+
+pub record TimerCall : Type 0 where
+  pub answer : TimerAnswer
+  pub bytes : List ℕ
+  pub left : List ℕ
+
+abbrev pub gave : TimerAnswer → List ℕ → List ℕ → TimerCall
+gave r b buffer = record { answer = r; bytes = b; left = buffer }
+
+abbrev pub timerPacked : Timed → TimerCall
+timerPacked t = gave (t .gives .answer) (packed (t .gives .association)) (t .left)
+
+unfoldable pub timerCall : List ℕ → TimerInput → List ℕ → TimerCall
+timerCall b i buffer = cond (ok b) (timerPacked (timedOf (unpacked b) i buffer)) (gave NotWhole b buffer)

@@ -1,0 +1,40 @@
+// The timer on a record in lent bytes.
+// Promises: what `timer` promises of the record that the bytes hold, every byte of record and buffer; bytes that are no record give 32 and stay.
+// Rule: RULES, part 10; definitions in specs/Timer.antt.
+use time_types::PollInterval;
+use timer_rules::TimerAnswer;
+use timer_rules::TimerInput;
+ghost use mathlib.Core.Path.{_≡_};
+ghost use Rattle.timer_rules.specs.Poll.{timerInput};
+ghost use Rattle.record_timer.specs.Timer.{gave, timerCall};
+
+// What changes of the record is stored where it lies. Copied are its settings, its state, and the bytes of a cookie that is handed out.
+pub fn timer(
+    b: &mut [u8],
+    time: u64,
+    desired: PollInterval,
+    id: u64,
+    uid: [u8; 32],
+    buffer: &mut [u8],
+) -> TimerAnswer
+    ensures { λ r. ⌜ gave r (now (b .exit)) (now (buffer .exit)) ≡ timerCall (now (b .entry)) (timerInput time desired id uid) (now (buffer .entry)) ⌝ }
+{
+    let found = record_bytes::open_record(b);
+    if !found.ok {
+        return TimerAnswer::NotWhole;
+    }
+    let settings = found.settings;
+    let state = found.state;
+    let seen = record_stash::see(b, settings.capacity);
+    let input = TimerInput {
+        time,
+        desired,
+        id,
+        uid,
+    };
+    let decision = timer_rules::decide(settings, state, seen, input, buffer.len());
+    let next = decision.state;
+    record_bytes::store_state(b, next);
+    record_stash::take(b, settings.capacity, decision.takes, buffer);
+    decision.answer
+}
