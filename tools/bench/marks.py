@@ -12,7 +12,7 @@ BINS = 512              # stretches of time that are kept of a lane
 MARKS, WORDS = (600_000, 2_000), (100_000, 330)
 FEW = 30                # so many boxes have their marks to the millisecond; of more they are to the second, which keeps the page small
 # From the worst kind to the one that tells least: that a bucket of several marks has.
-WORST = ('stop', 'caller', 'lost', 'kiss', 'broken', 'foreign', 'late', 'silent', 'accepted', 'good', 'made', 'stray', 'quiet', 'poll')
+WORST = ('stop', 'lost', 'caller', 'kiss', 'broken', 'foreign', 'late', 'silent', 'accepted', 'good', 'made', 'stray', 'quiet', 'poll')
 RANK = {kind: k for k, kind in enumerate(WORST)}
 DIGITS = '0123456789abcdefghijklmnopqrstuvwxyz'
 LETTERS = ''.join(map(chr, [*range(ord('A'), ord('Z') + 1), *range(0xc0, 0x100)]))   # a code of the short form each
