@@ -922,3 +922,29 @@ def fleet(dice: random.Random, count: int) -> Iterator[tuple[str, Log, Truth]]:
     for k in range(count):
         life = STORIES[k % len(STORIES)]
         yield ('%03d-%s' % (k, life.__name__), *made(life, dice))
+
+
+# ---- nights, for what is drawn
+
+def night(dice: random.Random, polls: int = 450, every: float = 64, ends: str = 'up') -> Log:
+    """a box that is polled all night, some seconds early or late, with a late and a lost reply now and then. It `ends` up, lost (by a loop) or never (no reply but late ones)"""
+    log = Log(at=dice.randrange(60, 240), slow=dice.choice((0.25, 0.003, -0.04)), on=21 * 3600, people=False)
+    begun = 0
+    for k in range(polls):
+        if not k or ends == 'never' and k == begun + 3:
+            if k:
+                log.poll(21)
+            log.new(window=str(5 * 10**9), source='c0000201')
+            begun = k
+        log.poll()
+        if ends == 'never' or k and dice.random() < 0.02:
+            log.reply(14, after=7.5)
+        elif not k or dice.random() < 0.98:
+            log.reply()
+        if not k and ends != 'never':
+            log.accept(rises=True)
+        log.wait(every + dice.choice((-1, 0, 0, 1)))
+    if ends == 'lost':
+        log.round()
+        log.loop()
+    return log

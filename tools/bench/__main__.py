@@ -93,6 +93,15 @@ def main(args):
         if not names:
             misused('--page takes one log or more, or a folder')
         return page.main(names, far(found))
+    if word == '--watch':
+        import watch
+        found, names = options(args, ('--page', '--every', '--far'))
+        every = found.get('--every', str(watch.EVERY))
+        if len(names) != 1 or '--page' not in found:
+            misused('--watch takes one folder, and --page with the name of the page to write')
+        if not every.isdigit() or not 1 <= int(every) <= 86400:
+            misused('--every takes a number of seconds, 1 to 86400, and not %s' % every)
+        return watch.main(names[0], found['--page'], int(every), far(found))
     if word == '--summary':
         import summary
         forms = [form for form in ('--json', '--csv') if form in args]

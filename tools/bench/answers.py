@@ -80,6 +80,17 @@ class Source:
             os.close(source)
 
 
+def prepared(line: int, text: str) -> tuple[dict[str, str] | None, Asked | None]:
+    """the IPv6 addresses that a line names, and what the program is asked by it"""
+    names = human.named(text) if text.startswith(('#', 'new ', 'metered ', 'accept ')) else None
+    return names, Asked(line, text, human.translated(text)) if text and not text.startswith('#') else None
+
+
+def started(**how) -> subprocess.Popen:
+    """the program. What it says beside its answers is not for here; a pipe that nobody reads would stop it"""
+    return subprocess.Popen(program.drill(), stdin=subprocess.PIPE, stdout=subprocess.PIPE, stderr=subprocess.DEVNULL, **how)
+
+
 class Conversation:
     """the program, and the thread that asks it. `shown` has it show its record before the first line and behind each; else only where the numbers do not tell it"""
 
@@ -88,8 +99,7 @@ class Conversation:
         self.asked: queue.SimpleQueue = queue.SimpleQueue()  # what the program has not taken yet holds the thread back, and so keeps this short
         if any(source.path == '-' for source in sources):
             ends.need_stdin()
-        # What a program says beside its answers is not for here; a pipe that nobody reads would stop it.
-        self.program = subprocess.Popen(program.drill(), stdin=subprocess.PIPE, stdout=subprocess.PIPE, stderr=subprocess.DEVNULL)
+        self.program = started()
         self.into = self.program.stdin.fileno()
         threading.Thread(target=self.ask, daemon=True).start()
 
@@ -114,13 +124,13 @@ class Conversation:
             for lines in source.lines():
                 sent = []
                 for line, text in lines:
-                    names = human.named(text) if text.startswith(('#', 'new ', 'metered ', 'accept ')) else None
+                    names, asked = prepared(line, text)
                     if names:
                         self.asked.put(Noted(names))
-                    if text and not text.startswith('#'):
-                        sent.append(human.translated(text))
-                        self.asked.put(Asked(line, text, sent[-1]))
-                        if self.shows(sent[-1]):
+                    if asked:
+                        sent.append(asked.sent)
+                        self.asked.put(asked)
+                        if self.shows(asked.sent):
                             sent.append('show')
                 self.send(sent)
         except Unreadable as fault:
@@ -166,3 +176,61 @@ class Conversation:
             collections.deque(said, 0)  # what was not taken is not the next log's
         if self.program.wait() not in (ends.ALL_ANSWERED, ends.A_LINE_ERRED):
             ends.die('the program ended with %s behind the last answer' % ends.wait_status(self.program.returncode))
+
+
+class Kept(NamedTuple):
+    """an association put aside: the lines that bring the program's record to where it was"""
+    lines: tuple[str, ...]
+
+
+BLANK = Kept(('blank',))
+
+
+class Desk:
+    """one program that stays up and is asked of many logs in turn. Before the lines of a log its record is brought back: from a hand-over file that the program itself wrote
+    when nothing was awaited, and by the lines since then. Whether the file brings back all that `show` tells is tried when it is written"""
+
+    def __init__(self) -> None:
+        self.program = started(start_new_session=True)  # Ctrl-C is for the watch, which ends the program itself
+
+    def ask(self, lines: list[str], called: str) -> list[str]:
+        """an answer to each line"""
+        asking = threading.Thread(target=self.send, args=(''.join(line + '\n' for line in lines).encode('latin-1'),), daemon=True)
+        asking.start()
+        out = []
+        for _ in lines:
+            said = self.program.stdout.readline()
+            if not said.endswith(b'\n'):
+                ends.die('the program ended with %s and left %s without an answer' % (ends.wait_status(self.program.wait()), called))
+            out.append(said[:-1].decode('latin-1'))
+        asking.join()
+        return out
+
+    def send(self, octets: bytes) -> None:
+        try:
+            self.program.stdin.write(octets)
+            self.program.stdin.flush()
+        except OSError:
+            pass  # a program that is gone is seen where its answers are read
+
+    def keep(self, called: str) -> tuple[Kept | None, bool]:
+        """the record as it is, put aside, and whether the program still has it; nothing where a request is awaited, or where a file does not bring all of it back"""
+        shown = self.ask(['show'], called)[0]
+        if ' pending=- ' not in shown:
+            return None, True
+        saved = self.ask(['save'], called)[0]
+        kept = BLANK
+        if saved.startswith('save 0 '):
+            kept = Kept(('load file=' + saved.rpartition('=')[2], 'poke key=answered value=%d' % (' answered=yes ' in shown)))
+        same = bare(self.ask([*kept.lines, 'show'], called)[-1]) == bare(shown)
+        return (kept, True) if same else (None, False)
+
+    def close(self) -> None:
+        self.program.stdin.close()
+        self.program.wait()
+
+
+def bare(shown: str) -> list[str]:
+    """a shown record without the reading place: cookies come out in the same order wherever it is"""
+    words = [word for word in shown.split(' ') if not word.startswith(('read=', 'lens='))]
+    return words + sorted(next((word for word in shown.split(' ') if word.startswith('lens=')), '').partition('=')[2].split(','))

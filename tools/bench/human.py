@@ -176,6 +176,16 @@ def tick(ns: int) -> str:
     return '%s.%03ds' % (text, ms) if ms else text + 's'
 
 
+def round_tick(ns: int) -> str:
+    """a tick that an axis names, without the parts that are zero and without a fraction: 2d06h, 3h15m, 40s, 250ms"""
+    parts, rest = [], ns // 10**6
+    for unit, size in (('d', 86400000), ('h', 3600000), ('m', 60000), ('s', 1000), ('ms', 1)):
+        count, rest = divmod(rest, size)
+        if count:
+            parts.append(('%02d%s' if parts and unit != 'ms' else '%d%s') % (count, unit))
+    return ''.join(parts) or '0s'
+
+
 def moment_of(stamp: int) -> datetime:
     """an NTP timestamp as a moment in UTC, to the millisecond: of the era that lies between 1968 and 2104 (RFC 4330, section 3)"""
     ms = ((stamp if stamp >= 2**63 else stamp + ERA) * 1000 + SECOND // 2) // SECOND

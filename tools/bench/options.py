@@ -41,8 +41,16 @@ MODES = (
                'What is wrong with a line that is answered `error` is said on standard error.',)),
     Mode('--explain', (('[--far LENGTH] FILE', 'tell the log in plain words: when, what was asked, what was answered and why, what changed in the record'),), LOGS,
          (FAR,)),
-    Mode('--page', (('[--far LENGTH] FILE|FOLDER.. >MORNING.html', 'one page for a whole morning, a strip for each log, to look at in a browser and to print'),), LOGS,
+    Mode('--page', (('[--far LENGTH] FILE|FOLDER.. >MORNING.html', 'one page for a whole fleet: totals, a table and a strip for each log, to look at in a browser and to print'),), LOGS,
          (FAR,), three=NOT_UP, more=(FOLDER,)),
+    Mode('--watch', (('FOLDER --page OUT.html [--every SECONDS] [--far LENGTH]',
+                      'the same page of a folder whose logs grow, made again and again until Ctrl-C; in a browser it comes again by itself'),), FOLDERS,
+         (Option('--page', 'OUT.html', 'where the page is written, in one step', offers=('*.html',)),
+          Option('--every', 'SECONDS', 'so often it is made again: 5 where nothing is said'),
+          FAR),
+         more=(FOLDER + ' Only what grew is read; a log that was cut or replaced is read anew, and one that is gone stays on the page and says so. '
+               'A box whose log has not grown for longer than its poll interval allows says `not heard since`.',
+               'Ctrl-C ends it with status 0, and leaves a last page that does not come again.')),
     Mode('--summary', (('[--json|--csv] [--since OLD.json] [--far LENGTH] FILE|FOLDER..',
                         'a row for each box: up, doubtful, lost, never or unreadable, why, and what to do; for people, or for a console'),), LOGS,
          (Option('--json', '', 'the rows as an array of objects'),
@@ -106,7 +114,7 @@ ZERO, TWO = 'where every line was answered', 'on bad usage, where reading or wri
 
 # What the man page has beside the options.
 ENVIRONMENT = (
-    ('DRILL', 'The program that --explain, --page, --compare and --strike run in the proved one\'s place; for tests.'),
+    ('DRILL', 'The program that --explain, --page, --watch, --summary, --compare and --strike run in the proved one\'s place; for tests.'),
     ('NO_COLOR', 'Where it is set, --explain has no colours.'),
     ('RATTLE_HOME', 'The folder of the toolchain, where it is not the one of the rt on the PATH.'),
 )

@@ -396,6 +396,12 @@ def fault(step: Step) -> str:
     return run.fault(step.text, step.answer.split(' ', 2)[-1])
 
 
+def headed(step: Step) -> str:
+    """what happened, with its number"""
+    good, bad = TOLD.get(step.head, (step.head, step.head + ' refused'))
+    return '%s (%d)' % (good if step.good() else 'stop, ' + step.row.short if step.kind == 'stop' else bad, step.number)
+
+
 def sentence(step: Step) -> str:
     """a step in plain words, without its time"""
     if step.error:
@@ -404,8 +410,7 @@ def sentence(step: Step) -> str:
         return 'the record: ' + ', '.join('%s %s' % field(k, v, step.names) for k, v in step.gave.items())
     if step.number is None or step.head not in TOLD and not step.row.says:
         return step.answer if len(step.answer) < 200 else step.answer[:197] + '..'
-    good, bad = TOLD.get(step.head, (step.head, step.head + ' refused'))
-    head = '%s (%d)' % (good if step.good() else 'stop, ' + step.row.short if step.kind == 'stop' else bad, step.number)
+    head = headed(step)
     if not step.good():
         return '%s: %s' % (head, why(step) or rest(step))
     try:
@@ -413,6 +418,13 @@ def sentence(step: Step) -> str:
     except (KeyError, ValueError):
         more = rest(step)
     return '%s%s' % (head, ': ' + more if more else '')
+
+
+def in_short(step: Step) -> str:
+    """a step in the words that every step with its number shares: what happened, and what the number says"""
+    if step.number is None:
+        return step.head
+    return headed(step) if step.good() or not step.row.says else '%s: %s' % (headed(step), step.row.says)
 
 
 def own_clock(step: Step) -> str | None:

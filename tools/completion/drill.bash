@@ -24,7 +24,7 @@ _reckonstile_drill() {
     if [ "$COMP_CWORD" -eq 1 ]; then
         case $word in
         -*)
-            mapfile -t COMPREPLY < <(compgen -W '--explain --page --summary --capture --compare --strike --raw --ready --version --help -h' -- "$word")
+            mapfile -t COMPREPLY < <(compgen -W '--explain --page --watch --summary --capture --compare --strike --raw --ready --version --help -h' -- "$word")
             return
             ;;
         esac
@@ -55,6 +55,25 @@ _reckonstile_drill() {
         once=(--far)
         many=()
         files=('*.drill')
+        ;;
+    --watch)
+        case $before in
+        --page)
+            _reckonstile_files "$word" '*.html'
+            return
+            ;;
+        --every)
+            compopt +o default +o bashdefault 2>/dev/null  # nothing here is a file
+            return
+            ;;
+        --far)
+            compopt +o default +o bashdefault 2>/dev/null  # nothing here is a file
+            return
+            ;;
+        esac
+        once=(--page --every --far)
+        many=()
+        files=('/')
         ;;
     --summary)
         case $before in
