@@ -1,15 +1,11 @@
-//! Finds the proved static library, or makes it, and says what is missing.
+//! Finds the proved static library for the target, or makes it, and says what is missing.
 //!
 //! 1. `RECKONSTILE_LIB` names the library, or the folder that it lies in.
-//! 2. Else it is `target/staticlib` of the repository that this crate lies in, where `rt staticlib exports` writes it.
-//! 3. Where it is not there, that command is run.
-//!
-//! What that command makes is for x86-64 Linux. For any other target there is only the first way.
+//! 2. Else `tools/library` of the repository that this crate lies in gives it: it proves and makes what is missing, and says which targets there are.
 use std::path::{Path, PathBuf};
 use std::process::{exit, Command};
 
-const NAMES: [&str; 2] = ["libreckonstile.a", "libexports.a"];
-const TARGET: &str = "x86_64-unknown-linux-gnu";
+const NAME: &str = "libreckonstile.a";
 
 fn stop(what: &str) -> ! {
     println!("cargo:warning=reckonstile: {what}");
@@ -22,23 +18,26 @@ fn library(path: &Path) -> Option<PathBuf> {
     if path.is_file() {
         return Some(path.to_path_buf());
     }
-    NAMES.iter().map(|name| path.join(name)).find(|file| file.is_file())
+    Some(path.join(NAME)).filter(|file| file.is_file())
 }
 
-fn make(root: &Path) {
-    if !root.join("crates.txt").is_file() {
+/// The library for a target, as the repository makes it.
+fn made(root: &Path, target: &str) -> PathBuf {
+    let tool = root.join("tools/library");
+    if !tool.is_file() {
         stop(&format!(
-            "RECKONSTILE_LIB is not set and {} is not the repository: set RECKONSTILE_LIB to the folder of libexports.a",
+            "RECKONSTILE_LIB is not set and {} is not the repository: set RECKONSTILE_LIB to the folder of {NAME}",
             root.display()
         ));
     }
-    match Command::new("rt").args(["staticlib", "exports"]).current_dir(root).output() {
-        Err(_) => stop("there is no library at target/staticlib, and Rattle's command rt, which makes it, is not on the PATH: install the toolchain that README.md names, or set RECKONSTILE_LIB"),
-        Ok(out) if !out.status.success() => {
-            eprintln!("{}{}", String::from_utf8_lossy(&out.stdout), String::from_utf8_lossy(&out.stderr));
-            stop("`rt staticlib exports` did not make the library (what it said stands above)")
-        }
-        Ok(_) => (),
+    match Command::new("python3").arg(&tool).args(["--quiet", target]).output() {
+        Err(_) => stop("python3, which makes the library, is not on the PATH: install it, or set RECKONSTILE_LIB"),
+        Ok(out) if !out.status.success() => stop(&format!(
+            "{} (or set RECKONSTILE_LIB to a library for {target})",
+            String::from_utf8_lossy(&out.stderr).trim().replace('\n', " / ")
+        )),
+        Ok(out) => library(Path::new(String::from_utf8_lossy(&out.stdout).trim()))
+            .unwrap_or_else(|| stop(&format!("`tools/library {target}` ended well, but there is no {NAME} where it says"))),
     }
 }
 
@@ -51,21 +50,7 @@ fn main() {
         Some(named) => library(Path::new(&named)).unwrap_or_else(|| {
             stop(&format!("there is no library at {}, which RECKONSTILE_LIB names", Path::new(&named).display()))
         }),
-        None if variable("TARGET") != TARGET => {
-            stop(&format!(
-                "`rt staticlib exports` makes the library for {TARGET} alone: build for that target (tools/cargo does), or set RECKONSTILE_LIB to a library for {} \
-                 (docs/EMBEDDING.md)",
-                variable("TARGET")
-            ))
-        }
-        None => {
-            let folder = root.join("target/staticlib");
-            if library(&folder).is_none() {
-                make(&root);
-            }
-            library(&folder)
-                .unwrap_or_else(|| stop("`rt staticlib exports` ended well, but target/staticlib has no libexports.a"))
-        }
+        None => made(&root, &variable("TARGET")),
     };
     let file = found.file_name().and_then(|name| name.to_str()).unwrap_or_default();
     let Some(name) = file.strip_prefix("lib").and_then(|name| name.strip_suffix(".a")) else {

@@ -6,7 +6,7 @@
 //! docs/CALLERS.md what is handed over; `examples/connector.rs` is a whole client.
 //!
 //! No dependencies. Without the feature `std` the crate is `no_std` and allocates nothing; `std` (on by default) adds conversions from and to `std::time`, and
-//! associations on the heap. The library is made for x86-64 Linux; one for another target is named in `RECKONSTILE_LIB` (docs/EMBEDDING.md).
+//! associations on the heap. The library is made for the target that is built for, where docs/BOARDS.md has it, or is the one that `RECKONSTILE_LIB` names.
 #![no_std]
 #![deny(missing_docs, unsafe_code)]
 #![warn(unsafe_op_in_unsafe_fn)]

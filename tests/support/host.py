@@ -1,123 +1,82 @@
-"""What this machine has to build and run programs over the static library with: compilers, Rust, an emulator, and the library. What `rt staticlib` makes is x86-64
-code, so on another machine everything that links it is compiled across and run under an emulator. Where RECKONSTILE_LIB names a library that is made for this machine,
-nothing of that is needed. Each thing that is missing is named with the package that has it."""
+"""What this machine has to build and run programs over the static library with: compilers, Rust, and the library, all for this machine's own target. A C program
+can be built for another target of boards/targets.py too, by a cross compiler, and is then run under an emulator. Each thing that is missing is named with the package
+that has it."""
 import importlib.machinery
 import importlib.util
 import os
-import platform
 import shutil
 import subprocess
 import sys
+from typing import Any, Dict, List, Optional, Sequence
 
 ROOT = os.path.dirname(os.path.dirname(os.path.dirname(os.path.abspath(__file__))))
-
-
-def archive(path):
-    if os.path.isfile(path):
-        return path
-    return next((p for p in (os.path.join(path, name) for name in ('libreckonstile.a', 'libexports.a')) if os.path.isfile(p)), None)
-
-
-def made_for():
-    """the machine whose code the library is: what the first object of the one that RECKONSTILE_LIB names says, and else x86_64"""
-    named = archive(os.environ.get('RECKONSTILE_LIB') or '')
-    if named:
-        with open(named, 'rb') as f:
-            data = f.read()
-        at = data.find(b'\x7fELF')
-        return {62: 'x86_64', 183: 'aarch64', 243: 'riscv64'}.get(int.from_bytes(data[at + 18:at + 20], 'little') if at >= 0 else 0, 'another machine')
-    return 'x86_64'
-
-
-MACHINE = made_for()
-NATIVE = platform.machine() == MACHINE
-TARGET = MACHINE + '-unknown-linux-gnu'
-SYSROOT = '/usr/x86_64-linux-gnu'
 BUILT = os.environ.get('RECKONSTILE_TARGET') or os.path.join(ROOT, 'target')  # tests/all works in a copy, which has nothing built
-OWN = '/usr/lib/%s-linux-gnu' % platform.machine()
-UNPACKED = os.path.join(BUILT, 'rust-x86-64')
+sys.path.insert(0, os.path.join(ROOT, 'boards'))
+import targets  # noqa: E402
 
 
 class Lacks(Exception):
     """Something is missing: what, and what to do."""
 
 
-def tool(variable, native, cross, package):
-    """a compiler for the library's machine: the one that a variable names, or the machine's own"""
-    if not NATIVE and MACHINE != 'x86_64':
-        raise Lacks('the library that RECKONSTILE_LIB names is code for %s: name one for this machine or for x86-64' % MACHINE)
-    named = os.environ.get(variable) or (native if NATIVE else cross)
-    found = shutil.which(named)
-    if not found:
-        raise Lacks('there is no %s (Debian: apt-get install %s)' % (named, package))
-    return found
+def row(name: Optional[str] = None) -> targets.Target:
+    """a target of the library, by its name or Rust's; else this machine's own"""
+    try:
+        return targets.named(name) if name else targets.own()
+    except KeyError as fault:
+        raise Lacks(fault.args[0])
 
 
-def cc():
-    return tool('X86_CC', 'cc', 'x86_64-linux-gnu-gcc', 'gcc' if NATIVE else 'gcc-x86-64-linux-gnu libc6-dev-amd64-cross')
+def native(target: targets.Target) -> bool:
+    return target == row()
 
 
-def cxx():
-    return tool('X86_CXX', 'c++', 'x86_64-linux-gnu-g++', 'g++' if NATIVE else 'g++-x86-64-linux-gnu')
+def found(name: str, packages: str) -> str:
+    path = shutil.which(name)
+    if not path:
+        raise Lacks('there is no %s (Debian: apt-get install %s)' % (name, packages))
+    return path
 
 
-def kit():
-    """the folder of the toolchain's own programs for this machine, or nothing"""
-    found = shutil.which('rt')
-    if not found:
-        return None
-    home = os.environ.get('RATTLE_HOME') or os.path.dirname(os.path.dirname(os.path.realpath(found)))
-    return os.path.join(home, 'on', platform.machine(), 'toolchain')
+def cc(target: Optional[targets.Target] = None) -> str:
+    target = target or row()
+    return found(os.environ.get('CC') or 'cc', 'gcc') if native(target) else found(target.cc, target.packages)
 
 
-def emulated(static=False):
-    """what stands before a program's name to run it: nothing where it is this machine's. The toolchain's own emulator runs C programs; it ends with a fault where a program opens
-    /proc/self/maps, as Rust's standard library does when it starts, so for Rust Debian's has to be there."""
-    if NATIVE:
-        return []
-    found = shutil.which('qemu-x86_64')
-    if not found and static and kit() and os.access(os.path.join(kit(), 'bin', 'qemu-x86_64'), os.X_OK):
-        found = os.path.join(kit(), 'bin', 'qemu-x86_64')
-    if not found:
-        raise Lacks('there is no qemu-x86_64 to run Rust programs for x86-64 with (Debian: apt-get install qemu-user)')
-    return [found] if static else [found, '-L', SYSROOT]
+def cxx() -> str:
+    return found(os.environ.get('CXX') or 'c++', 'g++')
+
+
+def emulated(target: targets.Target) -> List[str]:
+    """what stands before a program's name to run it: nothing for this machine's own"""
+    return [] if native(target) else [found(target.emulator, 'qemu-user')]
 
 
 # ---- the library
 
-def newest_source():
-    folders = [os.path.join(ROOT, 'crates', c, part) for c in os.listdir(os.path.join(ROOT, 'crates')) for part in ('src', 'specs', 'proofs')]
-    return max(os.path.getmtime(os.path.join(at, name)) for folder in folders for at, _, names in os.walk(folder) for name in names)
+def archive(path: str) -> Optional[str]:
+    return path if os.path.isfile(path) else next((p for p in (os.path.join(path, 'libreckonstile.a'),) if os.path.isfile(p)), None)
 
 
-def library(make=True):
-    """the static library: what RECKONSTILE_LIB names, or the repository's own, made where it is missing or a source is newer"""
-    named = os.environ.get('RECKONSTILE_LIB')
-    if named:
-        if not archive(named):
+def library(target: Optional[targets.Target] = None, make: bool = True) -> str:
+    """the static library for a target: for this machine's own what RECKONSTILE_LIB names; else the repository's, made where it is missing or a source has changed"""
+    target, named = target or row(), os.environ.get('RECKONSTILE_LIB')
+    if named and native(target):
+        path = archive(named)
+        if not path:
             raise Lacks('there is no library at %s, which RECKONSTILE_LIB names' % named)
-        return os.path.abspath(archive(named))
-    folder = os.path.join(BUILT, 'staticlib')
-    found = archive(folder)
-    if found and os.path.getmtime(found) >= newest_source():
-        return found
-    if not shutil.which('rt'):
-        raise Lacks('Rattle\'s command rt, which proves and makes the library, is not on the PATH; install the toolchain that README.md names, or set RECKONSTILE_LIB')
-    if not make:
-        raise Lacks('the static library is not made, or a source is newer; `rt staticlib exports` proves and makes it')
-    print('proving and making the static library; the first time that takes some minutes', file=sys.stderr)
-    os.makedirs(os.path.join(ROOT, 'target'), exist_ok=True)
-    log = os.path.join(ROOT, 'target', 'staticlib.log')
-    with open(log, 'wb') as f:
-        made = subprocess.run(['rt', 'staticlib', 'exports'], cwd=ROOT, stdin=subprocess.DEVNULL, stdout=f, stderr=subprocess.STDOUT)
-    found = archive(folder)
-    if made.returncode or not found:
-        raise Lacks('`rt staticlib exports` made no library (target/staticlib.log has the whole of it)')
-    os.utime(found)
-    return found
+        return os.path.abspath(path)
+    tool = script('library')
+    try:
+        folder = tool.make(target) if make else tool.current(target)
+    except tool.Fault as fault:
+        raise Lacks('%s; or set RECKONSTILE_LIB' % fault)
+    if not folder:
+        raise Lacks('the library for %s is not made, or a source has changed; `tools/library %s` proves and makes it' % (target.name, target.name))
+    return os.path.join(folder, 'libreckonstile.a')
 
 
-def script(name):
+def script(name: str) -> Any:
     """a program of tools/, as a module"""
     loader = importlib.machinery.SourceFileLoader(name, os.path.join(ROOT, 'tools', name))
     module = importlib.util.module_from_spec(importlib.util.spec_from_loader(name, loader))
@@ -127,97 +86,93 @@ def script(name):
 
 # ---- C
 
-def compiled(source, out, language='c11'):
+def compiled(source: str, out: str, language: str = 'c11', target: Optional[targets.Target] = None) -> List[str]:
     """compiles a C file of tests/support with the header and the library; gives the command that runs it"""
+    target = target or row()
     flags = ['-O2', '-Wall', '-Wextra', '-Werror', '-pedantic', '-I', os.path.join(ROOT, 'include')]
     file, objects = os.path.join(ROOT, 'tests', 'support', source), out + '.o'
-    compiler = [cxx(), '-x', 'c++', '-std=c++17'] if language == 'c++17' else [cc(), '-std=c11']
-    for command in (compiler + flags + ['-c', '-o', objects, file], [cc(), '-static', '-o', out, objects, library()]):
+    compiler = [cxx(), '-x', 'c++', '-std=c++17'] if language == 'c++17' else [cc(target), '-std=c11']
+    for command in (compiler + flags + ['-c', '-o', objects, file], [cc(target), '-static', '-o', out, objects, library(target)]):
         done = subprocess.run(command, stdout=subprocess.PIPE, stderr=subprocess.STDOUT)
         if done.returncode:
             raise RuntimeError('%s\n%s' % (' '.join(command), done.stdout.decode('utf-8', 'replace').strip()))
-    return emulated(static=True) + [out]
+    return emulated(target) + [out]
 
 
-# ---- Rust
-
-def has_std(rustc):
-    try:
-        said = subprocess.run([rustc, '--print', 'target-libdir', '--target', TARGET], stdout=subprocess.PIPE, stderr=subprocess.DEVNULL)
-    except OSError:
-        return False
-    folder = said.stdout.decode().strip()
-    return said.returncode == 0 and os.path.isdir(folder) and any(name.startswith('libstd-') for name in os.listdir(folder))
-
-
-def rust():
-    """the environment in which cargo builds for the library's machine and runs what it built"""
-    if not shutil.which('cargo'):
-        raise Lacks('there is no cargo (rustup, or Debian: apt-get install cargo)')
-    wrapper = os.path.join(UNPACKED, 'rustc')
-    candidates = [os.environ['RUSTC']] if os.environ.get('RUSTC') else ['rustc', wrapper]
-    rustc = next((r for r in candidates if has_std(r)), None)
-    if not rustc:
-        raise Lacks('no Rust compiler here has the standard library for %s: `rustup target add %s`, or on Debian `tools/rust-x86-64`, which unpacks Debian\'s packages '
-                    'below target/ and installs nothing' % (TARGET, TARGET))
-    linker, runner = cc(), ' '.join(emulated())  # what is missing is said before the library is proved, which takes minutes
-    environment = dict(os.environ, CARGO_BUILD_TARGET=TARGET, RECKONSTILE_LIB=library(), RUSTC=rustc)
-    beside = os.path.join(os.path.dirname(rustc), 'rustdoc')
-    if os.path.dirname(rustc) and os.access(beside, os.X_OK):
-        environment.setdefault('RUSTDOC', beside)
-    environment.setdefault('CARGO_TARGET_DIR', os.path.join(BUILT, 'rust'))
-    nettle = os.path.join(UNPACKED, 'nettle', 'usr', 'lib', 'x86_64-linux-gnu')
-    if NATIVE and os.path.isdir(OWN):
-        environment.setdefault('NETTLE_LIB', OWN)
-    if not NATIVE:
-        environment['CARGO_TARGET_X86_64_UNKNOWN_LINUX_GNU_LINKER'] = linker
-        environment['CARGO_TARGET_X86_64_UNKNOWN_LINUX_GNU_RUNNER'] = runner
-        if os.path.isdir(nettle):
-            environment.setdefault('NETTLE_LIB', nettle)
-    return environment
-
-
-def symbols():
-    named = subprocess.run([cc(), '-print-prog-name=nm'], stdout=subprocess.PIPE).stdout.decode().strip()
-    said = subprocess.run([named, library()], stdout=subprocess.PIPE, stderr=subprocess.DEVNULL).stdout.decode().splitlines()
+def symbols(target: Optional[targets.Target] = None) -> List[List[str]]:
+    named = subprocess.run([cc(target), '-print-prog-name=nm'], stdout=subprocess.PIPE).stdout.decode().strip()
+    said = subprocess.run([named, library(target)], stdout=subprocess.PIPE, stderr=subprocess.DEVNULL).stdout.decode().splitlines()
     return [line.split() for line in said]
 
 
-def gives():
+def gives(target: Optional[targets.Target] = None) -> List[str]:
     """the functions that the library has for programs"""
-    return sorted({words[2] for words in symbols() if len(words) == 3 and words[1] == 'T'})
+    return sorted({words[2] for words in symbols(target) if len(words) == 3 and words[1] == 'T'})
 
 
-def needs():
+def needs(target: Optional[targets.Target] = None) -> List[str]:
     """the C functions that the library leaves to the program that links it"""
-    lines = symbols()
+    lines = symbols(target)
     given = {words[2] for words in lines if len(words) == 3}
     return sorted({words[1] for words in lines if len(words) == 2 and words[0] == 'U'} - given)
 
 
-def cargo(arguments, **more):
-    return subprocess.run(['cargo'] + arguments, cwd=os.path.join(ROOT, 'rust'), env=rust(), **more)
+# ---- Rust
+
+def has_core(name: str) -> bool:
+    """whether the Rust compiler has its own library for a target"""
+    said = subprocess.run([os.environ.get('RUSTC') or 'rustc', '--print', 'target-libdir', '--target', name], stdout=subprocess.PIPE, stderr=subprocess.DEVNULL)
+    folder = said.stdout.decode().strip()
+    return said.returncode == 0 and os.path.isdir(folder) and any(entry.startswith('libcore') for entry in os.listdir(folder))
 
 
-def has_nettle():
-    """whether a static nettle is there, by which the example connector speaks NTS"""
-    folders = [os.environ.get('NETTLE_LIB', ''), OWN if NATIVE else os.path.join(UNPACKED, 'nettle', 'usr', 'lib', 'x86_64-linux-gnu')]
-    return any(os.path.isfile(os.path.join(folder, 'libnettle.a')) for folder in folders if folder)
+def nettle() -> str:
+    """the folder of this machine's static nettle, by which the example connector speaks NTS; nothing where there is none"""
+    if os.environ.get('NETTLE_LIB'):
+        return os.environ['NETTLE_LIB']
+    said = subprocess.run([cc(), '-print-file-name=libnettle.a'], stdout=subprocess.PIPE).stdout.decode().strip()
+    return os.path.dirname(os.path.realpath(said)) if os.path.isabs(said) else ''
 
 
-def rust_example(name, features=()):
+def has_nettle() -> bool:
+    return os.path.isfile(os.path.join(nettle() or '/', 'libnettle.a'))
+
+
+def rust(target: Optional[targets.Target] = None) -> Dict[str, str]:
+    """the environment in which cargo builds over the library"""
+    if not shutil.which('cargo'):
+        raise Lacks('there is no cargo (rustup, or Debian: apt-get install cargo)')
+    cc()  # what is missing is said before the library is proved, which takes minutes
+    environment = dict(os.environ, RECKONSTILE_LIB=library(target))
+    environment.setdefault('CARGO_TARGET_DIR', os.path.join(BUILT, 'rust'))
+    if has_nettle():
+        environment['NETTLE_LIB'] = nettle()
+    return environment
+
+
+def cargo(arguments: Sequence[str], **more: Any) -> 'subprocess.CompletedProcess[bytes]':
+    """cargo in rust/, with the library for this machine, or for the one that --target names"""
+    named = [after for before, after in zip(arguments, list(arguments)[1:]) if before == '--target'] + [word[9:] for word in arguments if word.startswith('--target=')]
+    return subprocess.run(['cargo'] + list(arguments), cwd=os.path.join(ROOT, 'rust'), env=rust(row(named[0]) if named else None), **more)
+
+
+def rust_example(name: str, features: Sequence[str] = ()) -> List[str]:
     """builds an example of the crate; gives the command that runs it"""
     environment = rust()
     command = ['cargo', 'build', '--quiet', '--offline', '--release', '-j1', '--example', name] + (['--features', ','.join(features)] if features else [])
     done = subprocess.run(command, cwd=os.path.join(ROOT, 'rust'), env=environment, stdout=subprocess.PIPE, stderr=subprocess.STDOUT)
     if done.returncode:
         raise RuntimeError('%s\n%s' % (' '.join(command), done.stdout.decode('utf-8', 'replace').strip()))
-    return emulated() + [os.path.join(environment['CARGO_TARGET_DIR'], TARGET, 'release', 'examples', name)]
+    return [os.path.join(environment['CARGO_TARGET_DIR'], 'release', 'examples', name)]
 
 
 if __name__ == '__main__':
-    # Says what is missing to build and run what links the library, and nothing where all is there.
+    # Says what is missing to build and run what links the library, and nothing where all is there. With names of targets: to build and run C programs for them.
     try:
-        cc(), cxx(), library(make=False), rust(), emulated()
+        if sys.argv[1:]:
+            for each in map(row, sys.argv[1:]):
+                cc(each), emulated(each), library(each, make=False)
+        else:
+            cc(), cxx(), library(make=False), rust()
     except Lacks as lack:
         print(lack)

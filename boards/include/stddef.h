@@ -1,0 +1,7 @@
+/* As stdint.h beside it. */
+#ifndef BOARDS_STDDEF_H
+#define BOARDS_STDDEF_H
+typedef __SIZE_TYPE__ size_t;
+#define NULL ((void *)0)
+#define offsetof(type, field) __builtin_offsetof(type, field)
+#endif
