@@ -102,7 +102,7 @@ fn reply5(now: u64, t1: u64, t4: u64, v: &Decoded, cookies: &[Vec<u8>]) -> Strin
 }
 
 /// The answer to the command that begins with `word`.
-fn answer(word: &str, a: &Answer) -> String {
+pub fn answer(word: &str, a: &Answer) -> String {
     if word == "poke" {
         return "poke".into();
     }
@@ -124,7 +124,7 @@ fn answer(word: &str, a: &Answer) -> String {
     s
 }
 
-fn show(s: &State) -> String {
+pub fn show(s: &State) -> String {
     let pending = match &s.pending {
         None => "-".into(),
         Some((id, uid, deadline)) => format!("{id:016x}/{}/{deadline}", hex(uid)),
@@ -152,7 +152,7 @@ fn show(s: &State) -> String {
     )
 }
 
-fn cookies(s: &State) -> String {
+pub fn cookies(s: &State) -> String {
     let all: Vec<String> = s.cookies.iter().map(|c| bytes(&c.1)).collect();
     match all.len() {
         0 => "cookies 0".into(),

@@ -1,20 +1,8 @@
 //! Runs the published crate and the rules (RULES) side by side and writes what the drill must answer.
-mod both;
-mod drill;
-mod exec;
-mod limits;
-mod own;
-mod random;
-mod requests;
-mod rules;
-mod speed;
-mod state;
-mod units;
-
-use both::{Both, Step};
-use drill::Log;
-use random::{Manner, Random};
-use state::Op;
+use driver::drill::Log;
+use driver::random::Manner;
+use driver::state::Op;
+use driver::{both, cases, drill, limits, own, requests, speed};
 use std::collections::BTreeMap;
 use std::process::ExitCode;
 
@@ -25,28 +13,6 @@ driver own OUT.drill OUT.expected
 driver requests SEED COUNT OUT.drill OUT.expected
 driver sample OUT.drill OUT.expected
 driver speed timer|reply|timer-nts|reply-nts N [base]";
-
-/// Runs CASES times STEPS random steps, of which a case has at most STEPS; `run` does a step, given its place in the case.
-fn cases(seed: u64, cases: u64, steps: u64, manner: Manner, mut run: impl FnMut(&mut Both, &Op, u64) -> Step) {
-    let (mut left, mut case) = (cases * steps, 0);
-    while left > 0 {
-        let mut random = Random::new(seed.wrapping_mul(1_000_003).wrapping_add(case), manner);
-        let mut both = Both::new();
-        let mut op = random.first();
-        for i in 0..steps.min(left) {
-            let step = run(&mut both, &op, i);
-            left -= 1;
-            let number = step.of_rules.0.number;
-            // An association that is reset or demobilized is dropped by and by.
-            if [7, 21, 22, 23].contains(&number) && random.r.one_in(3) {
-                break;
-            }
-            random.saw(number, &step.of_rules.1);
-            op = random.next();
-        }
-        case += 1;
-    }
-}
 
 fn write_cases(log: &mut Log, seed: u64, count: u64, steps: u64, manner: Manner) {
     log.metered = manner.metered;
