@@ -50,6 +50,14 @@ extern "C" {
    are of different revisions and must not be used together. tools/revision computes it. */
 #define RECKONSTILE_REVISION 0xBCF81C62u
 
+/* RECKONSTILE_LIBRARY is the revision of the library that will be linked, as its own reckonstile.pc or ReckonstileConfig.cmake says it. */
+#if defined(RECKONSTILE_LIBRARY) && RECKONSTILE_LIBRARY != RECKONSTILE_REVISION
+#error "reckonstile: this header is of another revision than the library that pkg-config or CMake has found; take both from one release"
+#endif
+
+/* 1 where the library that is linked is of this header's revision, else 0. Look once, at the start: the linker does not. */
+#define RECKONSTILE_CHECK() (reckonstile_revision() == RECKONSTILE_REVISION)
+
 /* The bytes of a record, for a capacity of 1 to RECKONSTILE_SLOTS: 818, 1544, 2996 and 5900 for 1, 2, 4 and 8. */
 #define RECKONSTILE_BYTES(capacity) (92 + 726 * (size_t)(capacity))
 /* The longest cookie that is kept, and with NTS the least room of the timer's buffer. */
@@ -71,53 +79,79 @@ extern "C" {
 
 /* ---- numbers: what a call answers */
 
-#define RECKONSTILE_OK 0            /* new, metered: made. profile: met. reply: measured. accept, check_calendar: accepted. load: loaded. blank: cleared.
-                                       collect, write_request, salvage, plan_calendar, save, compare: written. look: shown. field_at: a field, or the end */
-#define RECKONSTILE_UNDECODABLE 1   /* reply: not a reply, or `end` is 0 or no place of a field. collect, field_at: broken fields */
-#define RECKONSTILE_VERSION 2       /* reply: of a version that is not expected */
-#define RECKONSTILE_NO_MATCH 4      /* reply: it answers another request */
-#define RECKONSTILE_RATE 5          /* reply: the source asks for a slower poll, which the record now has */
-#define RECKONSTILE_DENIED 6        /* reply: denied without NTS; it is noted */
-#define RECKONSTILE_DEMOBILIZE_NTS 7 /* reply: denied with NTS. Give the source up */
-#define RECKONSTILE_NTSN 8          /* reply: NTS negative acknowledgement */
-#define RECKONSTILE_OTHER_KISS 9    /* reply: another kiss */
-#define RECKONSTILE_BAD_STRATUM 10  /* reply: stratum over 16 */
-#define RECKONSTILE_NOT_SERVER 11   /* reply: not a server's */
-#define RECKONSTILE_NEVER_SENT 12   /* reply: nothing was sent yet */
-#define RECKONSTILE_ALREADY_MEASURED 13 /* reply: the last poll was answered already */
-#define RECKONSTILE_EXPIRED 14      /* reply: too late, the deadline of the pending request is before now */
-#define RECKONSTILE_SENT 20         /* timer: send the poll, and set the timer again */
-#define RECKONSTILE_RESET 21        /* timer: no answer to so many polls. Make the association anew */
-#define RECKONSTILE_DEMOBILIZE 22   /* timer: no answer, and service was denied. Give the source up */
-#define RECKONSTILE_NO_COOKIE 23    /* timer: no cookie is left. Exchange keys and make the association anew */
-#define RECKONSTILE_COOKIE_SIZE 24  /* timer: the cookie is too large to send. As 23 */
-#define RECKONSTILE_SETTINGS 30     /* new, metered: a setting is outside its range, or an unknown code */
-#define RECKONSTILE_SHORT_BUFFER 31 /* timer: with NTS, a buffer under 724 bytes. collect, plan_calendar: what would be written is longer than the buffer.
-                                       new, metered, load: the record has not RECKONSTILE_BYTES(capacity) bytes */
-#define RECKONSTILE_NOT_WHOLE 32    /* timer, reply, accept, save, look: the record was not made by a call, or not all of it is lent. Nothing is changed */
-#define RECKONSTILE_BROKEN_LIST 33  /* new, metered, reply, with NTS: the cookie list is broken */
-#define RECKONSTILE_LOW_POLL_MIN 34 /* metered: the lower poll limit is below 8 */
-#define RECKONSTILE_HIGH_STARTUP 35 /* metered: the startup limit is over 3 */
-#define RECKONSTILE_UPGRADING_START 36 /* metered: the start version is upgrading */
-#define RECKONSTILE_LONG_COOKIE 37  /* metered, with NTS: a cookie of the list has over 100 bytes */
-#define RECKONSTILE_RETIRED_START 38 /* new: the start version is upgrading, which is retired; metered says 36 for it */
-#define RECKONSTILE_STRATUM 40      /* accept: the source is not below our own stratum */
-#define RECKONSTILE_LOOP 41         /* accept: the source gets its time from us */
-#define RECKONSTILE_UNREACHABLE 42  /* accept: none of the last eight polls was answered */
-#define RECKONSTILE_NOT_WRITTEN 50  /* write_request: V5, or an unknown kind */
-#define RECKONSTILE_SHORT_OUT 51    /* write_request: the buffer is too short */
-#define RECKONSTILE_ASK 52          /* write_request: with NTS, a cookie over 724 bytes, or not 1 to 8 new ones asked for */
-#define RECKONSTILE_SHORT_FILE 60   /* save: the buffer is shorter than the file */
-#define RECKONSTILE_FILE_MARK 61    /* load, compare: a record of the file does not have the mark that is due */
-#define RECKONSTILE_FILE_LENGTH 62  /* load, compare: a wrong length, or bytes that are missing or left over */
-#define RECKONSTILE_FILE_CONTENT 63 /* load, compare: an unknown code, or an association that is not whole */
-#define RECKONSTILE_SALVAGE_ROOM 70 /* salvage: the buffer is shorter than the damaged list */
-#define RECKONSTILE_COMPARE_ROOM 71 /* compare: the buffer is shorter than the list */
-#define RECKONSTILE_TOO_MANY 80     /* check_calendar, plan_calendar: more than 64 entries */
-#define RECKONSTILE_BAD_REPEAT 81   /* check_calendar, plan_calendar: a repeat is 0 or does not divide 1440 */
-#define RECKONSTILE_LATE_START 82   /* check_calendar: a start is at or past its repeat */
-#define RECKONSTILE_OVER_CAP 83     /* check_calendar: a minute has more polls than the cap */
-#define RECKONSTILE_NO_FIT 84       /* plan_calendar: no start fits an entry behind those placed before */
+/* Made of numbers.toml. tools/numbers: defines */
+#define RECKONSTILE_OK 0                       /* new, metered: made. profile: met. reply, reply_decoded: measured. accept, check_calendar: accepted.
+                                                  collect: collected. write_request, save: written. salvage: salvaged. plan_calendar: planned. load: loaded.
+                                                  compare: compared. look: shown. field_at: a field, or the end. blank: cleared */
+#define RECKONSTILE_UNDECODABLE 1              /* reply, reply_decoded: the packet cannot be decoded, end is 0 or no place of a field, or a decoded reply has
+                                                  an unknown code. collect: the decrypted bytes are no whole fields. field_at: a broken field */
+#define RECKONSTILE_UNEXPECTED_VERSION 2       /* reply, reply_decoded: the packet is of a version that is not expected */
+#define RECKONSTILE_NO_MATCH 4                 /* reply, reply_decoded: it answers another request */
+#define RECKONSTILE_RATE 5                     /* reply, reply_decoded: the server asks for slower polls, which the next ones are */
+#define RECKONSTILE_DENIED 6                   /* reply, reply_decoded: service is denied, which is noted */
+#define RECKONSTILE_DENIED_NTS 7               /* reply, reply_decoded: service is denied, and with NTS that is believed: stop talking to this server */
+#define RECKONSTILE_NTSN 8                     /* reply, reply_decoded: the server could not make use of the cookie (NTSN) */
+#define RECKONSTILE_OTHER_KISS 9               /* reply, reply_decoded: the server declines with some other kiss code */
+#define RECKONSTILE_BAD_STRATUM 10             /* reply, reply_decoded: the reply has a stratum over 16 */
+#define RECKONSTILE_NOT_SERVER 11              /* reply, reply_decoded: the reply does not come from a server (its mode is another) */
+#define RECKONSTILE_NEVER_SENT 12              /* reply, reply_decoded: nothing was sent yet */
+#define RECKONSTILE_ALREADY_MEASURED 13        /* reply, reply_decoded: the last poll was answered already */
+#define RECKONSTILE_EXPIRED 14                 /* reply, reply_decoded: too late: the deadline of the request has passed */
+#define RECKONSTILE_SENT 20                    /* timer: send the poll, and set the timer again */
+#define RECKONSTILE_RESET 21                   /* timer: no answer to so many polls: look the server up again and begin with a new association */
+#define RECKONSTILE_DEMOBILIZE 22              /* timer: no answer, and service was denied: stop talking to this server */
+#define RECKONSTILE_NO_COOKIE 23               /* timer: no cookie is left: exchange keys again and begin with a new association */
+#define RECKONSTILE_COOKIE_TOO_LARGE 24        /* timer: the cookie is too large to send: exchange keys again and begin with a new association */
+#define RECKONSTILE_BAD_SETTINGS 30            /* new, metered, profile: a setting is outside its range, or an unknown code */
+#define RECKONSTILE_WRONG_SIZE 31              /* new, metered: the record has not the bytes of its capacity. timer: with NTS, the buffer for the cookie has
+                                                  fewer than 724 bytes. collect: the list is longer than the buffer. plan_calendar: the buffer has fewer
+                                                  starts than there are entries. load: the record has not the bytes of the file's capacity */
+#define RECKONSTILE_NOT_WHOLE 32               /* timer, reply, reply_decoded, accept, save: the record was not made by a call, or not all of it is lent.
+                                                  look: the bytes are no record: another number of them than the capacity's, or an unknown code */
+#define RECKONSTILE_BROKEN_LIST 33             /* new, metered, profile, reply, reply_decoded: with NTS, the cookie list is broken */
+#define RECKONSTILE_LOW_POLL_MIN 34            /* metered, profile: the lower poll limit is below 8 */
+#define RECKONSTILE_HIGH_STARTUP 35            /* metered, profile: the startup limit is over 3 */
+#define RECKONSTILE_UPGRADING_START 36         /* metered, profile: the start version is upgrading, which is retired */
+#define RECKONSTILE_LONG_COOKIE 37             /* metered, profile: with NTS, a cookie of the first list has over 100 bytes */
+#define RECKONSTILE_RETIRED_START 38           /* new: the start version is upgrading, which is retired */
+#define RECKONSTILE_HIGH_STRATUM 40            /* accept: the source's stratum is not below our own (16: nothing was measured yet) */
+#define RECKONSTILE_LOOP 41                    /* accept: the source gets its time from us */
+#define RECKONSTILE_UNREACHABLE 42             /* accept: none of the last eight polls was answered */
+#define RECKONSTILE_VERSION_FIVE 50            /* write_request: a request of version 5 is the caller's to write, and one of an unknown kind is none */
+#define RECKONSTILE_SHORT_REQUEST_BUFFER 51    /* write_request: the packet is longer than the buffer */
+#define RECKONSTILE_COOKIE_OR_COUNT 52         /* write_request: the cookie has over 724 bytes, or the number asked for is not 1 to 8 */
+#define RECKONSTILE_SHORT_FILE_BUFFER 60       /* save: the buffer is shorter than the file */
+#define RECKONSTILE_WRONG_MARK 61              /* load, compare: a record of the file does not have the mark that is due there */
+#define RECKONSTILE_WRONG_LENGTH 62            /* load, compare: a record of the file has a wrong length, or bytes are missing or left over */
+#define RECKONSTILE_NO_ASSOCIATION 63          /* load, compare: a code in the file is of no kind, or what it says is no whole association */
+#define RECKONSTILE_SHORT_SALVAGE_BUFFER 70    /* salvage: the buffer is shorter than the damaged list */
+#define RECKONSTILE_SHORT_COMPARE_BUFFER 71    /* compare: the buffer is shorter than the list */
+#define RECKONSTILE_TOO_MANY 80                /* check_calendar, plan_calendar: more than 64 entries */
+#define RECKONSTILE_BAD_REPEAT 81              /* check_calendar, plan_calendar: a repeat that is 0 or does not divide 1440 */
+#define RECKONSTILE_LATE_START 82              /* check_calendar: a start at or past its repeat */
+#define RECKONSTILE_OVER_CAP 83                /* check_calendar: more polls than the cap */
+#define RECKONSTILE_NO_FIT 84                  /* plan_calendar: no start fits behind those placed before */
+
+/* Which call answers which:
+   new            0, 30, 31, 33, 38
+   metered        0, 30, 31, 33 to 37
+   profile        0, 30, 33 to 37
+   timer          20 to 24, 31, 32
+   reply          0 to 2, 4 to 14, 32, 33
+   reply_decoded  0 to 2, 4 to 14, 32, 33
+   accept         0, 32, 40 to 42
+   collect        0, 1, 31
+   write_request  0, 50 to 52
+   salvage        0, 70
+   check_calendar 0, 80 to 83
+   plan_calendar  0, 31, 80, 81, 84
+   save           0, 32, 60
+   load           0, 31, 61 to 63
+   compare        0, 61 to 63, 71
+   look           0, 32
+   field_at       0, 1
+   blank          0 */
+/* tools/numbers: end */
 
 /* ---- codes */
 
@@ -226,7 +260,7 @@ struct reckonstile_state {
 struct reckonstile_view {
     struct reckonstile_settings settings;
     struct reckonstile_state state;
-    uint64_t number; /* 0, 32; on 32 all above is zero */
+    uint64_t number; /* where it is not 0 all above is zero */
 };
 
 /* ---- what goes in and what comes back */
@@ -236,14 +270,14 @@ struct reckonstile_uid {
 };
 
 struct reckonstile_new_answer {
-    uint32_t number;  /* new: 0, 30, 31, 33, 38; metered: 0, 30, 31, 33 to 37. Where it is not 0 all below is zero */
+    uint32_t number;  /* where it is not 0 all below is zero */
     uint32_t made;    /* 1 where the number is 0 */
     uint64_t dropped; /* with NTS, how many cookies of the list did not fit: with more than the capacity the oldest fall out */
     uint64_t lost;    /* their lengths, summed */
 };
 
 struct reckonstile_timer_answer {
-    uint32_t number; /* 20, 21, 22, 23, 24, 31, 32; where it is not 20 all below is zero */
+    uint32_t number; /* where it is not 20 all below is zero */
     uint8_t kind;    /* what to send: RECKONSTILE_SEND_V4 .. RECKONSTILE_SEND_NTS_V5 */
     int8_t poll;     /* the poll exponent: the next poll is due in 2^poll seconds, stretched at random by the caller */
     uint16_t asked;  /* with NTS, how many new cookies the request asks for: 1 to the capacity */
@@ -251,7 +285,7 @@ struct reckonstile_timer_answer {
 };
 
 struct reckonstile_reply_answer {
-    uint32_t number;   /* 0, 1, 2, 4 to 14, 32, 33; where it is not 0 all below is zero */
+    uint32_t number;   /* where it is not 0 all below is zero */
     uint8_t measured;  /* 1 where the number is 0 */
     uint8_t leap;      /* RECKONSTILE_LEAP_NO_WARNING .. RECKONSTILE_LEAP_UNSYNCHRONIZED */
     uint8_t stratum;
@@ -280,19 +314,19 @@ struct reckonstile_decoded {
 };
 
 struct reckonstile_written {
-    uint32_t number;  /* collect: 0, 1, 31; write_request: 0, 50, 51, 52; save: 0, 32, 60. Where it is not 0 the buffer is as it was and all below is zero */
+    uint32_t number;  /* where it is not 0 the buffer is as it was and all below is zero */
     uint32_t written; /* 1 where the number is 0 */
     uint64_t length;  /* how many bytes are written from the buffer's start on */
 };
 
 struct reckonstile_load_answer {
-    uint32_t number;  /* 0, 31, 61, 62, 63 */
+    uint32_t number;
     uint32_t retired; /* 1 where the number is 0 and the file had RECKONSTILE_UPGRADING, as start version or as version: that is RECKONSTILE_V4 now */
 };
 
 /* What a salvage reports. The lengths kept (each with its head of four bytes) are `length`, and `length` and `skipped` add up to the damaged list. */
 struct reckonstile_salvaged {
-    uint32_t number; /* 0, 70; on 70 the buffer is as it was and all below is zero */
+    uint32_t number; /* where it is not 0 the buffer is as it was and all below is zero */
     uint32_t told;   /* how many of the places below are told: as many as there are gaps, up to 32 */
     uint64_t kept;   /* how many records (cookies) were kept */
     uint64_t skipped; /* how many bytes were skipped */
@@ -303,20 +337,20 @@ struct reckonstile_salvaged {
 
 /* What comparing two hand-over files answers. */
 struct reckonstile_compared {
-    uint32_t number; /* 0, 61, 62, 63, 71; on all but 0 the buffer is as it was */
+    uint32_t number; /* where it is not 0 the buffer is as it was */
     uint32_t side;   /* on 61, 62 and 63 which file is refused: 1 the left one, 2 the right one; else 0 */
     uint64_t entries; /* how many fields differ: each has an entry of 19 bytes, from the buffer's start on; 0 unless the number is 0 */
 };
 
 struct reckonstile_calendar_answer {
-    uint32_t number; /* check_calendar: 0, 80, 81, 82, 83; plan_calendar: 0, 80, 81, 84, 31 */
+    uint32_t number;
     uint32_t named;  /* 1 where the answer names an entry (81, 82, 84) or a minute (83); else 0 */
     uint64_t place;  /* that entry or minute, the lowest, counted from 0; else 0 */
 };
 
 /* What stands at an offset of a packet of V4. */
 struct reckonstile_field {
-    uint32_t number; /* 0, 1; on 1, a broken field, all below is zero */
+    uint32_t number; /* where it is not 0, a broken field, all below is zero */
     uint32_t found;  /* 1 a field; 0 the end of the fields, or broken */
     uint32_t kind;   /* its type: 0x0104 unique identifier, 0x0204 cookie, 0x0404 authenticator, .. */
     uint32_t spare;  /* 0 */
@@ -359,7 +393,7 @@ RECKONSTILE_ASSERT(sizeof(struct reckonstile_calendar_answer) == 16 && offsetof(
 
 /* ---- calls */
 
-/* The revision of the library: RECKONSTILE_REVISION of the header that it was built with. Look once, at the start. */
+/* The revision of the library: RECKONSTILE_REVISION of the header that it was built with. RECKONSTILE_CHECK() compares the two. */
 uint32_t reckonstile_revision(void);
 
 /* All bytes become zero, whatever their number. Answers 0. Zeros are not whole: timer, reply, accept and save answer 32 on them. */
@@ -447,7 +481,7 @@ struct reckonstile_written reckonstile_save(uint8_t *record, size_t size, uint8_
 struct reckonstile_load_answer reckonstile_load(uint8_t *record, size_t size, const uint8_t *file, size_t file_len);
 
 /* Two hand-over files compared, of boxes that behave differently: an entry for each field that differs, in the file's order, is written to the buffer. An
-   entry is 19 bytes, big-endian: the field's code 1, the left reading 8, the right reading 8, the place 2 (docs/COMPARE.md has the codes). Of a cookie only the
+   entry is 19 bytes, big-endian: the field's code 1, the left reading 8, the right reading 8, the place 2 (docs/HANDOVER.md has the codes). Of a cookie only the
    length and the place of the first differing byte are told. Bytes of the buffer past the list stay as they were. No entry: what the two load is equal.
    In this order: 61, 62, 63 of the left file, as reckonstile_load has them; then of the right one; 71 the buffer is shorter than the list; 0 written. */
 struct reckonstile_compared reckonstile_compare(const uint8_t *left, size_t left_len, const uint8_t *right, size_t right_len, uint8_t *out, size_t room);

@@ -340,25 +340,25 @@ static union {
     struct { size_t at; } walk;
     struct { uint32_t local[16], bloom; uint8_t stratum; } accept;
 } in;
-static uint64_t t1, t4, now;
+static uint64_t t1, t4, time;
 static size_t authenticated, locals;
-static struct lent packet, plain, list, out;
+static struct lent packet, decrypted, list, out;
 
 static void call_blank(void) { answer.number = reckonstile_blank(record, size); }
 static void call_new(void) { answer.made = reckonstile_new(record, size, in.settings, list.at, list.length); }
 static void call_metered(void) { answer.made = reckonstile_metered(record, size, in.settings, list.at, list.length); }
 static void call_profile(void) { answer.number = reckonstile_profile(in.settings, list.at, list.length); }
-static void call_timer(void) { answer.timed = reckonstile_timer(record, size, now, in.poll.poll, in.poll.id, in.poll.uid, out.at, out.length); }
+static void call_timer(void) { answer.timed = reckonstile_timer(record, size, time, in.poll.poll, in.poll.id, in.poll.uid, out.at, out.length); }
 static void call_reply(void) {
-    answer.replied = reckonstile_reply(record, size, packet.at, packet.length, authenticated, plain.at, plain.length, list.at, list.length, t1, t4, now);
+    answer.replied = reckonstile_reply(record, size, packet.at, packet.length, authenticated, decrypted.at, decrypted.length, list.at, list.length, t1, t4, time);
 }
-static void call_reply_decoded(void) { answer.replied = reckonstile_reply_decoded(record, size, in.decoded, list.at, list.length, t1, t4, now); }
+static void call_reply_decoded(void) { answer.replied = reckonstile_reply_decoded(record, size, in.decoded, list.at, list.length, t1, t4, time); }
 static void call_accept(void) { answer.number = reckonstile_accept(record, size, in.accept.stratum, in.accept.local, locals, in.accept.bloom); }
 static void call_look(void) { answer.view = reckonstile_look(record, size); }
 static void call_save(void) { answer.written = reckonstile_save(record, size, out.at, out.length); }
 static void call_load(void) { answer.loaded = reckonstile_load(record, size, list.at, list.length); }
 static void call_field_at(void) { answer.field = reckonstile_field_at(packet.at, packet.length, in.walk.at); }
-static void call_collect(void) { answer.written = reckonstile_collect(plain.at, plain.length, out.at, out.length); }
+static void call_collect(void) { answer.written = reckonstile_collect(decrypted.at, decrypted.length, out.at, out.length); }
 static void call_write_request(void) {
     answer.written = reckonstile_write_request(in.poll.kind, in.poll.poll, in.poll.id, in.poll.mark, in.poll.uid, list.at, list.length, in.poll.asked, out.at, out.length);
 }
@@ -424,7 +424,7 @@ static void profile(void) {
 }
 
 static void timer(void) {
-    now = to_natural(text("now"));
+    time = to_natural(text("now"));
     in.poll.poll = (int8_t)to_integer(text("desired"));
     in.poll.id = to_bits(text("id"));
     uid_of(or_text("uid", "-"), in.poll.uid.bytes);
@@ -442,7 +442,7 @@ static void timer(void) {
         end(filled(out.at + r->length));
         return;
     }
-    int untouched = r->number == RECKONSTILE_NO_COOKIE || r->number == RECKONSTILE_COOKIE_SIZE || same();
+    int untouched = r->number == RECKONSTILE_NO_COOKIE || r->number == RECKONSTILE_COOKIE_TOO_LARGE || same();
     end(untouched && filled(out.at) && !r->kind && !r->poll && !r->asked && !r->length);
 }
 
@@ -474,13 +474,13 @@ static void replied(const char *word) {
 static void arrival(void) {
     t1 = to_natural(text("t1"));
     t4 = to_natural(text("t4"));
-    now = to_natural(text("now"));
+    time = to_natural(text("now"));
 }
 
 static void reply(void) {
     arrival();
     packet = bytes("packet");
-    plain = bytes("plain");
+    decrypted = bytes("plain");
     list = bytes("list");
     uint64_t place = to_natural(or_text("auth", "48"));
     authenticated = place > SIZE_MAX ? SIZE_MAX : (size_t)place; /* past any packet, and so refused like any other number past it */
@@ -563,7 +563,7 @@ static void written(const char *word, const char *name, int with_length) {
 }
 
 static void collect(void) {
-    plain = bytes("plain");
+    decrypted = bytes("plain");
     out = room("4096");
     measured(COLLECT, call_collect);
     written("collect", "list", 0);

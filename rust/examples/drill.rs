@@ -15,6 +15,13 @@ use std::time::Duration;
 
 const FILL: u8 = 0xAA;
 
+// tools/numbers: changes timer reply
+/// Numbers of `timer` after which the record may be another.
+const TIMER_CHANGES: [u32; 3] = [20, 23, 24];
+/// Numbers of `reply` after which the record may be another.
+const REPLY_CHANGES: [u32; 8] = [0, 5, 6, 7, 8, 9, 10, 11];
+// tools/numbers: end
+
 /// A line's pairs.
 struct Pairs<'a>(HashMap<&'a str, &'a str>);
 
@@ -330,8 +337,8 @@ impl Drill {
     fn timer(&mut self, p: &Pairs) -> String {
         let before = self.image.clone();
         let mut buffer = vec![FILL; number(p.or("room", "1024"))];
-        let (now, desired) = (NtpInstant::from_nanos(p.number("now")), PollInterval::new(p.number("desired")));
-        let said = on!(self, a => a.timer(now, desired, p.bits("id"), p.uid(), &mut buffer));
+        let (time, desired) = (NtpInstant::from_nanos(p.number("now")), PollInterval::new(p.number("desired")));
+        let said = on!(self, a => a.timer(time, desired, p.bits("id"), p.uid(), &mut buffer));
         match said {
             Ok(poll) => {
                 let len = poll.cookie.len();
@@ -346,7 +353,7 @@ impl Drill {
             }
             Err(refused) => {
                 let number = refused.number();
-                let untouched = !matches!(number, 21 | 22 | 31 | 32) || before == self.image;
+                let untouched = TIMER_CHANGES.contains(&number) || before == self.image;
                 format!("timer {number}{}", kept(filled(&buffer) && untouched))
             }
         }
@@ -370,7 +377,7 @@ impl Drill {
             ),
             Err(refused) => {
                 let number = refused.number();
-                let untouched = !matches!(number, 1..=4 | 12..=14 | 32 | 33) || before == self.image;
+                let untouched = REPLY_CHANGES.contains(&number) || before == self.image;
                 format!("{word} {number}{}", kept(untouched))
             }
         }
@@ -490,7 +497,7 @@ impl Drill {
                 self.becomes(a.as_bytes());
                 // The same file is not one of another type.
                 let other = of!(N % 8 + 1, M => Association::<M>::load(&file).map(|_| ()));
-                let other = kept(other == Err(LoadRefused::RecordSize));
+                let other = kept(other == Err(LoadRefused::WrongSize));
                 format!("load 0 retired={}{other}", if retired { "yes" } else { "no" })
             }
             Err(refused) => {

@@ -1,9 +1,10 @@
 //! What the calls answer: each answer is an enum, and `number` gives the number that docs/CALLERS.md, the header and the drill have for it.
 use crate::ffi;
+use crate::numbers;
 use crate::time::{NtpDuration, NtpInstant, NtpTimestamp, PollInterval};
 use core::fmt;
 
-/// Makes an enum of refusals with their numbers, from one table: the number and its words stand beside each variant.
+/// Makes an enum of refusals with their numbers, from one table: the number and its words stand beside each variant. The tables are made of numbers.toml.
 macro_rules! numbered {
     ($(#[$meta:meta])* $name:ident { $($variant:ident = $number:literal, $words:literal;)* }) => {
         $(#[$meta])*
@@ -54,14 +55,16 @@ numbered! {
     /// use reckonstile::{Association, NewRefused, Settings, SettingsFault};
     /// let settings = Settings { startup_tries: 9, ..Settings::default() };
     /// let refused = Association::<8>::new(&settings, &[]).unwrap_err();
-    /// assert_eq!((refused, refused.number()), (NewRefused::Settings, 30));
+    /// assert_eq!((refused, refused.number()), (NewRefused::BadSettings, 30));
     /// assert_eq!(settings.check(), Err(SettingsFault::StartupTries)); // which one it is
     /// ```
     NewRefused {
-        Settings = 30, "a setting is outside its range: `Settings::check` says which";
-        RecordSize = 31, "the record has not the bytes of its capacity, which this crate's types see to";
+        // tools/numbers: variants NewRefused
+        BadSettings = 30, "a setting is outside its range, or an unknown code";
+        WrongSize = 31, "the record has not the bytes of its capacity";
         BrokenList = 33, "with NTS, the cookie list is broken";
-        RetiredStart = 38, "the start version is upgrading, which is retired and which these settings cannot name";
+        RetiredStart = 38, "the start version is upgrading, which is retired";
+        // tools/numbers: end
     }
 }
 
@@ -75,13 +78,15 @@ numbered! {
     /// assert_eq!(Association::<8>::profile(&Settings::default(), &[]), Err(refused));
     /// ```
     MeteredRefused {
-        Settings = 30, "a setting is outside its range: `Settings::check` says which";
-        RecordSize = 31, "the record has not the bytes of its capacity, which this crate's types see to";
+        // tools/numbers: variants MeteredRefused
+        BadSettings = 30, "a setting is outside its range, or an unknown code";
+        WrongSize = 31, "the record has not the bytes of its capacity";
         BrokenList = 33, "with NTS, the cookie list is broken";
         LowPollMin = 34, "the lower poll limit is below 8";
         HighStartup = 35, "the startup limit is over 3";
-        UpgradingStart = 36, "the start version is upgrading, which is retired and which these settings cannot name";
+        UpgradingStart = 36, "the start version is upgrading, which is retired";
         LongCookie = 37, "with NTS, a cookie of the first list has over 100 bytes";
+        // tools/numbers: end
     }
 }
 
@@ -94,12 +99,14 @@ numbered! {
     /// assert_eq!(TimerRefused::NoCookie.action(), Action::Reset);
     /// ```
     TimerRefused {
+        // tools/numbers: variants TimerRefused
         Reset = 21, "no answer to so many polls: look the server up again and begin with a new association";
         Demobilize = 22, "no answer, and service was denied: stop talking to this server";
         NoCookie = 23, "no cookie is left: exchange keys again and begin with a new association";
         CookieTooLarge = 24, "the cookie is too large to send: exchange keys again and begin with a new association";
-        ShortBuffer = 31, "with NTS, the buffer has under 724 bytes";
-        NotWhole = 32, "the record was not made by a call";
+        WrongSize = 31, "with NTS, the buffer for the cookie has fewer than 724 bytes";
+        NotWhole = 32, "the record was not made by a call, or not all of it is lent";
+        // tools/numbers: end
     }
 }
 
@@ -118,21 +125,23 @@ numbered! {
     /// assert_eq!(no_live.map(ReplyRefused::action), [Action::Nothing; 3]);
     /// ```
     ReplyRefused {
-        Undecodable = 1, "not a reply, or its authenticator does not hold";
-        UnexpectedVersion = 2, "of a version that is not expected";
+        // tools/numbers: variants ReplyRefused
+        Undecodable = 1, "the packet cannot be decoded, `end` is 0 or no place of a field, or a decoded reply has an unknown code";
+        UnexpectedVersion = 2, "the packet is of a version that is not expected";
         NoMatch = 4, "it answers another request";
         Rate = 5, "the server asks for slower polls, which the next ones are";
         Denied = 6, "service is denied, which is noted";
         DeniedNts = 7, "service is denied, and with NTS that is believed: stop talking to this server";
-        Ntsn = 8, "the server could not use our cookie";
-        OtherKiss = 9, "another kiss";
-        BadStratum = 10, "a stratum over 16";
-        NotServer = 11, "not a server's reply";
+        Ntsn = 8, "the server could not make use of the cookie (NTSN)";
+        OtherKiss = 9, "the server declines with some other kiss code";
+        BadStratum = 10, "the reply has a stratum over 16";
+        NotServer = 11, "the reply does not come from a server (its mode is another)";
         NeverSent = 12, "nothing was sent yet";
         AlreadyMeasured = 13, "the last poll was answered already";
-        Expired = 14, "too late: the time of the request is over";
-        NotWhole = 32, "the record was not made by a call";
+        Expired = 14, "too late: the deadline of the request has passed";
+        NotWhole = 32, "the record was not made by a call, or not all of it is lent";
         BrokenList = 33, "with NTS, the cookie list is broken";
+        // tools/numbers: end
     }
 }
 
@@ -144,10 +153,12 @@ numbered! {
     /// assert_eq!(AcceptRefused::Unreachable.number(), 42);
     /// ```
     AcceptRefused {
-        Stratum = 40, "the source is not below our own stratum";
+        // tools/numbers: variants AcceptRefused
+        NotWhole = 32, "the record was not made by a call, or not all of it is lent";
+        HighStratum = 40, "the source's stratum is not below our own (16: nothing was measured yet)";
         Loop = 41, "the source gets its time from us";
         Unreachable = 42, "none of the last eight polls was answered";
-        NotWhole = 32, "the record was not made by a call";
+        // tools/numbers: end
     }
 }
 
@@ -159,7 +170,9 @@ numbered! {
     /// assert_eq!(Association::<1>::from_bytes(&mut [0; 818]).unwrap().look().unwrap_err(), LookRefused::NotWhole);
     /// ```
     LookRefused {
-        NotWhole = 32, "the bytes are no record: another capacity, or an unknown code";
+        // tools/numbers: variants LookRefused
+        NotWhole = 32, "the bytes are no record: another number of them than the capacity's, or an unknown code";
+        // tools/numbers: end
     }
 }
 
@@ -168,11 +181,13 @@ numbered! {
     ///
     /// ```
     /// use reckonstile::{collect, CollectRefused};
-    /// assert_eq!(collect(&[2, 4, 0, 8], &mut [0; 8]), Err(CollectRefused::Broken));
+    /// assert_eq!(collect(&[2, 4, 0, 8], &mut [0; 8]), Err(CollectRefused::Undecodable));
     /// ```
     CollectRefused {
-        Broken = 1, "the decrypted fields are broken";
-        ShortBuffer = 31, "the list is longer than the buffer";
+        // tools/numbers: variants CollectRefused
+        Undecodable = 1, "the decrypted bytes are no whole fields";
+        WrongSize = 31, "the list is longer than the buffer";
+        // tools/numbers: end
     }
 }
 
@@ -181,12 +196,14 @@ numbered! {
     ///
     /// ```
     /// use reckonstile::RequestRefused;
-    /// assert_eq!(RequestRefused::ShortBuffer.number(), 51);
+    /// assert_eq!(RequestRefused::ShortRequestBuffer.number(), 51);
     /// ```
     RequestRefused {
-        VersionFive = 50, "V5 requests are the caller's to write";
-        ShortBuffer = 51, "the buffer is too short";
-        CookieOrCount = 52, "with NTS, a cookie over 724 bytes, or not 1 to 8 new ones asked for";
+        // tools/numbers: variants RequestRefused
+        VersionFive = 50, "a request of version 5 is the caller's to write, and one of an unknown kind is none";
+        ShortRequestBuffer = 51, "the packet is longer than the buffer";
+        CookieOrCount = 52, "the cookie has over 724 bytes, or the number asked for is not 1 to 8";
+        // tools/numbers: end
     }
 }
 
@@ -196,11 +213,13 @@ numbered! {
     /// ```
     /// use reckonstile::{Association, SaveRefused, Settings};
     /// let (mut a, _) = Association::<8>::new(&Settings::default(), &[]).unwrap();
-    /// assert_eq!(a.save(&mut [0; 62]), Err(SaveRefused::ShortBuffer));
+    /// assert_eq!(a.save(&mut [0; 62]), Err(SaveRefused::ShortFileBuffer));
     /// ```
     SaveRefused {
-        NotWhole = 32, "the record was not made by a call";
-        ShortBuffer = 60, "the buffer is shorter than the file";
+        // tools/numbers: variants SaveRefused
+        NotWhole = 32, "the record was not made by a call, or not all of it is lent";
+        ShortFileBuffer = 60, "the buffer is shorter than the file";
+        // tools/numbers: end
     }
 }
 
@@ -209,19 +228,21 @@ numbered! {
     ///
     /// ```
     /// use reckonstile::{Association, LoadRefused, Settings, FILE_BYTES};
-    /// assert_eq!(Association::<8>::load(b"").unwrap_err(), LoadRefused::Length);
-    /// assert_eq!(Association::<8>::load(b"no file").unwrap_err(), LoadRefused::Mark);
+    /// assert_eq!(Association::<8>::load(b"").unwrap_err(), LoadRefused::WrongLength);
+    /// assert_eq!(Association::<8>::load(b"no file").unwrap_err(), LoadRefused::WrongMark);
     /// // A file of an association with two slots is not one with eight.
     /// let mut file = [0; FILE_BYTES];
     /// let length = Association::<2>::new(&Settings::default(), &[]).unwrap().0.save(&mut file).unwrap();
-    /// assert_eq!(Association::<8>::load(&file[..length]).unwrap_err(), LoadRefused::RecordSize);
+    /// assert_eq!(Association::<8>::load(&file[..length]).unwrap_err(), LoadRefused::WrongSize);
     /// assert!(Association::<2>::load(&file[..length]).is_ok());
     /// ```
     LoadRefused {
-        RecordSize = 31, "the file is of an association with another number of slots";
-        Mark = 61, "a record of the file does not have the mark that is due";
-        Length = 62, "a wrong length, or bytes that are missing or left over";
-        Content = 63, "an unknown code, or an association that is not whole";
+        // tools/numbers: variants LoadRefused
+        WrongSize = 31, "the record has not the bytes of the file's capacity";
+        WrongMark = 61, "a record of the file does not have the mark that is due there";
+        WrongLength = 62, "a record of the file has a wrong length, or bytes are missing or left over";
+        NoAssociation = 63, "a code in the file is of no kind, or what it says is no whole association";
+        // tools/numbers: end
     }
 }
 
@@ -230,19 +251,19 @@ numbered! {
 /// ```
 /// use reckonstile::{compare, CompareRefused, LoadRefused};
 /// let refused = compare(b"no file", b"", &mut []).unwrap_err();
-/// assert_eq!((refused, refused.number()), (CompareRefused::Left(LoadRefused::Mark), 61));
-/// assert_eq!(refused.to_string(), "the left file: a record of the file does not have the mark that is due (61)");
+/// assert_eq!((refused, refused.number()), (CompareRefused::Left(LoadRefused::WrongMark), 61));
+/// assert_eq!(refused.to_string(), "the left file: a record of the file does not have the mark that is due there (61)");
 /// ```
 #[derive(Clone, Copy, Debug, PartialEq, Eq, Hash)]
 #[non_exhaustive]
 #[must_use]
 pub enum CompareRefused {
-    /// **61**, **62**, **63**: the left file cannot be read.
+    /// The left file cannot be read, with the number of its refusal.
     Left(LoadRefused),
-    /// **61**, **62**, **63**: the left file can be read, and the right one cannot.
+    /// The left file can be read, and the right one cannot.
     Right(LoadRefused),
     /// **71**: the buffer is shorter than the list.
-    ShortBuffer,
+    ShortCompareBuffer,
     /// A number that this crate does not know: the library is of another version.
     Other(u32),
 }
@@ -250,9 +271,9 @@ pub enum CompareRefused {
 impl CompareRefused {
     pub(crate) fn from_answer(number: u32, side: u32) -> Self {
         match (number, side) {
-            (61..=63, 1) => CompareRefused::Left(LoadRefused::from_number(number)),
-            (61..=63, 2) => CompareRefused::Right(LoadRefused::from_number(number)),
-            (71, _) => CompareRefused::ShortBuffer,
+            (numbers::SHORT_COMPARE_BUFFER, _) => CompareRefused::ShortCompareBuffer,
+            (_, 1) => CompareRefused::Left(LoadRefused::from_number(number)),
+            (_, 2) => CompareRefused::Right(LoadRefused::from_number(number)),
             _ => CompareRefused::Other(number),
         }
     }
@@ -262,7 +283,7 @@ impl CompareRefused {
     pub fn number(self) -> u32 {
         match self {
             CompareRefused::Left(refused) | CompareRefused::Right(refused) => refused.number(),
-            CompareRefused::ShortBuffer => 71,
+            CompareRefused::ShortCompareBuffer => numbers::SHORT_COMPARE_BUFFER,
             CompareRefused::Other(number) => number,
         }
     }
@@ -273,7 +294,7 @@ impl fmt::Display for CompareRefused {
         match self {
             CompareRefused::Left(refused) => write!(f, "the left file: {refused}"),
             CompareRefused::Right(refused) => write!(f, "the right file: {refused}"),
-            CompareRefused::ShortBuffer => write!(f, "the buffer is shorter than the list (71)"),
+            CompareRefused::ShortCompareBuffer => write!(f, "the buffer is shorter than the list ({})", self.number()),
             CompareRefused::Other(number) => write!(f, "a number of another version of the library ({number})"),
         }
     }
@@ -283,7 +304,7 @@ impl core::error::Error for CompareRefused {
     fn source(&self) -> Option<&(dyn core::error::Error + 'static)> {
         match self {
             CompareRefused::Left(refused) | CompareRefused::Right(refused) => Some(refused),
-            CompareRefused::ShortBuffer | CompareRefused::Other(_) => None,
+            CompareRefused::ShortCompareBuffer | CompareRefused::Other(_) => None,
         }
     }
 }
@@ -293,11 +314,13 @@ numbered! {
     ///
     /// ```
     /// use reckonstile::{salvage, SalvageRefused};
-    /// assert_eq!(salvage(&[1, 2, 3], &mut [0; 2]).unwrap_err(), SalvageRefused::ShortBuffer);
-    /// assert_eq!(SalvageRefused::ShortBuffer.number(), 70);
+    /// assert_eq!(salvage(&[1, 2, 3], &mut [0; 2]).unwrap_err(), SalvageRefused::ShortSalvageBuffer);
+    /// assert_eq!(SalvageRefused::ShortSalvageBuffer.number(), 70);
     /// ```
     SalvageRefused {
-        ShortBuffer = 70, "the buffer is shorter than the damaged list";
+        // tools/numbers: variants SalvageRefused
+        ShortSalvageBuffer = 70, "the buffer is shorter than the damaged list";
+        // tools/numbers: end
     }
 }
 
@@ -364,10 +387,12 @@ naming! {
     /// assert_eq!(refused.to_string(), "minute 15: more polls than the cap (83)");
     /// ```
     CheckRefused {
+        // tools/numbers: variants CheckRefused
         TooMany = 80, "more than 64 entries";
         BadRepeat { entry } = 81, "a repeat that is 0 or does not divide 1440";
         LateStart { entry } = 82, "a start at or past its repeat";
         OverCap { minute } = 83, "more polls than the cap";
+        // tools/numbers: end
     }
 }
 
@@ -380,10 +405,12 @@ naming! {
     /// assert_eq!((refused, refused.number()), (PlanRefused::NoFit { entry: 2 }, 84));
     /// ```
     PlanRefused {
+        // tools/numbers: variants PlanRefused
+        WrongSize = 31, "the buffer has fewer starts than there are entries";
         TooMany = 80, "more than 64 entries";
         BadRepeat { entry } = 81, "a repeat that is 0 or does not divide 1440";
         NoFit { entry } = 84, "no start fits behind those placed before";
-        ShortBuffer = 31, "the buffer has fewer starts than there are entries";
+        // tools/numbers: end
     }
 }
 
@@ -407,25 +434,53 @@ pub enum Action {
     Caller,
 }
 
-impl TimerRefused {
-    /// What to do.
-    pub const fn action(self) -> Action {
-        match self {
-            TimerRefused::Reset | TimerRefused::NoCookie | TimerRefused::CookieTooLarge => Action::Reset,
-            TimerRefused::Demobilize => Action::Demobilize,
-            TimerRefused::ShortBuffer | TimerRefused::NotWhole | TimerRefused::Other(_) => Action::Caller,
+/// What each refusal of an enum asks for, from one table.
+macro_rules! acting {
+    ($name:ident { $($variant:ident => $action:ident;)* }) => {
+        impl $name {
+            /// What to do.
+            pub const fn action(self) -> Action {
+                match self {
+                    $($name::$variant => Action::$action,)*
+                    $name::Other(_) => Action::Caller,
+                }
+            }
         }
+    };
+}
+
+acting! {
+    TimerRefused {
+        // tools/numbers: actions TimerRefused
+        Reset => Reset;
+        Demobilize => Demobilize;
+        NoCookie => Reset;
+        CookieTooLarge => Reset;
+        WrongSize => Caller;
+        NotWhole => Caller;
+        // tools/numbers: end
     }
 }
 
-impl ReplyRefused {
-    /// What to do.
-    pub const fn action(self) -> Action {
-        match self {
-            ReplyRefused::DeniedNts => Action::Demobilize,
-            ReplyRefused::NotWhole | ReplyRefused::BrokenList | ReplyRefused::Other(_) => Action::Caller,
-            _ => Action::Nothing,
-        }
+acting! {
+    ReplyRefused {
+        // tools/numbers: actions ReplyRefused
+        Undecodable => Nothing;
+        UnexpectedVersion => Nothing;
+        NoMatch => Nothing;
+        Rate => Nothing;
+        Denied => Nothing;
+        DeniedNts => Demobilize;
+        Ntsn => Nothing;
+        OtherKiss => Nothing;
+        BadStratum => Nothing;
+        NotServer => Nothing;
+        NeverSent => Nothing;
+        AlreadyMeasured => Nothing;
+        Expired => Nothing;
+        NotWhole => Caller;
+        BrokenList => Caller;
+        // tools/numbers: end
     }
 }
 
@@ -518,7 +573,7 @@ impl Poll<'_> {
     /// The number of this answer, 20.
     #[must_use]
     pub const fn number(&self) -> u32 {
-        20
+        numbers::SENT
     }
 }
 

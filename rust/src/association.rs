@@ -109,7 +109,7 @@ impl<const SLOTS: usize> Association<SLOTS> {
     /// looked at. Beside it, what of that list did not fit. Call [`Association::timer`] at once.
     ///
     /// # Errors
-    /// [`NewRefused`]: 30, of which [`Settings::check`] says the setting; 33. 31 and 38 are for other callers: types and settings here cannot name them.
+    /// [`NewRefused`]: of 30 [`Settings::check`] says the setting. 31 and 38 are for other callers: types and settings here cannot name them.
     ///
     /// ```
     /// use reckonstile::{Association, Settings};
@@ -143,7 +143,7 @@ impl<const SLOTS: usize> Association<SLOTS> {
     /// No poll that it sends has an exponent below 8.
     ///
     /// # Errors
-    /// [`MeteredRefused`]: 30, 33 to 37; 31 and 36 are for other callers.
+    /// [`MeteredRefused`]; 31 and 36 are for other callers.
     pub fn metered_in<'a>(
         place: &'a mut MaybeUninit<Self>,
         settings: &Settings,
@@ -167,7 +167,7 @@ impl<const SLOTS: usize> Association<SLOTS> {
     /// Whether settings and list meet the metered profile, as [`Association::metered_in`] would say.
     ///
     /// # Errors
-    /// [`MeteredRefused`]: 30, 33 to 37.
+    /// [`MeteredRefused`], as [`Association::metered_in`] would give it.
     pub fn profile(settings: &Settings, list: &[u8]) -> Result<(), MeteredRefused> {
         match ffi::profile(settings.numbers(SLOTS), list) {
             0 => Ok(()),
@@ -185,7 +185,7 @@ impl<const SLOTS: usize> Association<SLOTS> {
     /// after the poll interval.
     ///
     /// # Errors
-    /// [`TimerRefused`]: 21 to 24, 31, 32; its `action` says what to do.
+    /// [`TimerRefused`], whose `action` says what to do.
     pub fn timer<'b>(
         &mut self,
         time: NtpInstant,
@@ -210,7 +210,7 @@ impl<const SLOTS: usize> Association<SLOTS> {
     /// goes behind it, made over all of it. [`REQUEST_BYTES`] are enough.
     ///
     /// # Errors
-    /// [`RequestRefused`]: 50 for V5, 51 for a short buffer.
+    /// [`RequestRefused`]: of V5, or a short buffer.
     pub fn write_request(&self, poll: &Poll<'_>, id: u64, uid: [u8; 32], out: &mut [u8]) -> Result<usize, RequestRefused> {
         write_request(poll.kind, poll.poll, id, self.upgrade_mark(), uid, poll.cookie, poll.asked, out)
     }
@@ -218,8 +218,7 @@ impl<const SLOTS: usize> Association<SLOTS> {
     /// Hands in a reply of V3 or V4. On 0 the measurement goes to the clock steering, and acceptance is asked again.
     ///
     /// # Errors
-    /// [`ReplyRefused`]: 1, 2, 4 to 11; 12, 13 and 14, where no request is live, with the reason (nothing was sent yet, the last poll was answered already,
-    /// its time is over); 32, 33. Its `action` says what to do, which is nothing for most.
+    /// [`ReplyRefused`]: 12, 13 and 14 say why no request is live. Its `action` says what to do, which is nothing for most.
     pub fn reply(&mut self, reply: &Opened<'_>, times: Times) -> Result<Measurement, ReplyRefused> {
         measured(&ffi::reply(
             self.bytes_mut(),
@@ -264,7 +263,7 @@ impl<const SLOTS: usize> Association<SLOTS> {
     /// Whether the source may be used (0), given our own stratum, our own identifiers and the Bloom filter's word. Ask after each 20 and after each measured reply.
     ///
     /// # Errors
-    /// [`AcceptRefused`]: 40, 41, 42 (not for now), 32.
+    /// [`AcceptRefused`]: not for now, or the record is not whole.
     ///
     /// ```
     /// # use reckonstile::*;
@@ -281,7 +280,7 @@ impl<const SLOTS: usize> Association<SLOTS> {
     /// Settings and state as numbers. Numbers that do not go together are shown too: where another call answers 32, they say what is wrong.
     ///
     /// # Errors
-    /// [`LookRefused`]: 32, where the bytes are no record of this type: an unknown code, or another capacity.
+    /// [`LookRefused`], where the bytes are no record of this type: an unknown code, or another capacity.
     ///
     /// ```
     /// # use reckonstile::*;
@@ -301,7 +300,7 @@ impl<const SLOTS: usize> Association<SLOTS> {
     /// association has none; all else of it is as it was. [`FILE_BYTES`] are enough. The NTS keys are not in the file.
     ///
     /// # Errors
-    /// [`SaveRefused`]: 32, 60; then nothing is written, and nothing has changed.
+    /// [`SaveRefused`]; then nothing is written, and nothing has changed.
     ///
     /// ```
     /// # use reckonstile::*;
@@ -326,7 +325,7 @@ impl<const SLOTS: usize> Association<SLOTS> {
     /// that is V4 now.
     ///
     /// # Errors
-    /// [`LoadRefused`]: 61, 62, 63; then 31, where the file is of an association with another number of slots.
+    /// [`LoadRefused`]: the first fault of the file; then 31, where the file is of an association with another number of slots.
     ///
     /// ```
     /// use reckonstile::{Association, ProtocolVersion, Settings, FILE_BYTES};
@@ -414,13 +413,13 @@ fn measured(said: &ffi::Replied) -> Result<Measurement, ReplyRefused> {
 /// Writes a request from its parts; [`Association::write_request`] takes them from a timer's answer.
 ///
 /// # Errors
-/// [`RequestRefused`]: 50, 51, 52; then nothing is written.
+/// [`RequestRefused`]; then nothing is written.
 ///
 /// ```
 /// # use reckonstile::*;
 /// let mut out = [0; 48];
 /// assert_eq!(write_request(SendKind::V4, PollInterval::new(6), 1, 0, [0; 32], &[], 0, &mut out), Ok(48));
-/// assert_eq!(write_request(SendKind::V4, PollInterval::new(6), 1, 0, [0; 32], &[], 0, &mut out[..47]), Err(RequestRefused::ShortBuffer));
+/// assert_eq!(write_request(SendKind::V4, PollInterval::new(6), 1, 0, [0; 32], &[], 0, &mut out[..47]), Err(RequestRefused::ShortRequestBuffer));
 /// ```
 #[allow(clippy::too_many_arguments)]
 pub fn write_request(
@@ -443,7 +442,7 @@ pub fn write_request(
 /// Writes the cookies among decrypted fields as a list into `out`, and gives its length. An `out` as long as `decrypted` is enough.
 ///
 /// # Errors
-/// [`CollectRefused`]: 1, 31; then nothing is written, and the reply is handed in with an empty list.
+/// [`CollectRefused`]; then nothing is written, and the reply is handed in with an empty list.
 ///
 /// ```
 /// let mut out = [0; 8];

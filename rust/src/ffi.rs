@@ -393,6 +393,21 @@ pub(crate) fn revision() -> u32 {
     unsafe { c::reckonstile_revision() }
 }
 
+/// Stands before every other call. In debug builds the first of them asks the library itself whether it is of this crate's revision; the build has asked its PROOF.
+#[inline]
+fn held() {
+    #[cfg(debug_assertions)]
+    {
+        use core::sync::atomic::{AtomicBool, Ordering::Relaxed};
+        static ASKED: AtomicBool = AtomicBool::new(false);
+        if !ASKED.load(Relaxed) {
+            let theirs = revision();
+            assert!(theirs == REVISION, "reckonstile: the library is of revision {theirs:#010X} and the crate of {REVISION:#010X}: take both from one release");
+            ASKED.store(true, Relaxed);
+        }
+    }
+}
+
 impl<const SLOTS: usize> Association<SLOTS> {
     /// The bytes of a record: 818, 1,544, 2,996 and 5,900 for 1, 2, 4 and 8 slots.
     pub const BYTES: usize = {
@@ -446,6 +461,7 @@ impl<const SLOTS: usize> Association<SLOTS> {
 }
 
 pub(crate) fn blank(record: &mut [u8]) -> u32 {
+    held();
     // SAFETY: `record` is lent exclusively; no more than its length is written.
     unsafe { c::reckonstile_blank(record.as_mut_ptr(), record.len()) }
 }
@@ -455,6 +471,7 @@ pub(crate) fn new<'a, const SLOTS: usize>(
     settings: Settings,
     list: &[u8],
 ) -> (Made, Option<&'a mut Association<SLOTS>>) {
+    held();
     // SAFETY: `place` has `BYTES` bytes and is lent exclusively; what they were is not read. `list` is a pointer that is not null and its length.
     let said = unsafe {
         c::reckonstile_new(place.as_mut_ptr().cast(), Association::<SLOTS>::BYTES, settings, list.as_ptr(), list.len())
@@ -468,6 +485,7 @@ pub(crate) fn metered<'a, const SLOTS: usize>(
     settings: Settings,
     list: &[u8],
 ) -> (Made, Option<&'a mut Association<SLOTS>>) {
+    held();
     // SAFETY: as for `new`.
     let said = unsafe {
         c::reckonstile_metered(place.as_mut_ptr().cast(), Association::<SLOTS>::BYTES, settings, list.as_ptr(), list.len())
@@ -480,6 +498,7 @@ pub(crate) fn load<'a, const SLOTS: usize>(
     place: &'a mut MaybeUninit<Association<SLOTS>>,
     file: &[u8],
 ) -> (Loaded, Option<&'a mut Association<SLOTS>>) {
+    held();
     // SAFETY: as for `new`, with the file in the list's place.
     let said =
         unsafe { c::reckonstile_load(place.as_mut_ptr().cast(), Association::<SLOTS>::BYTES, file.as_ptr(), file.len()) };
@@ -499,11 +518,13 @@ pub(crate) fn boxed<const SLOTS: usize, T, E>(
 }
 
 pub(crate) fn profile(settings: Settings, list: &[u8]) -> u32 {
+    held();
     // SAFETY: `list` is a pointer that is not null and its length, and nothing is written.
     unsafe { c::reckonstile_profile(settings, list.as_ptr(), list.len()) }
 }
 
 pub(crate) fn timer(record: &mut [u8], time: u64, desired: i8, id: u64, uid: [u8; 32], buffer: &mut [u8]) -> Timed {
+    held();
     let uid = Uid { bytes: uid };
     // SAFETY: `record` and `buffer` are lent exclusively, so they do not overlap; of neither more than its length is written.
     unsafe {
@@ -512,6 +533,7 @@ pub(crate) fn timer(record: &mut [u8], time: u64, desired: i8, id: u64, uid: [u8
 }
 
 pub(crate) fn field_at(packet: &[u8], at: usize) -> Field {
+    held();
     // SAFETY: the packet is only read, and `at` may be any number.
     unsafe { c::reckonstile_field_at(packet.as_ptr(), packet.len(), at) }
 }
@@ -527,6 +549,7 @@ pub(crate) fn reply(
     t4: u64,
     time: u64,
 ) -> Replied {
+    held();
     // SAFETY: `record` is lent exclusively, so none of the three slices, which are only read, lies in it.
     unsafe {
         c::reckonstile_reply(
@@ -547,26 +570,31 @@ pub(crate) fn reply(
 }
 
 pub(crate) fn reply_decoded(record: &mut [u8], d: Decoded, list: &[u8], t1: u64, t4: u64, time: u64) -> Replied {
+    held();
     // SAFETY: `record` is lent exclusively, so the list, which is only read, does not lie in it.
     unsafe { c::reckonstile_reply_decoded(record.as_mut_ptr(), record.len(), d, list.as_ptr(), list.len(), t1, t4, time) }
 }
 
 pub(crate) fn accept(record: &[u8], stratum: u8, local: &[ReferenceId], bloom: u32) -> u32 {
+    held();
     // SAFETY: both are only read; an identifier is a number (repr(transparent)), and the length counts them, as the call wants it.
     unsafe { c::reckonstile_accept(record.as_ptr(), record.len(), stratum, local.as_ptr().cast::<u32>(), local.len(), bloom) }
 }
 
 pub(crate) fn look(record: &[u8]) -> View {
+    held();
     // SAFETY: the record is only read.
     unsafe { c::reckonstile_look(record.as_ptr(), record.len()) }
 }
 
 pub(crate) fn collect(decrypted: &[u8], out: &mut [u8]) -> Written {
+    held();
     // SAFETY: `out` is lent exclusively, so it does not overlap with what is read; no more than its length is written.
     unsafe { c::reckonstile_collect(decrypted.as_ptr(), decrypted.len(), out.as_mut_ptr(), out.len()) }
 }
 
 pub(crate) fn save(record: &mut [u8], out: &mut [u8]) -> Written {
+    held();
     // SAFETY: `record` and `out` are lent exclusively, so they do not overlap; of neither more than its length is written.
     unsafe { c::reckonstile_save(record.as_mut_ptr(), record.len(), out.as_mut_ptr(), out.len()) }
 }
@@ -582,6 +610,7 @@ pub(crate) fn write_request(
     asked: u8,
     out: &mut [u8],
 ) -> Written {
+    held();
     // SAFETY: `out` is lent exclusively, so it does not overlap with the cookie; no more than its length is written.
     unsafe {
         c::reckonstile_write_request(
@@ -600,21 +629,25 @@ pub(crate) fn write_request(
 }
 
 pub(crate) fn compare(left: &[u8], right: &[u8], out: &mut [u8]) -> Compared {
+    held();
     // SAFETY: `out` is lent exclusively, so it does not overlap with the files; no more than its length is written.
     unsafe { c::reckonstile_compare(left.as_ptr(), left.len(), right.as_ptr(), right.len(), out.as_mut_ptr(), out.len()) }
 }
 
 pub(crate) fn salvage(list: &[u8], out: &mut [u8]) -> Salvaged {
+    held();
     // SAFETY: `out` is lent exclusively, so it does not overlap with the list; no more than its length is written.
     unsafe { c::reckonstile_salvage(list.as_ptr(), list.len(), out.as_mut_ptr(), out.len()) }
 }
 
 pub(crate) fn check_calendar(cap: u8, starts: &[u16], repeats: &[u16]) -> Scheduled {
+    held();
     // SAFETY: both are only read; the lengths count their numbers, as the call wants it.
     unsafe { c::reckonstile_check_calendar(cap, starts.as_ptr(), starts.len(), repeats.as_ptr(), repeats.len()) }
 }
 
 pub(crate) fn plan_calendar(cap: u8, repeats: &[u16], starts: &mut [u16]) -> Scheduled {
+    held();
     // SAFETY: `starts` is lent exclusively, so it does not overlap with the repeats; no more than its length, in numbers, is written.
     unsafe { c::reckonstile_plan_calendar(cap, repeats.as_ptr(), repeats.len(), starts.as_mut_ptr(), starts.len()) }
 }

@@ -6,7 +6,8 @@
 //! docs/CALLERS.md what is handed over; `examples/connector.rs` is a whole client.
 //!
 //! No dependencies. Without the feature `std` the crate is `no_std` and allocates nothing; `std` (on by default) adds conversions from and to `std::time`, and
-//! associations on the heap. The library is made for the target that is built for, where docs/BOARDS.md has it, or is the one that `RECKONSTILE_LIB` names.
+//! associations on the heap. The library is the one that `RECKONSTILE_LIB` names; else in a release the one beside this crate, and in the repository the one that
+//! is made for the target that is built for, where docs/BOARDS.md has it. One of another revision, a changed one and a stale one are refused.
 #![no_std]
 #![deny(missing_docs, unsafe_code)]
 #![warn(unsafe_op_in_unsafe_fn)]
@@ -19,6 +20,7 @@ mod association;
 mod decoded;
 mod ffi;
 mod identifiers;
+pub mod numbers;
 mod opened;
 mod settings;
 mod time;

@@ -16,12 +16,12 @@ const AUTHENTICATOR: u32 = 0x0404;
 /// struct Tag(u8);
 /// impl Open for Tag {
 ///     type Error = ();
-///     fn open(&mut self, _associated: &[u8], _nonce: &[u8], ciphertext: &[u8], plain: &mut [u8]) -> Result<usize, ()> {
+///     fn open(&mut self, _associated: &[u8], _nonce: &[u8], ciphertext: &[u8], decrypted: &mut [u8]) -> Result<usize, ()> {
 ///         let (tag, text) = ciphertext.split_first().ok_or(())?;
 ///         if *tag != self.0 {
 ///             return Err(());
 ///         }
-///         plain.get_mut(..text.len()).ok_or(())?.copy_from_slice(text);
+///         decrypted.get_mut(..text.len()).ok_or(())?.copy_from_slice(text);
 ///         Ok(text.len())
 ///     }
 /// }
@@ -30,22 +30,22 @@ const AUTHENTICATOR: u32 = 0x0404;
 /// packet[0] = 0x24;
 /// packet[48..56].copy_from_slice(&[4, 4, 0, 36, 0, 12, 0, 9]);
 /// packet[68..77].copy_from_slice(&[7, 2, 4, 0, 8, 1, 2, 3, 4]);
-/// let (mut plain, mut list) = ([0; 84], [0; 84]);
-/// let opened = Opened::walk(&packet, &mut Tag(7), &mut plain, &mut list).unwrap();
+/// let (mut decrypted, mut list) = ([0; 84], [0; 84]);
+/// let opened = Opened::walk(&packet, &mut Tag(7), &mut decrypted, &mut list).unwrap();
 /// assert_eq!((opened.end(), opened.list()), (48, &[0xc0, 0x0e, 0, 4, 1, 2, 3, 4][..]));
 /// // Under another key it does not open: the end is 0, to which the association answers 1.
-/// assert_eq!(Opened::walk(&packet, &mut Tag(8), &mut plain, &mut list).unwrap().end(), 0);
+/// assert_eq!(Opened::walk(&packet, &mut Tag(8), &mut decrypted, &mut list).unwrap().end(), 0);
 /// ```
 pub trait Open {
     /// Why something does not open. Whatever it is, the reply is refused (1); a cipher that wants it logged keeps it.
     type Error;
 
-    /// Opens one field: deciphers `ciphertext` into `plain`, where it holds over the `associated` bytes and the `nonce`, and gives how many bytes it wrote.
-    /// `plain` is as long as the ciphertext at least.
+    /// Opens one field: deciphers `ciphertext` into `decrypted`, where it holds over the `associated` bytes and the `nonce`, and gives how many bytes it wrote.
+    /// `decrypted` is as long as the ciphertext at least.
     ///
     /// # Errors
-    /// Where it does not hold. What is in `plain` is not looked at then.
-    fn open(&mut self, associated: &[u8], nonce: &[u8], ciphertext: &[u8], plain: &mut [u8]) -> Result<usize, Self::Error>;
+    /// Where it does not hold. What is in `decrypted` is not looked at then.
+    fn open(&mut self, associated: &[u8], nonce: &[u8], ciphertext: &[u8], decrypted: &mut [u8]) -> Result<usize, Self::Error>;
 }
 
 /// A reply of V3 or V4, with what of it is authenticated. [`Association::reply`](crate::Association::reply) takes it.
@@ -220,10 +220,10 @@ impl<'a> Opened<'a> {
                 continue;
             }
             let (nonce, ciphertext) = sealed(field.body).ok_or(OpenFault::Authenticator)?;
-            let plain = &mut decrypted[length..];
-            let wrote = cipher.open(&packet[..field.at], nonce, ciphertext, plain).map_err(|_| OpenFault::Cipher)?;
+            let rest = &mut decrypted[length..];
+            let wrote = cipher.open(&packet[..field.at], nonce, ciphertext, rest).map_err(|_| OpenFault::Cipher)?;
             // Its fields have to be whole by themselves, before they stand behind those of the authenticator before: joined, two broken ones may be one field.
-            let text = plain.get(..wrote).ok_or(OpenFault::Cipher)?;
+            let text = rest.get(..wrote).ok_or(OpenFault::Cipher)?;
             if ffi::collect(text, list).number != 0 {
                 return Err(OpenFault::Decrypted);
             }

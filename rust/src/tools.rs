@@ -15,7 +15,7 @@ pub const NO_COOKIE: u64 = 65536;
 /// The bytes of an entry.
 const ENTRY_BYTES: usize = 19;
 
-/// A field in which two boxes differ (docs/COMPARE.md has the codes).
+/// A field in which two boxes differ (docs/HANDOVER.md has the codes).
 #[derive(Clone, Copy, Debug, PartialEq, Eq, Hash)]
 #[non_exhaustive]
 pub struct Difference {
@@ -67,7 +67,7 @@ impl Differences<'_> {
 /// retired version is V4.
 ///
 /// # Errors
-/// [`CompareRefused`]: 61 to 63 of the left file, then of the right one, then 71; then nothing is written.
+/// [`CompareRefused`]: of the left file, then of the right one, then of the buffer; then nothing is written.
 ///
 /// ```
 /// use reckonstile::{compare, Association, Settings, LIST_BYTES};
@@ -119,7 +119,7 @@ impl Salvaged<'_> {
 /// out byte for byte.
 ///
 /// # Errors
-/// [`SalvageRefused`]: 70; then nothing is written.
+/// [`SalvageRefused`]; then nothing is written.
 ///
 /// ```
 /// // Two cookies, and a byte between them that flash has put there.
@@ -148,7 +148,7 @@ pub fn salvage<'b>(list: &[u8], out: &'b mut [u8]) -> Result<Salvaged<'b>, Salva
 /// minute may have more polls than `cap`. The lists are of the same length, up to [`ENTRIES`]; where they are not, the calendar is refused.
 ///
 /// # Errors
-/// [`CheckRefused`]: 80 to 83, in this order, with the lowest entry or minute.
+/// [`CheckRefused`], with the lowest entry or minute.
 ///
 /// ```
 /// use reckonstile::{check_calendar, CheckRefused};
@@ -169,7 +169,7 @@ pub fn check_calendar(cap: u8, starts: &[u16], repeats: &[u16]) -> Result<(), Ch
 /// accepts what is planned.
 ///
 /// # Errors
-/// [`PlanRefused`]: 80, 81, 84, 31; then nothing is written.
+/// [`PlanRefused`]; then nothing is written.
 ///
 /// ```
 /// use reckonstile::{check_calendar, plan_calendar};

@@ -130,17 +130,14 @@ fn cookies_go_in_and_out() {
     let (mut a, _) = Association::<8>::new(&settings, &list[..length]).unwrap();
     assert_eq!(a.cookies(), 2);
     let mut short = [0; COOKIE_BYTES - 1];
-    assert_eq!(
-        a.timer(NtpInstant::from_nanos(0), PollInterval::new(6), 1, [9; 32], &mut short),
-        Err(TimerRefused::ShortBuffer)
-    );
+    assert_eq!(a.timer(NtpInstant::from_nanos(0), PollInterval::new(6), 1, [9; 32], &mut short), Err(TimerRefused::WrongSize));
     let mut buffer = [0; COOKIE_BYTES];
     let poll = a.timer(NtpInstant::from_nanos(0), PollInterval::new(6), 1, [9; 32], &mut buffer).unwrap();
     assert_eq!((poll.kind, poll.cookie, poll.asked), (SendKind::NtsV4, &[1; 20][..], 7));
     let mut out = [0; REQUEST_BYTES];
     let length = a.write_request(&poll, 1, [9; 32], &mut out).unwrap();
     assert_eq!(length, 48 + 36 + 7 * 24);
-    assert_eq!(a.write_request(&poll, 1, [9; 32], &mut out[..length - 1]), Err(RequestRefused::ShortBuffer));
+    assert_eq!(a.write_request(&poll, 1, [9; 32], &mut out[..length - 1]), Err(RequestRefused::ShortRequestBuffer));
     assert_eq!((a.cookies(), a.pending_uid()), (1, Some([9; 32])));
     assert_eq!(Association::<8>::new(&settings, &list[..5]).unwrap_err(), NewRefused::BrokenList);
 }
@@ -233,7 +230,7 @@ fn settings_out_of_range_are_refused_and_named() {
         (window(Duration::MAX), SettingsFault::PollWindow),
     ];
     for (settings, fault) in bad {
-        assert_eq!(Association::<8>::new(&settings, &[]).unwrap_err(), NewRefused::Settings, "{settings:?}");
+        assert_eq!(Association::<8>::new(&settings, &[]).unwrap_err(), NewRefused::BadSettings, "{settings:?}");
         assert_eq!(settings.check(), Err(fault));
     }
     // Each limit itself is within the range, and no fault is found in it.
@@ -265,7 +262,7 @@ fn a_record_is_as_long_as_its_slots_are_many() {
         let (b, retired) = Association::load_in(&mut other, &file[..length]).unwrap();
         assert_eq!((b.cookies(), retired, b.as_bytes().len()), (SLOTS, false, std::mem::size_of_val(b)));
         if SLOTS != 3 {
-            assert_eq!(Association::<3>::load(&file[..length]).unwrap_err(), LoadRefused::RecordSize);
+            assert_eq!(Association::<3>::load(&file[..length]).unwrap_err(), LoadRefused::WrongSize);
         }
         assert_eq!(std::mem::align_of::<Association<SLOTS>>(), 1);
         b.as_bytes().len()
@@ -339,7 +336,7 @@ fn a_refusal_is_an_error_without_std() {
     let refused = reckonstile::compare(b"", b"", &mut []).unwrap_err();
     assert_eq!(
         core::error::Error::source(&refused).map(told).as_deref(),
-        Some("a wrong length, or bytes that are missing or left over (62)")
+        Some("a record of the file has a wrong length, or bytes are missing or left over (62)")
     );
 }
 
@@ -374,7 +371,7 @@ fn a_damaged_list_starts_an_association() {
     assert_eq!(salvaged.list, &list[24..length]);
     assert_eq!(Association::<1>::new(&settings, salvaged.list).unwrap().0.cookies(), 1);
     assert_eq!(out[24..], [0xEE; 40]);
-    assert_eq!(salvage(&list[..length], &mut out[..length - 1]).unwrap_err(), SalvageRefused::ShortBuffer);
+    assert_eq!(salvage(&list[..length], &mut out[..length - 1]).unwrap_err(), SalvageRefused::ShortSalvageBuffer);
 }
 
 #[test]
@@ -410,7 +407,7 @@ fn a_plan_is_written_whole_or_not_at_all() {
     let mut starts = [7; 4];
     assert_eq!(plan_calendar(1, &[4, 4, 2], &mut starts), Err(PlanRefused::NoFit { entry: 2 }));
     assert_eq!(plan_calendar(1, &[4, 0], &mut starts), Err(PlanRefused::BadRepeat { entry: 1 }));
-    assert_eq!(plan_calendar(1, &[2, 4, 4], &mut starts[..2]), Err(PlanRefused::ShortBuffer));
+    assert_eq!(plan_calendar(1, &[2, 4, 4], &mut starts[..2]), Err(PlanRefused::WrongSize));
     assert_eq!(plan_calendar(1, &[60; ENTRIES + 1], &mut starts), Err(PlanRefused::TooMany));
     assert_eq!(starts, [7; 4]);
     assert_eq!(plan_calendar(1, &[2, 4, 4], &mut starts), Ok(&[0, 1, 3][..]));

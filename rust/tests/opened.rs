@@ -24,12 +24,12 @@ impl Sum {
 impl Open for Sum {
     type Error = &'static str;
 
-    fn open(&mut self, associated: &[u8], nonce: &[u8], ciphertext: &[u8], plain: &mut [u8]) -> Result<usize, Self::Error> {
+    fn open(&mut self, associated: &[u8], nonce: &[u8], ciphertext: &[u8], decrypted: &mut [u8]) -> Result<usize, Self::Error> {
         let (tag, text) = ciphertext.split_first().ok_or("no tag")?;
         if *tag != self.of([associated, nonce, text]) {
             return Err("another tag");
         }
-        plain[..text.len()].copy_from_slice(text);
+        decrypted[..text.len()].copy_from_slice(text);
         Ok(text.len())
     }
 }
@@ -61,8 +61,8 @@ fn sealed(packet: &[u8], key: u8, nonce: &[u8], text: &[u8]) -> Vec<u8> {
 type Told = (usize, Vec<u8>, Vec<u8>, Option<OpenFault>);
 
 fn walked(packet: &[u8]) -> Told {
-    let (mut plain, mut list) = (vec![0; packet.len()], vec![0; packet.len()]);
-    let o = Opened::walk(packet, &mut Sum(7), &mut plain, &mut list).unwrap();
+    let (mut decrypted, mut list) = (vec![0; packet.len()], vec![0; packet.len()]);
+    let o = Opened::walk(packet, &mut Sum(7), &mut decrypted, &mut list).unwrap();
     assert_eq!(o.packet(), packet);
     (o.end(), o.decrypted().to_vec(), o.list().to_vec(), o.fault())
 }
@@ -173,8 +173,8 @@ fn an_association_with_nts_measures_what_opens() {
     let right = sealed(&packet, 7, &[1; 16], &field(0x0204, b"cookie.1"));
     let wrong = sealed(&packet, 8, &[1; 16], &field(0x0204, b"cookie.1"));
     let mut hear = |packet: &[u8]| {
-        let (mut plain, mut list) = (vec![0; packet.len()], vec![0; packet.len()]);
-        let opened = Opened::walk(packet, &mut Sum(7), &mut plain, &mut list).unwrap();
+        let (mut decrypted, mut list) = (vec![0; packet.len()], vec![0; packet.len()]);
+        let opened = Opened::walk(packet, &mut Sum(7), &mut decrypted, &mut list).unwrap();
         (a.reply(&opened, times()).map(|_| ()), a.cookies())
     };
     assert_eq!(hear(&wrong), (Err(ReplyRefused::Undecodable), 0));

@@ -14,7 +14,7 @@ static uint8_t *record;
 static size_t size;
 static uint64_t far_read, far_held; /* numbers that were poked and that no byte holds: 255 stands for them, which is not whole either */
 
-enum { RECORD, PACKET, PLAIN, LIST, OUT, LOCAL, TRIAL };
+enum { RECORD, PACKET, DECRYPTED, LIST, OUT, LOCAL, TRIAL };
 
 static int zeros(const uint8_t *b, size_t n) {
     for (size_t i = 0; i < n; i++)
@@ -152,7 +152,7 @@ static int refused_elsewhere(maker make, struct reckonstile_settings s, const ui
     uint8_t *trial = fenced(TRIAL, wrong);
     memset(trial, FILL, wrong);
     struct reckonstile_new_answer r = make(trial, wrong, s, list, n);
-    return r.number == (number ? number : RECKONSTILE_SHORT_BUFFER) && !r.made && !r.dropped && !r.lost && (number ? zeros(trial, wrong) : filled(trial, wrong)) && wall_stands(trial);
+    return r.number == (number ? number : RECKONSTILE_WRONG_SIZE) && !r.made && !r.dropped && !r.lost && (number ? zeros(trial, wrong) : filled(trial, wrong)) && wall_stands(trial);
 }
 
 static void made(const char *word, maker make) {
@@ -192,7 +192,7 @@ static void timer(void) {
         end(well && rest_filled(r.length));
         return;
     }
-    int untouched = (r.number == RECKONSTILE_NO_COOKIE || r.number == RECKONSTILE_COOKIE_SIZE) || same();
+    int untouched = timer_changes(r.number) || same();
     end(well && untouched && rest_filled(0) && !r.kind && !r.poll && !r.asked && !r.length);
 }
 
@@ -205,24 +205,23 @@ static void replied(const char *word, struct reckonstile_reply_answer r) {
         end(well && r.measured == 1);
         return;
     }
-    int changes = r.number >= RECKONSTILE_RATE && r.number <= RECKONSTILE_NOT_SERVER;
     int zero = !r.measured && !r.delay && !r.offset && !r.local && !r.mono && !r.stratum && !r.rootdelay && !r.rootdisp && !r.leap && !r.precision && !r.dropped && !r.lost;
-    end(well && (changes || same()) && zero);
+    end(well && (reply_changes(r.number) || same()) && zero);
 }
 
 static void reply(void) {
-    size_t packet_len, plain_len, list_len;
-    uint8_t *packet = fenced_bytes(PACKET, text("packet"), &packet_len), *plain = fenced_bytes(PLAIN, or_text("plain", "-"), &plain_len), *list;
+    size_t packet_len, decrypted_len, list_len;
+    uint8_t *packet = fenced_bytes(PACKET, text("packet"), &packet_len), *decrypted = fenced_bytes(DECRYPTED, or_text("plain", "-"), &decrypted_len), *list;
     const char *named = or_text("list", "-");
     if (!strcmp(named, "collect")) {
         static uint8_t collected[4096];
-        list_len = (size_t)reckonstile_collect(plain, plain_len, collected, sizeof collected).length;
+        list_len = (size_t)reckonstile_collect(decrypted, decrypted_len, collected, sizeof collected).length;
         list = fenced(LIST, list_len);
         memcpy(list, collected, list_len);
     } else
         list = fenced_bytes(LIST, named, &list_len);
     lend(lent_size());
-    replied("reply", reckonstile_reply(record, size, packet, packet_len, natural(or_text("auth", "48")), plain, plain_len, list, list_len, natural(text("t1")),
+    replied("reply", reckonstile_reply(record, size, packet, packet_len, natural(or_text("auth", "48")), decrypted, decrypted_len, list, list_len, natural(text("t1")),
                                        natural(text("t4")), natural(text("now"))));
 }
 
@@ -279,9 +278,9 @@ static void written(const char *word, const char *name, struct reckonstile_writt
 
 static void collect(void) {
     size_t n;
-    uint8_t *plain = fenced_bytes(PLAIN, text("plain"), &n);
+    uint8_t *decrypted = fenced_bytes(DECRYPTED, text("plain"), &n);
     lend_out("4096");
-    written("collect", "list", reckonstile_collect(plain, n, out, room));
+    written("collect", "list", reckonstile_collect(decrypted, n, out, room));
 }
 
 static void request(void) {
@@ -322,7 +321,7 @@ static void load(void) {
     uint8_t *trial = fenced(TRIAL, wrong);
     memset(trial, FILL, wrong);
     struct reckonstile_load_answer elsewhere = reckonstile_load(trial, wrong, file, n);
-    well &= elsewhere.number == (r.number ? r.number : RECKONSTILE_SHORT_BUFFER) && !elsewhere.retired && wall_stands(trial) && (r.number ? zeros(trial, wrong) : filled(trial, wrong));
+    well &= elsewhere.number == (r.number ? r.number : RECKONSTILE_WRONG_SIZE) && !elsewhere.retired && wall_stands(trial) && (r.number ? zeros(trial, wrong) : filled(trial, wrong));
     end(well && (r.number == RECKONSTILE_OK ? r.retired <= 1 : !r.retired));
 }
 
@@ -381,11 +380,11 @@ static void entry(const uint8_t *e) {
 
 static void compare(void) {
     size_t m, n;
-    uint8_t *left = fenced_bytes(PACKET, text("left"), &m), *right = fenced_bytes(PLAIN, text("right"), &n);
+    uint8_t *left = fenced_bytes(PACKET, text("left"), &m), *right = fenced_bytes(DECRYPTED, text("right"), &n);
     lend_out("4096");
     struct reckonstile_compared r = reckonstile_compare(left, m, right, n, out, room);
     printf("compare %" PRIu32, r.number);
-    int refused = r.number >= RECKONSTILE_FILE_MARK && r.number <= RECKONSTILE_FILE_CONTENT;
+    int refused = r.number >= RECKONSTILE_WRONG_MARK && r.number <= RECKONSTILE_NO_ASSOCIATION;
     if (refused) printf(" side=%s", r.side == 1 ? "left" : "right");
     if (r.number == RECKONSTILE_OK) printf(" %" PRIu64, r.entries);
     for (size_t k = 0; k < r.entries; k++) entry(out + RECKONSTILE_ENTRY_BYTES * k);
@@ -421,7 +420,7 @@ static void scheduled(const char *word, struct reckonstile_calendar_answer r) {
 static void calendar(void) {
     static uint16_t starts[MOST / 2], repeats[MOST / 2];
     size_t n = minutes(text("entries"), starts, repeats);
-    uint16_t *first = fenced_minutes(PACKET, starts, n), *second = fenced_minutes(PLAIN, repeats, n);
+    uint16_t *first = fenced_minutes(PACKET, starts, n), *second = fenced_minutes(DECRYPTED, repeats, n);
     struct reckonstile_calendar_answer r = reckonstile_check_calendar((uint8_t)natural(text("cap")), first, n, second, n);
     scheduled("calendar", r);
     end((r.named || !r.place) && same());
@@ -431,7 +430,7 @@ static void plan(void) {
     static uint16_t given[MOST / 2];
     uint8_t cap = (uint8_t)natural(text("cap"));
     size_t n = minutes(text("repeats"), given, NULL);
-    uint16_t *repeats = fenced_minutes(PLAIN, given, n), *starts = (uint16_t *)(void *)fenced(OUT, 2 * n + 2);
+    uint16_t *repeats = fenced_minutes(DECRYPTED, given, n), *starts = (uint16_t *)(void *)fenced(OUT, 2 * n + 2);
     memset(starts, FILL, 2 * n + 2);
     struct reckonstile_calendar_answer r = reckonstile_plan_calendar(cap, repeats, n, starts, n + 1);
     size_t written = r.number == RECKONSTILE_OK ? n : 0;
@@ -446,7 +445,7 @@ static void plan(void) {
         starts = (uint16_t *)(void *)fenced(OUT, 2 * n - 2);
         memset(starts, FILL, 2 * n - 2);
         struct reckonstile_calendar_answer less = reckonstile_plan_calendar(cap, repeats, n, starts, n - 1);
-        right &= less.number == (r.number ? r.number : RECKONSTILE_SHORT_BUFFER) && filled((const uint8_t *)starts, 2 * n - 2);
+        right &= less.number == (r.number ? r.number : RECKONSTILE_WRONG_SIZE) && filled((const uint8_t *)starts, 2 * n - 2);
     }
     end(right && same());
 }

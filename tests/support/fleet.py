@@ -23,6 +23,8 @@ class Log:
         self.counts = dict(sent=0, answered=0, late=0, foreign=0)
         self.first = self.last = self.heard = None         # first and last offset, and the tick of the last measured reply, in seconds
         self.risen = None                                  # the tick of the accept that began the last good state
+        self.heard_at = self.risen_at = None               # the true times of these two, in seconds since 1900
+        self.fresh = False                                 # since a reboot nothing was measured
 
     def say(self, line: str, number: int | None) -> None:
         self.lines.append(line)
@@ -95,8 +97,8 @@ class Log:
     def count(self, number: int, at: float) -> None:
         self.at = max(self.at, at)
         if number == 0:
-            self.first = self.slow if self.first is None else self.first
-            self.last, self.heard = self.slow, at
+            self.first = self.slow if self.first is None or self.fresh else self.first
+            self.last, self.heard, self.heard_at, self.fresh = self.slow, at, self.true(at), False
         for name, which in (('answered', 0), ('late', 14), ('foreign', 4)):
             self.counts[name] += number == which
 
@@ -104,7 +106,7 @@ class Log:
         """`rises`: a good state begins here"""
         self.say('accept stratum=%d%s' % (stratum, ' local=' + local if local else ''), number)
         if rises:
-            self.risen = self.at
+            self.risen, self.risen_at = self.at, self.true(self.at)
 
     def other(self, line: str, number: int | None = None) -> None:
         self.say(line, number)
@@ -139,6 +141,12 @@ class Log:
         self.at = self.asked = to
         self.source = source
 
+    def reboot(self, down: float = 40, to: float = 2) -> None:
+        """the box is switched off, and on again after so many seconds: its ticks begin anew, and the first that is read is `to`"""
+        self.on += self.at + down
+        self.at = self.asked = to
+        self.fresh = True
+
     def noise(self, dice: random.Random) -> None:
         """replies that harm nobody, after an answered poll"""
         for _ in range(dice.randrange(4)):
@@ -166,9 +174,9 @@ def story(life: Callable[[Log, random.Random], Truth]) -> Callable[[Log, random.
 UP = Truth('up')
 
 
-def box_file(reach: int = 1) -> str:
+def box_file(reach: int = 1, source: tuple[int, ...] = (192, 0, 2, 1)) -> str:
     """a hand-over file of a box whose source was accepted: stratum 2, and of its last eight polls those of `reach` answered (docs/HANDOVER.md)"""
-    settings = bytes([4, 10, 3]) + (5 * 10**9).to_bytes(8, 'big') + bytes.fromhex(MARK) + bytes([0, 0, 0]) + bytes([192, 0, 2, 1]) + bytes([8])
+    settings = bytes([4, 10, 3]) + (5 * 10**9).to_bytes(8, 'big') + bytes.fromhex(MARK) + bytes([0, 0, 0]) + bytes(source) + bytes([8])
     bodies = ((b'SE', settings), (b'ST', b'\0'), (b'RE', bytes([reach, 1])), (b'VE', b'\0\0'), (b'PO', bytes([4, 4])), (b'SO', bytes([2, 192, 0, 2, 99, 0])))
     return b''.join(mark + len(body).to_bytes(2, 'big') + body for mark, body in bodies).hex()
 
@@ -415,6 +423,89 @@ def is_accepted_again_behind_a_missing_cookie(log, dice):
     log.wait()
     log.poll(23)
     log.accept(rises=True)
+    return UP
+
+
+@story
+def reboots_and_comes_up_again(log, dice):
+    log.new()
+    log.up()
+    log.reboot()
+    log.slow = dice.choice((0.1, 25200, -7200))   # a box without a battery has another clock now
+    log.new(dice.choice(('new', 'metered')))
+    log.round()
+    log.accept(rises=True)
+    log.slow = 0.003
+    log.wait()
+    log.round()
+    return UP
+
+
+@story
+def reboots_twice_and_comes_up_at_last(log, dice):
+    log.new()
+    log.up()
+    log.reboot()
+    log.new()
+    log.poll()
+    log.silence(1)
+    log.reboot(to=1)
+    log.new()
+    log.up(dice.randrange(3))
+    return UP
+
+
+@story
+def gives_up_and_comes_up_after_a_reboot(log, dice):
+    log.new()
+    log.poll()
+    log.silence(2)
+    log.wait()
+    log.poll(21)
+    log.reboot()
+    log.new()
+    log.up(1)
+    return UP
+
+
+@story
+def reboots_while_another_server_is_up(log, dice):
+    start = log.at
+    log.new()
+    log.up(4)
+    log.back(start, '192.0.2.2')
+    log.new()
+    log.up(2)
+    log.back(1, '192.0.2.1')
+    log.new()
+    log.poll()
+    log.silence(1)
+    return UP
+
+
+@story
+def is_up_after_a_reboot_beside_a_silent_server(log, dice):
+    log.new()
+    log.up(2)
+    log.reboot(to=9)
+    log.new()
+    log.up(3)
+    log.back(9 if dice.random() < 0.5 else 10, '192.0.2.2')
+    log.new()
+    log.poll()
+    log.silence(2)
+    log.wait()
+    log.poll(21)
+    return UP
+
+
+@story
+def loads_the_file_of_another_server_at_a_lower_tick(log, dice):
+    log.new()
+    log.up()
+    log.back(1, '192.0.2.2')
+    log.load(box_file(source=(192, 0, 2, 2)))
+    log.poll()
     return UP
 
 
@@ -711,6 +802,137 @@ def loses_both_servers(log, dice):
     return Truth('lost', 41, 'accept')
 
 
+@story
+def reboots_and_hears_nothing(log, dice):
+    log.slow = dice.choice((log.slow, 40))
+    log.new()
+    log.up()
+    log.reboot(to=dice.choice((0, 2)))
+    log.new(dice.choice(('new', 'metered')))
+    if dice.random() < 0.7:
+        log.poll()
+        log.silence(2)
+        log.accept(40)
+    else:
+        log.poll()
+        log.reply(14, after=7)
+    return Truth('lost', 0, 'new', 'restarted by')
+
+
+@story
+def reboots_and_is_not_asked(log, dice):
+    log.new()
+    log.up()
+    log.reboot()
+    log.slow = 30
+    log.new()
+    log.round()
+    return Truth('lost', 0, 'new', 'does not ask `accept`')
+
+
+@story
+def reboots_twice_and_hears_nothing(log, dice):
+    log.new()
+    log.up()
+    for _ in range(2):
+        log.reboot(to=1)
+        log.new()
+        log.poll()
+        log.silence(1)
+    return Truth('lost', 0, 'new', 'no association since has come up')
+
+
+@story
+def gives_up_before_it_reboots(log, dice):
+    log.new()
+    log.up()
+    log.silence(8)
+    log.wait()
+    log.poll(21)
+    log.reboot()
+    log.new()
+    log.poll()
+    return Truth('lost', 21, 'timer')
+
+
+@story
+def reboots_with_settings_that_are_refused(log, dice):
+    log.new()
+    log.up()
+    log.reboot()
+    log.new(number=30, min='18')
+    log.poll(32)
+    return Truth('lost', 30, 'new')
+
+
+@story
+def comes_up_after_a_reboot_and_is_lost(log, dice):
+    log.new()
+    log.up()
+    log.reboot()
+    log.new()
+    log.up()
+    log.loop()
+    return Truth('lost', 41, 'accept')
+
+
+@story
+def is_swapped_for_a_box_with_lower_ticks(log, dice):
+    log.new()
+    log.up()
+    log.reboot(to=3)
+    log.load(box_file())
+    log.accept()
+    log.poll()
+    return Truth('lost', 0, 'load', 'accepted, but no reply was measured')
+
+
+@story
+def reboots_beside_a_server_that_is_silent(log, dice):
+    start = log.at
+    log.new()
+    log.up(4)
+    log.back(start, '192.0.2.2')
+    log.new()
+    log.poll()
+    log.silence(1)
+    log.back(1, '192.0.2.1')
+    log.new()
+    log.poll()
+    return Truth('lost', 0, 'new', 'restarted by')
+
+
+@story
+def reboots_beside_a_server_that_was_lost_at_a_higher_tick(log, dice):
+    start = log.at
+    log.new()
+    log.up(4)
+    log.back(start, '192.0.2.2')
+    log.new()
+    log.up(1)
+    log.loop()
+    log.back(1, '192.0.2.1')
+    log.new()
+    log.poll()
+    return Truth('lost', 0, 'new', 'restarted by')
+
+
+@story
+def reboots_and_is_heard_of_late(log, dice):
+    """the first tick after the reboot is above the last one of the server between: only the name tells"""
+    log.at = log.asked = log.at + 1000
+    log.new()
+    log.up(4)
+    log.back(3, '192.0.2.2')
+    log.new()
+    log.poll()
+    log.silence(1)
+    log.back(300, '192.0.2.1')
+    log.new()
+    log.poll()
+    return Truth('lost', 0, 'new', 'restarted by')
+
+
 # ---- never
 
 @story
@@ -878,6 +1100,19 @@ def has_two_servers_that_are_silent(log, dice):
     log.poll()
     log.accept(40)
     return Truth('never', 40, 'accept')
+
+
+@story
+def never_is_up_and_reboots(log, dice):
+    log.new()
+    log.poll()
+    log.silence(2)
+    log.wait()
+    log.poll(21)
+    log.reboot()
+    log.new()
+    log.poll()
+    return Truth('never', 20, 'timer', 'no reply was measured')
 
 
 # ---- unreadable: the log's bytes, by its text

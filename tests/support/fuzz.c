@@ -53,7 +53,7 @@ static int whole(const uint8_t *b, size_t size) {
 /* ---- a record before a fence */
 
 #define MOST 6000
-enum { RECORD, OUT, PACKET, PLAIN, LIST, FILE_, OTHER };
+enum { RECORD, OUT, PACKET, DECRYPTED, LIST, FILE_, OTHER };
 static uint8_t *record, *out, before[MOST + 1];
 static size_t size, before_size, room;
 static struct numbers was; /* what the bytes before said; zero where there are fewer than 92 */
@@ -167,7 +167,7 @@ static void make(void) {
         random_bytes(&uid, sizeof uid);
         lend_out(724);
         number = reckonstile_timer(record, size, below(1000000), (int8_t)below(18), next(), uid, out, room).number;
-        expect(whole(record, size) && number >= RECKONSTILE_SENT && number <= RECKONSTILE_COOKIE_SIZE, "timer on a whole record", number);
+        expect(whole(record, size) && number >= RECKONSTILE_SENT && number <= RECKONSTILE_COOKIE_TOO_LARGE, "timer on a whole record", number);
     }
     /* a reach by hand, with its unanswered polls, as a load gives it */
     if (!below(4)) {
@@ -202,7 +202,6 @@ static int dropped_right(uint32_t number, const struct numbers *a, const uint8_t
 
 /* ---- a reply that may match, and what may be said of one */
 
-static int reply_number(uint32_t n) { return n == 33 || (n <= RECKONSTILE_EXPIRED && n != 3); }
 /* 12, 13 and 14 as the record has it; what comes behind them in the order, only where a request is live */
 static int reason_right(uint32_t n, const struct reckonstile_state *s, uint64_t time) {
     uint32_t reason = !s->present ? (s->answered ? RECKONSTILE_ALREADY_MEASURED : RECKONSTILE_NEVER_SENT) : s->deadline < time ? RECKONSTILE_EXPIRED : 0;
@@ -360,7 +359,7 @@ static void elsewhere(maker make, const char *what, struct reckonstile_settings 
     random_bytes(record, size);
     note();
     struct reckonstile_new_answer r = make(record, size, s, list, n);
-    expect(r.number == (number ? number : RECKONSTILE_SHORT_BUFFER) && !r.made && !r.dropped && !r.lost && (number ? zeros(record, size) : kept()), what, r.number);
+    expect(r.number == (number ? number : RECKONSTILE_WRONG_SIZE) && !r.made && !r.dropped && !r.lost && (number ? zeros(record, size) : kept()), what, r.number);
 }
 
 /* a record of each capacity, with and without NTS and a request, with one byte changed: each of the head to every value, each of the stash to a few */
@@ -414,22 +413,22 @@ int main(int argc, char **argv) {
         wholes += (unsigned long)is_whole;
         struct reckonstile_uid uid;
         random_bytes(&uid, sizeof uid);
-        size_t list_len = below(4) ? list_of(bytes, sizeof bytes) : below(sizeof bytes), plain_len = below(2) ? 0 : below(40);
-        uint8_t *list = fenced_copy(LIST, bytes, list_len), *plain = fenced(PLAIN, plain_len);
-        memset(plain, 0, plain_len);
+        size_t list_len = below(4) ? list_of(bytes, sizeof bytes) : below(sizeof bytes), decrypted_len = below(2) ? 0 : below(40);
+        uint8_t *list = fenced_copy(LIST, bytes, list_len), *decrypted = fenced(DECRYPTED, decrypted_len);
+        memset(decrypted, 0, decrypted_len);
         uint64_t time = below(2) ? below(2000000) : next();
 
         struct reckonstile_view v = reckonstile_look(record, size);
         expect(kept() && (readable(before, before_size) ? shown_right(&v, before) : shown_zero(&v)) && (!is_whole || !v.number), "look", (uint32_t)v.number);
 
         uint32_t local[4] = { was.settings.source, 1, 2, 3 }, n = reckonstile_accept(record, size, (uint8_t)next(), local + below(2), below(4), (uint32_t)below(4));
-        expect(kept() && (is_whole ? n == 0 || (n >= 40 && n <= 42) : n == 32), "accept", n);
+        expect(kept() && accept_gives(n) && (n == RECKONSTILE_NOT_WHOLE) == !is_whole, "accept", n);
 
         lend_out(below(4) ? 724 + below(100) : below(724));
         struct reckonstile_timer_answer t = reckonstile_timer(record, size, time, (int8_t)next(), next(), uid, out, room);
         n = t.number;
-        expect(settings_kept() && (is_whole ? (n >= 20 && n <= 24) || n == 31 : n == 32) && (!is_whole || whole(record, size)), "timer", n);
-        expect(n == 20 || n == 23 || n == 24 || kept(), "timer: a refusal changed the record", n);
+        expect(settings_kept() && timer_gives(n) && (n == RECKONSTILE_NOT_WHOLE) == !is_whole && (!is_whole || whole(record, size)), "timer", n);
+        expect(timer_changes(n) || kept(), "timer: a refusal changed the record", n);
         uint8_t polled = was.state.unanswered < 8 ? (uint8_t)(was.state.unanswered + 1) : was.state.unanswered;
         expect(!is_whole || record[31] == (n == 20 || n == 23 || n == 24 ? polled : was.state.unanswered), "timer: the unanswered polls", n);
         expect((n == 20) == (t.kind != 0) && t.length <= RECKONSTILE_COOKIE_BYTES && t.asked <= was.settings.capacity && (n == 20 || (!t.poll && !t.asked && !t.length)), "timer's answer", n);
@@ -441,11 +440,11 @@ int main(int argc, char **argv) {
         static uint8_t packet[256];
         size_t packet_len = packet_of(packet);
         struct reckonstile_reply_answer r =
-            reckonstile_reply(record, size, fenced_copy(PACKET, packet, packet_len), packet_len, below(8) ? (was.settings.nts == 1 && packet_len >= 84 ? 84 : 48) : below(2) ? 84 : next(), plain, plain_len, list, list_len, next(), next(), time);
+            reckonstile_reply(record, size, fenced_copy(PACKET, packet, packet_len), packet_len, below(8) ? (was.settings.nts == 1 && packet_len >= 84 ? 84 : 48) : below(2) ? 84 : next(), decrypted, decrypted_len, list, list_len, next(), next(), time);
         n = r.number;
-        expect(settings_kept() && (is_whole ? reply_number(n) : n == 32) && (!is_whole || whole(record, size)), "reply", n);
+        expect(settings_kept() && reply_gives(n) && (n == RECKONSTILE_NOT_WHOLE) == !is_whole && (!is_whole || whole(record, size)), "reply", n);
         expect(!is_whole || reason_right(n, &was.state, time), "reply: why no request is live", n);
-        expect(n == 0 || (n >= 5 && n <= 11) || kept(), "reply: a refusal changed the record", n);
+        expect(reply_changes(n) || kept(), "reply: a refusal changed the record", n);
         expect(!is_whole || record[31] == (n == 0 ? 0 : was.state.unanswered), "reply: the unanswered polls", n);
         expect(n == 0 ? r.measured == 1 : reply_zero(&r), "reply's answer", n);
         measured += n == 0;
@@ -469,9 +468,9 @@ int main(int argc, char **argv) {
         }
         r = reckonstile_reply_decoded(record, size, d, list, list_len, next(), next(), time);
         n = r.number;
-        expect(settings_kept() && (is_whole ? reply_number(n) : n == 32) && (!is_whole || whole(record, size)), "reply_decoded", n);
+        expect(settings_kept() && reply_decoded_gives(n) && (n == RECKONSTILE_NOT_WHOLE) == !is_whole && (!is_whole || whole(record, size)), "reply_decoded", n);
         expect(!is_whole || reason_right(n, &was.state, time), "reply_decoded: why no request is live", n);
-        expect(n == 0 || (n >= 5 && n <= 11) || kept(), "reply_decoded: a refusal changed the record", n);
+        expect(reply_decoded_changes(n) || kept(), "reply_decoded: a refusal changed the record", n);
         expect(!is_whole || record[31] == (n == 0 ? 0 : was.state.unanswered), "reply_decoded: the unanswered polls", n);
         expect(n == 0 ? r.measured == 1 : reply_zero(&r), "reply_decoded's answer", n);
         expect(dropped_right(n, &was, before, list, list_len, r.dropped, r.lost), "reply_decoded: what the stash dropped", n);
@@ -484,7 +483,7 @@ int main(int argc, char **argv) {
         lend_out(below(4) ? sizeof file : below(100));
         struct reckonstile_written w = reckonstile_save(record, size, out, room);
         n = w.number;
-        expect(is_whole ? n == 0 || n == 60 : n == 32, "save", n);
+        expect(save_gives(n) && (n == RECKONSTILE_NOT_WHOLE) == !is_whole, "save", n);
         expect(w.written == (n == 0) && (n == 0 ? w.length >= 64 : !w.length) && untouched(w.length), "save's answer", n);
         if (n == 0) {
             size_t length = (size_t)w.length;
@@ -506,7 +505,7 @@ int main(int argc, char **argv) {
             random_bytes(record, size);
             note();
             l = reckonstile_load(record, size, fenced_copy(FILE_, file, length), length);
-            expect(l.number == RECKONSTILE_SHORT_BUFFER && !l.retired && kept(), "load into a record of another size", l.number);
+            expect(l.number == RECKONSTILE_WRONG_SIZE && !l.retired && kept(), "load into a record of another size", l.number);
             /* without the capacity it is an old file, of 26 bytes of settings, which reads as 8 */
             memcpy(other, file, 30);
             other[3] = 26;
@@ -536,7 +535,7 @@ int main(int argc, char **argv) {
             if (below(4)) other[below(length)] = (uint8_t)next();
             lend_out(below(2) ? RECKONSTILE_LIST_BYTES : below(100));
             struct reckonstile_compared c = reckonstile_compare(fenced_copy(FILE_, file, length), length, fenced_copy(OTHER, other, length), length, out, room);
-            expect(c.number == 0 || c.number == 71 || (c.number >= 61 && c.number <= 63), "compare", c.number);
+            expect(compare_gives(c.number), "compare", c.number);
             expect(c.side == (c.number >= 61 && c.number <= 63 ? 2 : 0) && (c.number == 0 || !c.entries), "compare's answer", c.number);
             expect(untouched(RECKONSTILE_ENTRY_BYTES * c.entries), "compare: the buffer past the list changed", c.number);
             l = reckonstile_load(record, size, fenced_copy(FILE_, other, length), length);
@@ -547,7 +546,7 @@ int main(int argc, char **argv) {
             note();
             l = reckonstile_load(record, size, fenced_copy(FILE_, file, length), length);
             n = l.number;
-            expect(n == 0 ? l.retired <= 1 : (n == 31 || (n >= 61 && n <= 63)) && !l.retired, "load", n);
+            expect(load_gives(n) && (n == 0 ? l.retired <= 1 : !l.retired), "load", n);
             if (n == 0) expect(whole(record, size) && zeros(record + 42, 50), "load's record", n);
             else expect(n == 31 ? kept() && length > 30 && (file[3] == 26 ? 8 : file[30]) != kept_of[26] : zeros(record, size), "load's record", n);
         } else

@@ -69,7 +69,7 @@ def library(target: Optional[targets.Target] = None, make: bool = True) -> str:
     tool = script('library')
     try:
         folder = tool.make(target) if make else tool.current(target)
-    except tool.Fault as fault:
+    except (tool.Fault, tool.proving.Busy) as fault:
         raise Lacks('%s; or set RECKONSTILE_LIB' % fault)
     if not folder:
         raise Lacks('the library for %s is not made, or a source has changed; `tools/library %s` proves and makes it' % (target.name, target.name))
@@ -119,11 +119,17 @@ def needs(target: Optional[targets.Target] = None) -> List[str]:
 
 # ---- Rust
 
-def has_core(name: str) -> bool:
+def has_core(name: str, rustc: str = '') -> bool:
     """whether the Rust compiler has its own library for a target"""
-    said = subprocess.run([os.environ.get('RUSTC') or 'rustc', '--print', 'target-libdir', '--target', name], stdout=subprocess.PIPE, stderr=subprocess.DEVNULL)
+    said = subprocess.run([rustc or os.environ.get('RUSTC') or 'rustc', '--print', 'target-libdir', '--target', name], stdout=subprocess.PIPE, stderr=subprocess.DEVNULL)
     folder = said.stdout.decode().strip()
     return said.returncode == 0 and os.path.isdir(folder) and any(entry.startswith('libcore') for entry in os.listdir(folder))
+
+
+def rustc_for(name: str) -> Optional[str]:
+    """a Rust compiler with the standard library for a target: this machine's own, or the one that tools/rust-elsewhere unpacked"""
+    unpacked = os.path.join(BUILT, 'rust-elsewhere', 'rustc')
+    return next((rustc for rustc in (os.environ.get('RUSTC') or 'rustc', unpacked) if shutil.which(rustc) and has_core(name, rustc)), None)
 
 
 def nettle() -> str:

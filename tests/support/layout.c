@@ -77,7 +77,7 @@ int main(void) {
     for (size_t wrong = size - 2; wrong <= size + 2; wrong++) {
         if (wrong == size) continue;
         memset(c5, 0xEE, sizeof c5);
-        EXPECT(reckonstile_new(c5, wrong, s, list, sizeof list).number == RECKONSTILE_SHORT_BUFFER && c5[0] == 0xEE && c5[wrong - 1] == 0xEE);
+        EXPECT(reckonstile_new(c5, wrong, s, list, sizeof list).number == RECKONSTILE_WRONG_SIZE && c5[0] == 0xEE && c5[wrong - 1] == 0xEE);
         EXPECT(reckonstile_look(a, wrong).number == RECKONSTILE_NOT_WHOLE && same());
     }
 
@@ -119,7 +119,7 @@ int main(void) {
         a[33] = (uint8_t)left;
         EXPECT(accept_of(a) == (left ? RECKONSTILE_NOT_WHOLE : RECKONSTILE_UNREACHABLE));
         s.start = RECKONSTILE_UPGRADED;
-        EXPECT(reckonstile_new(b, size, s, list, sizeof list).number == (left ? RECKONSTILE_SETTINGS : RECKONSTILE_OK));
+        EXPECT(reckonstile_new(b, size, s, list, sizeof list).number == (left ? RECKONSTILE_BAD_SETTINGS : RECKONSTILE_OK));
     }
     memcpy(a, c5, size);
 
@@ -136,9 +136,9 @@ int main(void) {
     n = seen(b);
     EXPECT(l.number == RECKONSTILE_OK && l.retired == 1 && n.settings.start == RECKONSTILE_V4 && n.settings.left == 0 && n.state.version == RECKONSTILE_V5);
     l = reckonstile_load(b, size + 1, file, (size_t)w.length);
-    EXPECT(l.number == RECKONSTILE_SHORT_BUFFER && l.retired == 0 && seen(b).settings.window == n.settings.window);
+    EXPECT(l.number == RECKONSTILE_WRONG_SIZE && l.retired == 0 && seen(b).settings.window == n.settings.window);
     l = reckonstile_load(b, size, file, (size_t)w.length - 1);
-    EXPECT(l.number == RECKONSTILE_FILE_LENGTH && l.retired == 0 && b[7] == 0 && b[26] == 0);
+    EXPECT(l.number == RECKONSTILE_WRONG_LENGTH && l.retired == 0 && b[7] == 0 && b[26] == 0);
 
     /* a measured reply, without NTS: every field of the answer, and of what the record keeps. T1 = 100 s, T2 = 103, T3 = 103.5, T4 = 101. */
     memset(&s, 0, sizeof s);
@@ -281,12 +281,12 @@ int main(void) {
         int right = capacity >= 1 && capacity <= 8;
         a[26] = s.capacity = (uint8_t)capacity;
         EXPECT(accept_of(a) == (capacity == 2 ? RECKONSTILE_UNREACHABLE : RECKONSTILE_NOT_WHOLE));
-        EXPECT(reckonstile_new(b, size, s, nine, sizeof nine).number == (!right ? RECKONSTILE_SETTINGS : capacity == 2 ? RECKONSTILE_OK : RECKONSTILE_SHORT_BUFFER));
-        EXPECT(reckonstile_profile(s, nine, sizeof nine) == (right ? RECKONSTILE_LOW_POLL_MIN : RECKONSTILE_SETTINGS));
+        EXPECT(reckonstile_new(b, size, s, nine, sizeof nine).number == (!right ? RECKONSTILE_BAD_SETTINGS : capacity == 2 ? RECKONSTILE_OK : RECKONSTILE_WRONG_SIZE));
+        EXPECT(reckonstile_profile(s, nine, sizeof nine) == (right ? RECKONSTILE_LOW_POLL_MIN : RECKONSTILE_BAD_SETTINGS));
     }
     a[26] = s.capacity = 2;
     s.spare = 1;
-    EXPECT(reckonstile_new(b, size, s, nine, sizeof nine).number == RECKONSTILE_SETTINGS && reckonstile_profile(s, nine, sizeof nine) == RECKONSTILE_SETTINGS);
+    EXPECT(reckonstile_new(b, size, s, nine, sizeof nine).number == RECKONSTILE_BAD_SETTINGS && reckonstile_profile(s, nine, sizeof nine) == RECKONSTILE_BAD_SETTINGS);
     s.spare = 0;
     a[27] = 2;
     EXPECT(accept_of(a) == RECKONSTILE_NOT_WHOLE);
@@ -302,7 +302,7 @@ int main(void) {
     a[29] = 1;
     EXPECT(reckonstile_accept(a, size, 16, local, 2, RECKONSTILE_BLOOM_NONE) == RECKONSTILE_NOT_WHOLE); /* the unanswered polls are still 8 */
     a[31] = 0;
-    EXPECT(reckonstile_accept(a, size, 16, local, 2, RECKONSTILE_BLOOM_NONE) == RECKONSTILE_STRATUM);
+    EXPECT(reckonstile_accept(a, size, 16, local, 2, RECKONSTILE_BLOOM_NONE) == RECKONSTILE_HIGH_STRATUM);
     EXPECT(reckonstile_accept(a, size, 17, local, 2, RECKONSTILE_BLOOM_NONE) == RECKONSTILE_LOOP);
     EXPECT(reckonstile_accept(a, size, 17, local, 1, RECKONSTILE_BLOOM_NONE) == RECKONSTILE_OK);
     EXPECT(reckonstile_accept(a, size, 17, local, 0, RECKONSTILE_BLOOM_ABSENT) == RECKONSTILE_OK);
@@ -347,7 +347,7 @@ int main(void) {
     EXPECT(v.number == RECKONSTILE_OK && v.kept == 3 && v.skipped == 5 && v.gaps == 2 && v.told == 2 && v.length == 15 && v.places[0] == 0 && v.places[1] == 12 && v.places[31] == 0);
     EXPECT(!memcmp(out, damaged + 1, 11) && !memcmp(out + 11, damaged + 16, 4) && out[15] == 0xEE);
     v = reckonstile_salvage(damaged, sizeof damaged, out, sizeof out - 1);
-    EXPECT(v.number == RECKONSTILE_SALVAGE_ROOM && !v.kept && !v.skipped && !v.gaps && !v.told && !v.length && out[15] == 0xEE);
+    EXPECT(v.number == RECKONSTILE_SHORT_SALVAGE_BUFFER && !v.kept && !v.skipped && !v.gaps && !v.told && !v.length && out[15] == 0xEE);
 
     /* compare: each field of the answer in its place, and the files in their order. A file of 63 bytes, of before there was a capacity, without NTS; one with another startup limit; one that is cut. */
     uint8_t here[] = "SE\0\x1A\x04\x0A\x03\0\0\0\0\0\0\0\x01\0\0\0\0\0\0\0\0\0\0\0\0\0\0\0ST\0\x01\0RE\0\x02\0\0VE\0\x02\0\0PO\0\x02\x04\x04SO\0\x06\x10XNON\0", there[63], list_of_two[20];
@@ -358,11 +358,11 @@ int main(void) {
     EXPECT(told.number == RECKONSTILE_OK && !told.side && told.entries == 1);
     EXPECT(list_of_two[0] == 3 && list_of_two[8] == 3 && list_of_two[16] == 8 && !list_of_two[17] && !list_of_two[18] && list_of_two[19] == 0xEE);
     told = reckonstile_compare(here, 63, there, 62, list_of_two, sizeof list_of_two);
-    EXPECT(told.number == RECKONSTILE_FILE_LENGTH && told.side == 2 && !told.entries);
+    EXPECT(told.number == RECKONSTILE_WRONG_LENGTH && told.side == 2 && !told.entries);
     told = reckonstile_compare(here, 62, there, 62, list_of_two, sizeof list_of_two);
-    EXPECT(told.number == RECKONSTILE_FILE_LENGTH && told.side == 1 && !told.entries);
+    EXPECT(told.number == RECKONSTILE_WRONG_LENGTH && told.side == 1 && !told.entries);
     told = reckonstile_compare(here, 63, there, 63, list_of_two, 18);
-    EXPECT(told.number == RECKONSTILE_COMPARE_ROOM && !told.side && !told.entries && list_of_two[0] == 3);
+    EXPECT(told.number == RECKONSTILE_SHORT_COMPARE_BUFFER && !told.side && !told.entries && list_of_two[0] == 3);
 
     /* the calendar: the lists in their order, the numbers, and what each answer names */
     uint16_t starts[] = { 0, 15, 1439 }, repeats[] = { 60, 720, 1440 }, same[] = { 0, 15, 15 }, hourly[] = { 60, 720, 60 }, zero[] = { 60, 0, 7 }, planned[] = { 7, 7, 7, 7 };
@@ -385,7 +385,7 @@ int main(void) {
     c = reckonstile_plan_calendar(0, repeats, 3, planned, 4);
     EXPECT(c.number == RECKONSTILE_NO_FIT && c.named == 1 && c.place == 0 && planned[3] == 7);
     c = reckonstile_plan_calendar(1, repeats, 3, planned + 3, 1);
-    EXPECT(c.number == RECKONSTILE_SHORT_BUFFER && !c.named && !c.place && planned[3] == 7);
+    EXPECT(c.number == RECKONSTILE_WRONG_SIZE && !c.named && !c.place && planned[3] == 7);
 
     printf("%d passed, %d failed\n", passed, failed);
     return failed != 0;

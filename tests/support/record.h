@@ -2,6 +2,7 @@
    ends at a page which is not mapped, so that a byte read or written past a buffer ends the program. */
 #ifndef RECORD_H
 #define RECORD_H
+#include "numbers.h"
 #include "reckonstile.h"
 #include <stdio.h>
 #include <stdlib.h>

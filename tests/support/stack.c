@@ -8,9 +8,8 @@
 
 #define STACK 262144
 #define PAINT 0xA7
-#define MOST 2048          /* of any call but these two, which are over it still */
-#define REPLY_MOST 6144    /* 2,048 is what it has to come to */
-#define COMPARE_MOST 40960 /* it still loads both files by value; 14,336 is what it has to come to */
+#define MOST 2048          /* of any call but a comparison */
+#define COMPARE_MOST 14336 /* it loads no file: the 26 fields of both sides are on its stack */
 
 static uint8_t painted[STACK] __attribute__((aligned(16)));
 static ucontext_t back, there;
@@ -82,17 +81,20 @@ int main(void) {
     memcpy(packet + 48, "\x01\x04\x00\x24", 4);
     memcpy(packet + 84, "\x04\x04\x00\x90", 4);
     memcpy(decrypted, "\x02\x04\x00\x68", 4);
+    /* Found before anything is measured: a dynamic linker that looks memcpy up at its first call does so on the caller's stack. */
+    static volatile size_t none;
+    memcpy(out, list, none);
     size_t own = deepest(nothing);
     printf("bytes of stack (%zu are the frame's own):", own);
     for (size_t k = 0; k < sizeof calls / sizeof *calls; k++) {
         size_t n = deepest(calls[k].call);
         printf("%s %s %zu", k ? "," : "", calls[k].name, n);
-        if (n <= (calls[k].call == compare ? COMPARE_MOST : calls[k].call == reply ? REPLY_MOST : MOST) && number == calls[k].number) passed++;
+        if (n <= (calls[k].call == compare ? COMPARE_MOST : MOST) && number == calls[k].number) passed++;
         else {
             failed++;
             printf(" (too much, or answered %u)", (unsigned)number);
         }
     }
-    printf("; at most %d, of reply %d, of compare %d\n%d passed, %d failed\n", MOST, REPLY_MOST, COMPARE_MOST, passed, failed);
+    printf("; at most %d, of compare %d\n%d passed, %d failed\n", MOST, COMPARE_MOST, passed, failed);
     return failed != 0;
 }

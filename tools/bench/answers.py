@@ -1,12 +1,13 @@
 """One proved program answers all logs, one behind the other. A thread hands it their lines while the answers are read, so that a log that is still being written is
 answered as it grows, and a long one is never held as a whole."""
 import collections
+import itertools
 import os
 import queue
 import stat
 import subprocess
 import threading
-from collections.abc import Iterator, Sequence
+from collections.abc import Iterable, Iterator, Sequence
 from typing import NamedTuple
 
 import ends
@@ -14,6 +15,7 @@ import human
 import program
 
 AT_ONCE = 65536               # octets of a log that are read and handed over together
+TOGETHER = 1000               # lines whose answers are waited for together
 KEEP_RECORD = ('accept', 'show')     # the commonest lines that leave the record as it was: no `show` is asked behind them
 HIDE_RECORD = ('load', 'poke')       # the lines behind which the log's own numbers do not tell what the record is
 
@@ -192,26 +194,35 @@ class Desk:
 
     def __init__(self) -> None:
         self.program = started(start_new_session=True)  # Ctrl-C is for the watch, which ends the program itself
+        self.asked: queue.SimpleQueue = queue.SimpleQueue()
+        threading.Thread(target=self.send, daemon=True).start()
 
     def ask(self, lines: list[str], called: str) -> list[str]:
         """an answer to each line"""
-        asking = threading.Thread(target=self.send, args=(''.join(line + '\n' for line in lines).encode('latin-1'),), daemon=True)
-        asking.start()
+        self.asked.put(''.join(line + '\n' for line in lines).encode('latin-1'))
         out = []
         for _ in lines:
             said = self.program.stdout.readline()
             if not said.endswith(b'\n'):
                 ends.die('the program ended with %s and left %s without an answer' % (ends.wait_status(self.program.wait()), called))
             out.append(said[:-1].decode('latin-1'))
-        asking.join()
         return out
 
-    def send(self, octets: bytes) -> None:
-        try:
-            self.program.stdin.write(octets)
-            self.program.stdin.flush()
-        except OSError:
-            pass  # a program that is gone is seen where its answers are read
+    def bring(self, lines: Iterable[str], called: str) -> None:
+        """asks lines, however many they are, whose answers are known"""
+        left = iter(lines)
+        while some := list(itertools.islice(left, TOGETHER)):
+            self.ask(some, called)
+
+    def send(self) -> None:
+        """hands over what is asked, beside the reading of the answers: a program that waits until its answers are read takes no line"""
+        while True:
+            octets = self.asked.get()
+            try:
+                self.program.stdin.write(octets)
+                self.program.stdin.flush()
+            except OSError:
+                return  # a program that is gone is seen where its answers are read
 
     def keep(self, called: str) -> tuple[Kept | None, bool]:
         """the record as it is, put aside, and whether the program still has it; nothing where a request is awaited, or where a file does not bring all of it back"""

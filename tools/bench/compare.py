@@ -86,7 +86,7 @@ def table(names, rows):
     cells = [('', 'left: ' + names['left'], 'right: ' + names['right'], '')] + rows
     wide = [max(len(row[k]) for row in cells) for k in range(3)]
     lines = ['  '.join(cell.ljust(w) for cell, w in zip(row, wide + [0])).rstrip() for row in cells]
-    return lines + ['', '%d field%s; docs/COMPARE.md says what each tells' % (len(rows), ' differs' if len(rows) == 1 else 's differ')]
+    return lines + ['', '%d field%s; docs/HANDOVER.md says what each tells' % (len(rows), ' differs' if len(rows) == 1 else 's differ')]
 
 
 def main(left, right):

@@ -9,7 +9,6 @@ import human
 import story
 import summary
 import verdict
-import walltime
 
 COLOURS = dict(good='32', late='33', stray='0', foreign='35', broken='35', kiss='36', stop='31;1', caller='31', quiet='0')
 IN_MEMORY = 8 * 2**20   # bytes of the told lines that wait in memory for what stands above them; more wait on the disk
@@ -33,8 +32,8 @@ def told(step: story.Step, paint: bool) -> str:
 def above(judged: verdict.Verdict) -> str:
     """what became of the box, and when its ticks became wall time"""
     lines = ['%s: %s' % (judged.state, summary.told(judged))]
-    if judged.server and judged.server.risen:
-        lines.append(walltime.line(judged.server.risen))
+    if judged.server and (when := judged.server.wall_time()):
+        lines.append(when)
     return ''.join(line + '\n' for line in lines)
 
 

@@ -8,6 +8,7 @@ import story
 import verdict
 
 BINS = 512              # stretches of time that are kept of a lane
+LANES = 8               # lanes that are kept of a box
 # Characters on a page that all boxes share: marks in the short form, and lines in words. No box has less than the second number.
 MARKS, WORDS = (600_000, 2_000), (100_000, 330)
 FEW = 30                # so many boxes have their marks to the millisecond; of more they are to the second, which keeps the page small
@@ -124,6 +125,11 @@ class Short:
         self.pieces[-1][5] += 1
         self.count += 1
         self.total += 1
+        self.keep(self.most)
+
+    def keep(self, most: int) -> None:
+        """no more characters than that, but for the last piece"""
+        self.most = most
         while self.length > self.most and len(self.pieces) > 1:
             gone = self.pieces.pop(0)
             self.length -= len(gone[4])
@@ -176,8 +182,8 @@ class Lane:
 
     def accepted(self, step: story.Step, falls: bool) -> Code | None:
         """only what changes is drawn: the source is accepted, or is not any more"""
-        if len(self.server.stretches) > self.risen:
-            self.risen = len(self.server.stretches)
+        if self.server.rises > self.risen:
+            self.risen = self.server.rises
             return Code('accepted', 'reply', story.in_short(step), True, False)
         return Code('lost', 'reply', story.in_short(step), False, True) if falls else None
 
@@ -231,6 +237,7 @@ class Drawing:
         self.most = max(MARKS[0] // boxes, MARKS[1])
         self.words = Words(max(WORDS[0] // boxes, WORDS[1]))
         self.by_server: dict[verdict.Server, Lane] = {}
+        self.undrawn = 0                   # lanes that are not kept any more
         self.poll: int | None = None       # the exponent of the last poll that was sent
 
     def take(self, step: story.Step) -> None:
@@ -244,8 +251,17 @@ class Drawing:
     def draw(self, placed: list[verdict.Placed]) -> None:
         for step, server, tick in placed:
             if server not in self.by_server:
-                self.by_server[server] = Lane(server, self.codes, self.unit, self.most)
+                self.begin(server)
             self.words.take(step, self.by_server[server].take(step, tick or 0))
+
+    def begin(self, server: verdict.Server) -> None:
+        """another lane: all share the room, and of too many the oldest goes, at first of those that were restarted"""
+        self.by_server[server] = Lane(server, self.codes, self.unit, self.most)
+        if len(self.by_server) > LANES:
+            del self.by_server[next((one for one in self.by_server if one not in self.judge.servers), next(iter(self.by_server)))]
+            self.undrawn += 1
+        for lane in self.by_server.values():
+            lane.short.keep(self.most // len(self.by_server))
 
     def lanes(self) -> list[Lane]:
         return [lane for lane in self.by_server.values() if lane.marks]

@@ -24,6 +24,8 @@ HERE = os.path.dirname(os.path.realpath(__file__))
 LINES = 25        # in words that an opened box shows at once; more of them are to be opened
 BUCKETS = 60      # of a strip that has more marks than that; one with fewer shows each
 WIDE, HIGH = 960, 22       # a strip's own measures, which are stretched to its width on the page; a bucket's are whole numbers
+LETTER, APART = 7.3, 6     # pixels of a letter on an axis, at most in the mean, and between two labels
+AXES = ((330, ''), (720, 'm'), (1000, 'w'))   # how wide an axis is at least in any window, in one from 1,000 pixels on and from 1,280, and the class of what is shown only there
 KINDS = dict(good='measured', late='too late', stray='nothing was awaited', foreign='answers something else', broken='not a usable reply', kiss='the server declines',
              stop='the association gives up', caller='the call itself was wrong', quiet='other')
 WORDS = dict({kind: ('reply ' if kind == 'good' else '') + words for kind, words in KINDS.items()}, poll='poll sent', silent='poll without a measured reply',
@@ -51,11 +53,39 @@ def fine(x: float) -> str:
 
 # ---- a strip
 
+class Label(NamedTuple):
+    """a tick that is written on an axis"""
+    where: float     # from 0 to 1
+    tick: str
+    anchor: str
+    kind: str = ''   # from which width of the window on it is shown; page.css has the widths
+
+    def span(self, wide: int) -> tuple[float, float]:
+        """from where to where it reaches on an axis of so many pixels"""
+        long, at = LETTER * len(self.tick), self.where * wide
+        begun = at if self.anchor == 'start' else at - long if self.anchor == 'end' else at - long / 2
+        return begun, begun + long
+
+
+def labels_of(axis: Axis) -> list[Label]:
+    """the ticks that are written, each from the width on at which it has room beside those that a narrower axis has, too"""
+    every = [Label(where, tick, 'start' if where < .07 else 'end' if where > .93 else 'middle') for where, tick in axis.written()]
+    out: list[Label] = []
+    for wide, kind in AXES:
+        for label in every:
+            begun, ended = label.span(wide)
+            if begun >= 0 and ended <= wide and all(ended + APART <= a or b + APART <= begun for a, b in (other.span(wide) for other in out)):
+                out.append(label._replace(kind=kind))
+        if every and not out:
+            out.append(every[0]._replace(anchor='start' if every[0].where < .5 else 'end'))
+    return out
+
+
 def axis_svg(axis: Axis) -> str:
     out = ['<svg class="axis" aria-hidden="true">']
-    for where, tick in axis.written():
-        x, anchor = fine(100 * where) + '%', 'start' if where < .07 else 'end' if where > .93 else 'middle'
-        out.append('<line x1="%s" x2="%s" y1="12" y2="18"/><text x="%s" y="10" text-anchor="%s">%s</text>' % (x, x, x, anchor, tick))
+    for where, tick, anchor, kind in labels_of(axis):
+        x, kind = fine(100 * where) + '%', ' class="%s"' % kind if kind else ''
+        out.append('<line%s x1="%s" x2="%s" y1="12" y2="18"/><text%s x="%s" y="10" text-anchor="%s">%s</text>' % (kind, x, x, kind, x, anchor, tick))
     return ''.join(out + ['</svg>'])
 
 
@@ -139,7 +169,7 @@ def cells(box: Box) -> str:
     why = ['<span class="note">⏱ %s</span>' % esc(box.note)] if box.note else []
     why += [esc(judged.reason)] if judged.reason else []
     why += ['to do: ' + esc(judged.action)] if judged.action else []
-    why += ['<span class="soft">%s</span>' % esc(walltime.line(judged.server.risen))] if good else []
+    why += ['<span class="soft">%s</span>' % esc(judged.server.wall_time())] if good else []
     return '<td class="%s">%s %s</td><td class="n">%s</td><td class="n">%s</td><td>%s</td>' % (
         judged.state, SIGNS[judged.state], judged.state, since(judged) if good else '', offset, '<br>'.join(why))
 
@@ -165,6 +195,7 @@ def in_the_open(box: Box) -> str:
     less = ['%d lines more: ./drill --explain tells them all' % words.left_out] if words.left_out else []
     cut = sum(lane.short.total - lane.short.count for lane in box.lanes)
     less += ['the first %d marks are in the strip alone' % cut] if cut else []
+    less += ['%d earlier parts of the log, which end where ticks begin anew, are not drawn' % box.drawing.undrawn] if box.drawing.undrawn else []
     text = '<pre>%s</pre>' % esc('\n'.join([line.text() for line in words.lines] + less))
     if len(words.lines) > LINES:
         text = '<details><summary>%d lines in words</summary>%s</details>' % (len(words.lines), text)
@@ -185,12 +216,12 @@ def strip(box: Box, shared: Axis | None) -> str:
 
 
 def one_axis(boxes: list[Box]) -> bool:
-    """whether the boxes' clocks start together, so that one axis serves all"""
-    spans = [(min(lane.low for lane in box.lanes), max(lane.high for lane in box.lanes)) for box in boxes if box.lanes]
+    """whether the boxes' clocks start together, so that one axis serves all. A lane tells that, and not a box: from before a reboot to behind it no time has passed"""
+    spans = [(lane.low, lane.high) for box in boxes for lane in box.lanes]
     if not spans:
         return False
     whole = max(b for _, b in spans) - min(a for a, _ in spans)
-    return whole <= 4 * max(b - a for a, b in spans) or len(spans) == 1
+    return whole <= 4 * max(b - a for a, b in spans) or sum(bool(box.lanes) for box in boxes) == 1
 
 
 # ---- above

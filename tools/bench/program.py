@@ -2,30 +2,21 @@
 
 Only a program that a stamp names is run. The stamp is written once `rt check drill` has succeeded; it holds a digest of the program, and of the sources and the
 toolchain that it was made with. A program that was linked and then refused has none."""
-import fcntl
 import hashlib
 import os
 import platform
-import re
 import shutil
-import subprocess
-import time
+import sys
 
 from ends import die, say
 
-ROOT = os.path.dirname(os.path.dirname(os.path.dirname(os.path.realpath(__file__))))
-TARGET = os.path.join(ROOT, 'target')
+sys.path.insert(1, os.path.dirname(os.path.dirname(os.path.realpath(__file__))))
+import proving  # noqa: E402
+
+ROOT, TARGET = proving.ROOT, proving.TARGET
 PROGRAM = os.path.join(TARGET, 'bin', 'drill')
 STAMP = os.path.join(TARGET, 'drill.stamp')
 LOG = os.path.join(TARGET, 'drill.log')
-LOCK = os.path.join(TARGET, 'drill.lock')
-
-# Seconds that each crate's check took by the clock, two at a time on two idle cores (docs/LANDINGS.md). They serve to say how much is left, and nothing else.
-SECONDS = dict(words=8, identifiers=2, reach=3, cookielist=5, cookiestash=21, version=5, time_types=6, header=16, fields=8, uid_groups=9,
-               collector=11, association=13, timer_rules=15, timer=14, incoming=16, reply_clauses=12, reply_rules=22, reply=19, accept=9, request=20, walker=6,
-               salvage=10, calendar=22, drill_text=71, drill_tools=50, drill_record=66, drill_calls=65, drill=71)
-TOGETHER = 0.8  # two crates at a time, but for those that wait for each other
-PROVED = re.compile(r'rt: (\w+) proved \((unchanged)?')
 
 
 def sha256(*pieces):
@@ -72,23 +63,10 @@ def command(program=PROGRAM):
 
 # ---- what was proved
 
-def crates():
-    """the crates that the program is made of, in the order of crates.txt"""
-    with open(os.path.join(ROOT, 'crates.txt')) as f:
-        edges = {line.split(':')[0]: line.split(':')[1].split() for line in f if ':' in line and not line.startswith('#')}
-    found, open_ = set(), ['drill']
-    while open_:
-        name = open_.pop()
-        if name in edges and name not in found:  # io, libc and os are the toolchain's own
-            found.add(name)
-            open_ += edges[name]
-    return [name for name in edges if name in found]
-
-
 def sources():
     """a digest of all that the program is proved from"""
     pieces = [contents(os.path.join(ROOT, 'crates.txt'))]
-    for crate in crates():
+    for crate in proving.reached('drill'):
         for part in ('src', 'specs', 'proofs'):
             for folder, inner, files in os.walk(os.path.join(ROOT, 'crates', crate, part)):
                 inner.sort()
@@ -122,37 +100,15 @@ def lacks():
 
 # ---- proving and building
 
-def minutes(seconds):
-    return 'about %d min' % round(seconds / 60) if seconds >= 90 else 'about a minute' if seconds > 30 else 'less than a minute'
-
-
 def build():
-    names = crates()
-    total = sum(SECONDS.get(name, 10) for name in names)
-    say('proving and building the program, %d crates: %s where nothing is proved yet and two cores are idle, a moment later on' % (len(names), minutes(total * TOGETHER)))
-    made_from, start, done, rest, anew = sources(), time.monotonic(), [], total, 0
+    made_from = sources()
     if os.path.exists(STAMP):
         os.remove(STAMP)
-    with open(LOG, 'wb') as log:
-        rt = subprocess.Popen(['rt', 'check', 'drill'], cwd=ROOT, stdin=subprocess.DEVNULL, stdout=subprocess.PIPE, stderr=subprocess.STDOUT)
-        try:
-            for line in rt.stdout:
-                log.write(line)
-                log.flush()
-                found = PROVED.match(line.decode('utf-8', 'replace'))
-                if found and found[1] in names and found[1] not in done:
-                    done.append(found[1])
-                    rest -= SECONDS.get(found[1], 10)
-                    if not found[2]:
-                        anew += SECONDS.get(found[1], 10)
-                        left = '' if len(done) == len(names) else ', %s left' % minutes((time.monotonic() - start) * rest / anew)
-                        say('%d/%d %s%s' % (len(done), len(names), found[1], left))
-            status = rt.wait()
-        finally:
-            if rt.poll() is None:
-                rt.terminate()
+    with open(LOG, 'wb') as log, proving.Progress('drill', 'drill') as progress:
+        progress.begin()
+        status = progress.run(['rt', 'check', 'drill'], log)
     if status != 0:
-        for line in contents(LOG).decode('utf-8', 'replace').splitlines()[-5:]:
+        for line in proving.tail(LOG):
             say('  ' + line)
         die('the program was not proved or did not give its expected answers, and is not run (target/drill.log has the whole of it)')
     if not os.path.exists(PROGRAM):
@@ -169,19 +125,12 @@ def ready():
     if not lacks():
         return command()
     try:
-        os.makedirs(TARGET, exist_ok=True)
-        lock = open(LOCK, 'w')
-    except OSError as fault:
-        die('nothing can be built in %s: %s' % (TARGET, fault.strerror))
-    with lock:
-        try:
-            fcntl.flock(lock, fcntl.LOCK_EX | fcntl.LOCK_NB)
-        except OSError:
-            say('another run is proving and building the program; waiting for it')
-            fcntl.flock(lock, fcntl.LOCK_EX)
-        if lacks():
-            command()  # what is missing to run it is said before the minutes that it takes to build it
-            build()
+        with proving.Alone(say):
+            if lacks():
+                command()  # what is missing to run it is said before the minutes that it takes to build it
+                build()
+    except proving.Busy as why:
+        die(str(why))
     return command()
 
 

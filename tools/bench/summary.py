@@ -31,11 +31,11 @@ def time_of(at: walltime.Instant | None) -> str | None:
 def figures(server: verdict.Server) -> Row:
     """what was measured"""
     out: Row = {}
-    if server.accepted:
-        out.update(accepted_tick=server.accepted.tick, accepted_time=time_of(walltime.at_tick(server.accepted.heard, server.accepted.tick)))
-    if server.latest:
-        latest = server.latest
-        out.update(first_offset=human.seconds_of(walltime.offset(server.first)), offset=human.seconds_of(walltime.offset(latest)),
+    first, latest, accepted, _ = server.known()
+    if accepted:
+        out.update(accepted_tick=accepted.tick, accepted_time=time_of(walltime.at_tick(accepted.heard, accepted.tick)))
+    if latest:
+        out.update(first_offset=human.seconds_of(walltime.offset(first)), offset=human.seconds_of(walltime.offset(latest)),
                    delay=human.seconds_of(walltime.delay(latest)), stratum=int(latest.gave['stratum']),
                    last_heard_tick=latest.now, last_heard_time=time_of(walltime.at_reply(latest)))
     return out

@@ -1,20 +1,22 @@
 """What became of a box by the end of its log: up, doubtful, lost, never or unreadable, with the event that decided it. The rules are those of docs/DRILL.md, "What
 became of a box"; nothing is drawn or written here.
 
-A box may have several servers, one behind the other in its log (DECISIONS 66): another begins where the clock goes back with a new association. One that is up is
-enough."""
+A box may have several servers, one behind the other in its log (DECISIONS 113): another begins where the clock goes back with a new association. One that is up is
+enough. A server that is named again is no other one: it was restarted, and what stands of it before that is over (DECISIONS 119)."""
 from collections.abc import Iterator
 from typing import NamedTuple
 
 import human
+import meanings
 import story
 import walltime
 from story import Step
 
 STATES = ('up', 'doubtful', 'lost', 'never', 'unreadable')  # from the best to the worst
 FAR = human.SECOND                                          # an offset over this makes a box doubtful, where nothing else is said
+STRETCHES = 64                                              # in which the source was accepted, that are kept of a server
 SENT, TOO_LATE, NOT_OURS = 20, 14, 4
-GAVE_UP = {'timer': (21, 22, 23, 24), 'reply': (7,), 'reply5': (7,)}
+GAVE_UP = {call: meanings.numbers(call, 'stop') for call in ('timer', 'reply', 'reply5')}
 # What is in the way of a box though its number is good: something did not follow it.
 GOOD_BUT = {'new': 'a new association', 'metered': 'a new association', 'load': 'a new association', 'timer': 'no reply', 'reply': 'accept not asked',
             'reply5': 'accept not asked'}
@@ -48,6 +50,23 @@ class Stretch(NamedTuple):
     ended: int | None
 
 
+class Known(NamedTuple):
+    """what was measured of a server, and when it was accepted"""
+    first: Step | None = None                # the first reply of all that was measured
+    latest: Step | None = None               # the last one of all
+    accepted: walltime.Rise | None = None    # when the source was accepted for the last time
+    risen: walltime.Rise | None = None       # and for the first time
+
+    def since(self, before: 'Known') -> 'Known':
+        """this, and what was known before in the place of what is not there"""
+        measured = self if self.latest else before
+        return Known(measured.first, measured.latest, self.accepted or before.accepted, self.risen or before.risen)
+
+    def line(self) -> int:
+        """of the last reply that it tells of"""
+        return self.latest.line if self.latest else 0
+
+
 class Placed(NamedTuple):
     """a step, with the server that it belongs to and its tick"""
     step: Step
@@ -59,6 +78,7 @@ class Server:
     """what a log says of one server, folded line by line"""
 
     def __init__(self) -> None:
+        self.sources: set[str] = set()         # the identifiers that its associations name
         self.made: Event | None = None         # what made the last association, or tried to
         self.first: Step | None = None         # the first reply of all that was measured
         self.latest: Step | None = None        # the last one of all
@@ -66,8 +86,19 @@ class Server:
         self.accepted: walltime.Rise | None = None   # and for the last time
         self.ended: Event | None = None        # what ended the last good state
         self.stretches: list[Stretch] = []
+        self.rises = 0                         # how often it was accepted: the nearest stretches are one where there are many
         self.good = False
+        self.before = Known()                  # what is known of it from before its ticks began anew
+        self.replaces = False                  # the one that it takes the place of was good: what makes the new association ends that
+        self.anew: Step | None = None          # what makes the first association since
         self.begin(None)
+
+    def replace(self, earlier: 'Server', made: Step) -> None:
+        """takes the place of the same server before a restart, which is over. That one's ticks are not comparable with the ones here"""
+        self.replaces = self.replaces or earlier.good or earlier.replaces
+        self.ended = max(filter(None, (self.ended, earlier.ended)), key=lambda event: event.step.line, default=None)
+        self.before = max(self.before, earlier.known(), key=Known.line)
+        self.anew = made
 
     def begin(self, made: Event | None) -> None:
         """another association, or none, from here on"""
@@ -112,14 +143,36 @@ class Server:
                 self.accepted = walltime.Rise(tick, self.heard.step, self.first)
                 self.risen = self.risen or self.accepted
                 self.stretches.append(Stretch(tick, None))
+                self.rises += 1
+                if len(self.stretches) > STRETCHES:
+                    self.join()
+
+    def join(self) -> None:
+        """makes one of the two stretches that are nearest to each other"""
+        k = min(range(len(self.stretches) - 1), key=lambda k: self.stretches[k + 1].begun - self.stretches[k].ended)
+        self.stretches[k:k + 2] = [Stretch(self.stretches[k].begun, self.stretches[k + 1].ended)]
 
     def fall(self, event: Event) -> None:
+        if self.good or self.replaces:
+            self.ended = event
         if self.good:
-            self.good, self.ended = False, event
             tick = event.tick if event.tick is not None else self.latest.now
             self.stretches[-1] = self.stretches[-1]._replace(ended=tick)
+        self.good = self.replaces = False
 
     # -- at the end
+
+    def known(self) -> Known:
+        return Known(self.first, self.latest, self.accepted, self.risen).since(self.before)
+
+    def wall_time(self) -> str | None:
+        """the wall-time line: of the ticks that count now, where they became wall time"""
+        if self.risen:
+            restarted = self.anew and self.anew.line < self.risen.heard.line
+            return ('after the restart in line %d, ' % self.anew.line if restarted else '') + walltime.line(self.risen)
+        if self.before.risen:
+            return 'since the restart in line %d ticks have not become wall time; before it, %s' % (self.anew.line, walltime.line(self.before.risen))
+        return None
 
     def doubts(self, far: int) -> list[str]:
         """what is wrong with a source that is accepted"""
@@ -162,10 +215,18 @@ class Server:
             return self.heard, '; '.join(self.doubts(far))
         if state == 'lost':
             why = self.ended.told()
-            if self.made is self.ended and self.made.step.number == 0:
-                why = 'restarted by %s, and the new association has not come up: %s' % (why, self.in_the_way()[1])
+            if self.ended.step.head in story.MAKES and self.ended.step.number == 0:
+                since = 'the new association has not come up' if self.made is self.ended else 'no association since has come up'
+                why = 'restarted by %s, and %s: %s' % (why, since, self.in_the_way()[1])
             return self.ended, why
         return self.in_the_way() if state == 'never' else (None, None)
+
+
+def source_of(step: Step) -> str | None:
+    """the identifier of the server that an association is made for, or was to be; that of a `load` stands in its file, and a file that is refused names none"""
+    if step.head == 'load':
+        return story.in_file(bytes.fromhex(step.given['file']))['source'] if step.number == 0 else None
+    return step.given.get('source', '').lower() or None
 
 
 class Verdict(NamedTuple):
@@ -193,7 +254,8 @@ class Judge:
 
     def __init__(self, far: int = FAR, every: bool = False) -> None:
         self.far, self.every = far, every
-        self.servers = [Server()]
+        self.servers = [Server()]           # but for those that were restarted
+        self.restarted = False              # whether there was one
         self.last: int | None = None        # the last tick of the server under way
         self.waiting: list[Step] = []       # a new association and what follows, until a line tells when that is
         self.steps = self.associations = 0
@@ -211,8 +273,6 @@ class Judge:
                 self.waiting.append(step)
                 return []
             return [self.put(step, self.last)]
-        if any(waits.head in story.MAKES for waits in self.waiting) and self.last is not None and step.now < self.last:
-            self.servers.append(Server())
         return self.place(step.now) + [self.put(step, step.now)]
 
     def over(self) -> list[Placed]:
@@ -221,11 +281,27 @@ class Judge:
 
     def place(self, tick: int | None) -> list[Placed]:
         waiting, self.waiting = self.waiting, []
+        made = [step for step in waiting if step.head in story.MAKES]
+        if made:
+            self.turn(made, tick)
         return [self.put(step, tick) for step in waiting]
+
+    def turn(self, made: list[Step], tick: int | None) -> None:
+        """where associations are made: another server begins if the clock goes back, and one that an earlier part of the log names takes that one's place"""
+        if self.last is not None and tick < self.last:
+            self.servers.append(Server())
+        named = {source_of(step) for step in made}
+        for earlier in self.servers[:-1]:
+            if earlier.sources & named:
+                self.servers[-1].replace(earlier, made[0])
+                self.servers.remove(earlier)
+                self.restarted = True
 
     def put(self, step: Step, tick: int | None) -> Placed:
         self.last = tick
         server = self.servers[-1]
+        if step.head in story.MAKES and (source := source_of(step)):
+            server.sources.add(source)
         server.take(Event(step, tick))
         return Placed(step, server, tick)
 
@@ -254,10 +330,11 @@ class Judge:
         return None
 
     def deciding(self) -> Server:
-        """the server that the box's state is: the best one; of several that were lost the one that was lost last, of several that never were up the last"""
+        """the server that the box's state is: the best one; of several that were lost the one that was lost last, of several that never were up the last. Ticks of before
+        and after a restart tell no order: there that of the log counts"""
         def rank(server: Server) -> tuple:
             state = server.state(self.far)
-            lost = (server.ended.tick or 0, server.ended.step.line) if state == 'lost' else (0, 0)
+            lost = (0 if self.restarted else server.ended.tick or 0, server.ended.step.line) if state == 'lost' else (0, 0)
             return STATES.index(state), *(-n for n in lost)
         best = min(rank(server) for server in self.servers)
         alike = [server for server in self.servers if rank(server) == best]

@@ -50,6 +50,7 @@ class Log:
         self.names: dict[str, str] = {}
         self.kept: answers.Kept | None = answers.BLANK
         self.tail: list[str] = []            # what the program was asked since
+        self.made = 1                        # the line from which on the record is known: the last that makes an association, or ends one
         self.fault: str | None = None        # why it is no log
 
     # -- what is new
@@ -102,14 +103,20 @@ class Log:
                 asked.append(one)
         if not asked:
             return
-        before = [] if self.at_desk else [*(self.kept.lines if self.kept else self.whole(asked[0].line)), *self.tail]
+        if not self.at_desk:
+            desk.bring(self.kept.lines if self.kept else self.whole(asked[0].line), self.path)
+            desk.bring(self.tail, self.path)
         mine: list[str] = []
         for one in asked:
             mine += [one.sent, 'show'] if one.sent.startswith(answers.HIDE_RECORD) else [one.sent]
-        said = iter(desk.ask(before + mine, self.path)[len(before):])
+        said, at = desk.ask(mine, self.path), 0
         for one in asked:
-            answer = next(said)
-            self.drawing.take(self.course.step(answers.Answered(one, answer, next(said) if one.sent.startswith(answers.HIDE_RECORD) else None, self.names)))
+            shown = one.sent.startswith(answers.HIDE_RECORD)
+            step = self.course.step(answers.Answered(one, said[at], said[at + 1] if shown else None, self.names))
+            self.drawing.take(step)
+            if step.makes():   # what was before it leaves nothing in the record
+                self.kept, self.tail, self.made, mine, said, at = answers.BLANK, [], one.line, mine[at:], said[at:], 0
+            at += 1 + shown
         kept, self.at_desk = desk.keep(self.path)
         if kept:
             self.kept, self.tail = kept, []
@@ -119,13 +126,16 @@ class Log:
             self.kept, self.tail = None, []
 
     def whole(self, before: int) -> Iterator[str]:
-        """the lines of the log before one, from its beginning: for a record that no file brings back"""
+        """the lines of the log before one that have made the record: for one that no file brings back"""
         yield 'blank'
+        lines, left = human.Lines(), self.size
         with open(self.path, 'rb') as file:
-            for number, text in enumerate(human.lines_of(file.read(self.size)), 1):
-                _, one = answers.prepared(number, text)
-                if one and number < before:
-                    yield one.sent
+            while octets := file.read(min(PIECE, left)):
+                left -= len(octets)
+                for number, text in lines.more(octets):
+                    _, one = answers.prepared(number, text) if self.made <= number < before else (None, None)
+                    if one:
+                        yield one.sent
 
     # -- what is shown
 

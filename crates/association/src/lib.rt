@@ -10,9 +10,12 @@ use time_types::PollInterval;
 use version::ProtocolVersion;
 use version::Version;
 ghost use mathlib.Core.Path.{_≡_};
+ghost use mathlib.Core.Bool.{_&&_, _||_};
+ghost use lib.Dec.{eqb};
+ghost use Rattle.words.specs.Bytes.{zeros};
 ghost use Rattle.cookielist.specs.List.{listBroken};
 ghost use Rattle.association.specs.Settings.{within, limitsValid, settingsValid};
-ghost use Rattle.association.specs.Record.{noPending, effortValid, versionsValid, pendingValid, idleValid, wholeSeen, wholeOf, blankOf, freshOf};
+ghost use Rattle.association.specs.Record.{noPending, effortValid, versionsValid, pendingValid, wholeSeen, wholeOf, blankOf, freshOf};
 ghost use Rattle.association.specs.New.{numberOf, newOf};
 
 // The largest poll exponent that a limit may be.
@@ -148,28 +151,35 @@ impl Pending {
             answered,
         }
     }
-
-    // Whether a pending request is unanswered, and an absent one zero.
-    pub fn valid(self) -> bool
-        ensures { λ r. ⌜ r ≡ pendingValid self ⌝ }
-    {
-        if self.present {
-            return !self.answered;
-        }
-        if self.id != 0 {
-            return false;
-        }
-        if self.deadline != 0 {
-            return false;
-        }
-        let uid = self.uid;
-        words::zeros_from(&uid, 0)
-    }
 }
 
-// Whether what only NTS uses is zero where there is no NTS.
-fn idle_valid(nts: bool, read: usize, held: usize, uid: [u8; 32]) -> bool
-    ensures { λ r. ⌜ r ≡ idleValid nts read held uid ⌝ }
+// Whether an identifier is zero.
+fn zero_uid(uid: [u8; 32]) -> bool
+    ensures { λ r. ⌜ r ≡ zeros uid ⌝ }
+{
+    words::zeros_from(&uid, 0)
+}
+
+// Whether a pending request is unanswered, and an absent one zero. `zero` says whether its identifier is: that is tested once, for this and for `idle_valid`.
+fn pending_valid(request: Pending, zero: bool) -> bool
+    requires { ⌜ zero ≡ zeros (request .uid) ⌝ }
+    ensures { λ r. ⌜ r ≡ pendingValid request ⌝ }
+{
+    if request.present {
+        return !request.answered;
+    }
+    if request.id != 0 {
+        return false;
+    }
+    if request.deadline != 0 {
+        return false;
+    }
+    zero
+}
+
+// Whether what only NTS uses is zero where there is no NTS: the reading place, the count, and the identifier, of which `zero` says whether it is.
+fn idle_valid(nts: bool, read: usize, held: usize, zero: bool) -> bool
+    ensures { λ r. ⌜ r ≡ (nts || (eqb read 0 && (eqb held 0 && zero))) ⌝ }
 {
     if nts {
         return true;
@@ -180,7 +190,7 @@ fn idle_valid(nts: bool, read: usize, held: usize, uid: [u8; 32]) -> bool
     if held != 0 {
         return false;
     }
-    words::zeros_from(&uid, 0)
+    zero
 }
 
 // Whether neither the start version nor the version is of the retired kind.
@@ -222,11 +232,12 @@ pub fn whole_seen(settings: Settings, seen: Seen, state: State) -> bool
         return false;
     }
     let request = state.request;
-    if !request.valid() {
+    let uid = request.uid;
+    let zero = zero_uid(uid);
+    if !pending_valid(request, zero) {
         return false;
     }
-    let uid = request.uid;
-    idle_valid(settings.nts, seen.read, seen.held, uid)
+    idle_valid(settings.nts, seen.read, seen.held, zero)
 }
 
 impl Association {

@@ -1,98 +1,123 @@
--- The cookie of an age, in the stash's slots.
+-- The cookie of an age, in the body of a stash's record.
 -- Assumes nothing.
 use Prim.Native.Nat.{ℕ, zero, suc, _+_, _-_, _≤_, _<_}
-use mathlib.Core.Path.{_≡_, refl, sym, ap, _∙_}
-use mathlib.Core.Bool.{Bool, true, false, _&&_}
-use mathlib.Core.List.{List, [], _∷_, map}
+use mathlib.Core.Path.{_≡_, refl, sym, ap, subst, _∙_}
+use mathlib.Core.Bool.{Bool, true, cond, _&&_}
+use mathlib.Core.Logic.{_⊎_, inl, inr}
+use mathlib.Core.List.{List, []}
 use native.Mathlib.Omega.{arith}
 use lib.Dec.{eqb}
-use lib.ListN.{length, getD, take, length-map, List·getD-eq-default}
-use lib.Seq.{length-take-le}
-use Rattle.cookiestash.specs.declared.Slot.{Slot}
+use lib.ListN.{length, getD, drop}
+use Rattle.words.specs.Bytes.{part}
+use Rattle.words.proofs.Bytes.{Bytes, length-part}
 use Rattle.cookiestash.specs.declared.CookieStash.{CookieStash}
-use Rattle.cookiestash.specs.Stash.{stored, slotAt, wrap, rangeOf, inRange}
-use Rattle.cookiestash.specs.Queue.{Cookie, queue, seen, cookies}
+use Rattle.cookiestash.specs.Stash.{stored, inRange}
+use Rattle.cookiestash.specs.Queue.{Cookie, cookies, queue}
 use Rattle.cookiestash.proofs.Stored.{stored-bounds}
-use Rattle.cookiestash.proofs.Places.{wrap-lt}
-use Rattle.cookiestash.proofs.Range.{within}
-use Rattle.cookiestash.proofs.Queue.{walk-at}
-use Rattle.cookiestash.proofs.Cookies.{length-cookies}
-use Rattle.compare_fields.specs.Readings.{Reading, cookieReading, noCookie, heldOf, agedOf}
+use Rattle.cookiestash.proofs.Kept.{in-range}
+use Rattle.handover_file.specs.Cookies.{runOf, isRun, cookiesOf, stashFits, heldIn, stashKnown, emptyAt, stashOf}
+use Rattle.handover_file.proofs.Cookies.{read-laid}
+use Rattle.handover_cut.specs.declared.Held.{Held}
+use Rattle.handover_cut.specs.declared.Held.the-variants.{One, End, Broken}
+use Rattle.handover_cut.specs.Steps.{heldAt}
+use Rattle.handover_cut.proofs.Turn.{one-within}
+use Rattle.handover_load.proofs.Reading.{restOf, has-place, runs-first, runs-on, rest-one, rest-none, rest-whole}
+use Rattle.compare_fields.specs.Readings.{Reading, noCookie, heldOf, agedOf}
 use Rattle.compare_fields.specs.declared.Field.{Field}
 use Rattle.compare_fields.specs.declared.Kept.{Kept}
 use Rattle.compare_fields.specs.Fields.{placeOf, sameReading, fieldOf}
-use Rattle.compare_fields.specs.Steps.{keptReading, cookieField}
+use Rattle.compare_fields.specs.Steps.{keptReading, unkept, kept, firstHeld, nextHeld, agedAt, agedIn, KeptIn, cookieIn}
 use Rattle.compare_fields.proofs.Places.{alike, place-short}
 
--- no cookie is so young
-pub aged-none : (cs : List Cookie) (age : ℕ) → length cs ≤ age → agedOf cs age ≡ noCookie
-unfolding agedOf
-aged-none cs age h = List·getD-eq-default (map cookieReading cs) noCookie {n = age} (omega (arith, length-map cs cookieReading))
+-- ---- step by step, as the code goes
 
-read-at : (xs : List Slot) (k : ℕ) → k < length xs → getD (map cookieReading (map seen xs)) k noCookie ≡ cookieReading (seen (slotAt xs k))
-read-at [] k h = absurd (omega arith)
-read-at (x ∷ xs) zero h = refl
-read-at (x ∷ xs) (suc k) h = read-at xs k (omega arith)
+module _ (b : List ℕ) (at : ℕ) where
+  pub here : (left : ℕ) → left ≡ 0 → {h : Held} → heldAt b at ≡ h → agedAt b left at ≡ firstHeld b h
+  here left z e = ap (λ (n : ℕ). agedAt b n at) z ∙ ap (firstHeld b) e
 
-module _ (cap : ℕ) (s : CookieStash) (age : ℕ) where
-  pub out-of-range : rangeOf cap (s .read) (s .held) ≡ false → agedOf (heldOf cap s) age ≡ noCookie
-  unfolding heldOf inRange agedOf
-  out-of-range e = rw e
+  pub further : (left len start end : ℕ) → (left ≡ 0 → ⊥) → heldAt b at ≡ One len start end → agedAt b left at ≡ agedAt b (left - 1) end
+  further zero len start end z e = absurd (z refl)
+  further (suc n) len start end z e =
+      let d : n ≡ suc n - 1 = omega arith in
+      ap (nextHeld (λ (x : ℕ). agedAt b n x)) e ∙ ap (λ (k : ℕ). agedAt b k end) d
 
-  module _ (e : rangeOf cap (s .read) (s .held) ≡ true) where
-    pub held-are : heldOf cap s ≡ cookies cap s
-    unfolding heldOf inRange
-    held-are = rw e
+  pub none : (left : ℕ) → heldAt b at ≡ End ⊎ heldAt b at ≡ Broken → agedAt b left at ≡ noCookie
+  none zero (inl e) = ap (firstHeld b) e
+  none zero (inr e) = ap (firstHeld b) e
+  none (suc n) (inl e) = ap (nextHeld (λ (x : ℕ). agedAt b n x)) e
+  none (suc n) (inr e) = ap (nextHeld (λ (x : ℕ). agedAt b n x)) e
 
-    pub none-so-young : s .held ≤ age → agedOf (heldOf cap s) age ≡ noCookie
-    none-so-young h = ap (λ (cs : List Cookie). agedOf cs age) held-are ∙ aged-none (cookies cap s) age (omega (arith, length-cookies cap s))
+-- where the cookie lies, or that there is none
+module _ (b : List ℕ) (age : ℕ) where
+  pub kept-here : (at left len start end : ℕ) → agedAt b left at ≡ agedAt b age 1 → left ≡ 0 → heldAt b at ≡ One len start end → len ≤ 65535 → KeptIn b age (kept len start end)
+  unfolding agedIn
+  kept-here at left len start end o z e f =
+      let w = one-within b at len start end e in
+      record { reads = sym (here b at left z e) ∙ o; few = omega arith; ordered = w .1; inside = w .3; long = w .2 }
 
-    queue-long : length (queue cap s) ≡ s .held
-    unfolding cookies
-    queue-long = sym (length-map (queue cap s) seen) ∙ length-cookies cap s
-
-    slot-read : age < s .held → agedOf (cookies cap s) age ≡ cookieReading (seen (slotAt (s .slots) (wrap cap (s .read + age))))
-    unfolding agedOf cookies queue
-    slot-read h =
-        let r = within cap (s .read) (s .held) e in
-        read-at (queue cap s) age (omega (arith, queue-long))
-        ∙ ap (λ (x : Slot). cookieReading (seen x)) (walk-at cap (s .slots) (s .read) (s .held) age (r .1) (r .2) h)
-
-    pub aged-slot : age < s .held → agedOf (heldOf cap s) age ≡ cookieReading (seen (slotAt (s .slots) (wrap cap (s .read + age))))
-    aged-slot h = ap (λ (cs : List Cookie). agedOf cs age) held-are ∙ slot-read h
-
-    pub bounds : (s .read < 8) × (s .held ≤ 8)
-    bounds = let r = within cap (s .read) (s .held) e in (omega (arith, r .0, r .1), omega (arith, r .0, r .2))
-
-    pub place-lt : age < s .held → wrap cap (s .read + age) < 8
-    place-lt h = let r = within cap (s .read) (s .held) e in omega (arith, wrap-lt cap (s .read + age) (omega arith), r .0)
+  pub kept-none : (at left : ℕ) → agedAt b left at ≡ agedAt b age 1 → heldAt b at ≡ End ⊎ heldAt b at ≡ Broken → (k : Kept) → k ≡ unkept → KeptIn b age k
+  unfolding agedIn stored part
+  kept-none at left o e k u =
+      subst (KeptIn b age) (sym u)
+      (record { reads = sym (none b at left e) ∙ o; few = omega arith; ordered = omega arith; inside = omega arith; long = refl })
 
 -- ---- two cookies of an age
 
-pub stored-long : (k : Kept) → length (k .bytes) ≡ 724 → length (take (stored (k .number)) (k .bytes)) ≡ stored (k .number)
-stored-long k h = length-take-le (stored (k .number)) (k .bytes) (omega (arith, stored-bounds (k .number)))
+pub kept-long : (b : List ℕ) (age : ℕ) (k : Kept) → KeptIn b age k → length (keptReading b k .bytes) ≡ stored (k .number)
+kept-long b age k r = length-part b (k .start) (k .end - k .start) (omega (arith, r .ordered, r .inside)) ∙ r .long
 
 -- a place is within the slot
-pub place-within : (p : ℕ) (a b : Kept) → length (a .bytes) ≡ 724 → (m : ℕ) → m ≡ stored (a .number) → (n : ℕ) → p ≡ placeOf (take (m - 0) (a .bytes)) (take (n - 0) (b .bytes)) → p ≤ 724
-place-within p a b h m em n e =
-    omega (arith, place-short (take (m - 0) (a .bytes)) (take (n - 0) (b .bytes)), length-take-le (m - 0) (a .bytes) (omega (arith, stored-bounds (a .number))), stored-bounds (a .number))
+pub place-within : (l r : List ℕ) (age : ℕ) (a b : Kept) → KeptIn l age a → (p : ℕ) → p ≡ placeOf (keptReading l a .bytes) (keptReading r b .bytes) → p ≤ 724
+place-within l r age a b ka p e = omega (arith, place-short (keptReading l a .bytes) (keptReading r b .bytes), kept-long l age a ka, stored-bounds (a .number))
 
-module _ (j : ℕ) (l : CookieStash) (k : ℕ) (r : CookieStash) (age : ℕ) (a b : Kept) (ea : keptReading a ≡ agedOf (heldOf j l) age) (eb : keptReading b ≡ agedOf (heldOf k r) age) (la : length (a .bytes) ≡ 724) (lb : length (b .bytes) ≡ 724) where
-  kept-same : (eqb (a .number) (b .number) && eqb (placeOf (keptReading a .bytes) (keptReading b .bytes)) (stored (a .number))) ≡ sameReading (keptReading a) (keptReading b)
+module _ (l r : List ℕ) (age : ℕ) (a b : Kept) (ka : KeptIn l age a) (kb : KeptIn r age b) where
+  kept-same : (eqb (a .number) (b .number) && eqb (placeOf (keptReading l a .bytes) (keptReading r b .bytes)) (a .end - a .start)) ≡ sameReading (keptReading l a) (keptReading r b)
   unfolding sameReading
   kept-same =
-      ap (λ (n : ℕ). eqb (a .number) (b .number) && eqb (placeOf (keptReading a .bytes) (keptReading b .bytes)) n) (sym (stored-long a la))
-      ∙ alike (a .number) (b .number) (keptReading a .bytes) (keptReading b .bytes) (λ e. stored-long a la ∙ ap stored e ∙ sym (stored-long b lb))
+      ap (λ (n : ℕ). eqb (a .number) (b .number) && eqb (placeOf (keptReading l a .bytes) (keptReading r b .bytes)) n) (ka .long ∙ sym (kept-long l age a ka))
+      ∙ alike (a .number) (b .number) (keptReading l a .bytes) (keptReading r b .bytes) (λ e. kept-long l age a ka ∙ ap stored e ∙ sym (kept-long r age b kb))
 
   -- what the code makes of them
-  pub cookie-field-by : (m n p : ℕ) (s : Bool) → m ≡ stored (a .number) → n ≡ stored (b .number) → p ≡ placeOf (take (m - 0) (a .bytes)) (take (n - 0) (b .bytes)) → s ≡ (eqb (a .number) (b .number) && eqb p m)
-      → record { code = 32 + age; left = a .number; right = b .number; place = p; same = s } ≡ cookieField j l k r age
-  unfolding cookieField fieldOf
-  cookie-field-by m n p s em en ep es =
-      let am : m - 0 ≡ stored (a .number) = omega (arith, em) in
-      let bn : n - 0 ≡ stored (b .number) = omega (arith, en) in
-      let place : p ≡ placeOf (keptReading a .bytes) (keptReading b .bytes) = ep ∙ (λ i. placeOf (take (am i) (a .bytes)) (take (bn i) (b .bytes))) in
-      let same : s ≡ sameReading (keptReading a) (keptReading b) = es ∙ (λ i. eqb (a .number) (b .number) && eqb (place i) (em i)) ∙ kept-same in
-      _∙_ {b = fieldOf (32 + age) (keptReading a) (keptReading b)}
-      (λ i. record { code = 32 + age; left = a .number; right = b .number; place = place i; same = same i })
-      (λ i. fieldOf (32 + age) (ea i) (eb i))
+  pub cookie-field-by : (p : ℕ) (s : Bool) → p ≡ placeOf (keptReading l a .bytes) (keptReading r b .bytes) → s ≡ (eqb (a .number) (b .number) && eqb p (a .end - a .start))
+      → record { code = 32 + age; left = a .number; right = b .number; place = p; same = s } ≡ cookieIn l r age
+  unfolding cookieIn fieldOf
+  cookie-field-by p s ep es =
+      let same : s ≡ sameReading (keptReading l a) (keptReading r b) = es ∙ (λ i. eqb (a .number) (b .number) && eqb (ep i) (a .end - a .start)) ∙ kept-same in
+      _∙_ {b = fieldOf (32 + age) (keptReading l a) (keptReading r b)}
+      (λ i. record { code = 32 + age; left = a .number; right = b .number; place = ep i; same = same i })
+      (λ i. fieldOf (32 + age) (ka .reads i) (kb .reads i))
+
+-- ---- of a body that is one, they are the cookies of the stash
+
+module _ (b : List ℕ) where
+  aged-rest : (age at : ℕ) → at ≤ length b → isRun (runOf (drop at b)) ≡ true → agedAt b age at ≡ agedOf (restOf b at) age
+  unfolding agedOf
+  aged-rest zero at h t = go (heldAt b at) refl
+    where
+      go : (x : Held) → heldAt b at ≡ x → agedAt b zero at ≡ agedOf (restOf b at) zero
+      go (One len start end) e = ap (firstHeld b) e ∙ sym (ap (λ (cs : List Cookie). agedOf cs zero) (rest-one b at h t len start end e))
+      go End e = ap (firstHeld b) e ∙ sym (ap (λ (cs : List Cookie). agedOf cs zero) (rest-none b at h t e))
+      go Broken e = rest-whole b at h t e
+  aged-rest (suc n) at h t = go (aged-rest n) (heldAt b at) refl
+    where
+      go : ((at : ℕ) → at ≤ length b → isRun (runOf (drop at b)) ≡ true → agedAt b n at ≡ agedOf (restOf b at) n) → (x : Held) → heldAt b at ≡ x → agedAt b (suc n) at ≡ agedOf (restOf b at) (suc n)
+      go more (One len start end) e =
+          ap (nextHeld (λ (x : ℕ). agedAt b n x)) e
+          ∙ more end (one-within b at len start end e .3) (runs-on b at h t len start end e)
+          ∙ sym (ap (λ (cs : List Cookie). agedOf cs (suc n)) (rest-one b at h t len start end e))
+      go more End e = ap (nextHeld (λ (x : ℕ). agedAt b n x)) e ∙ sym (ap (λ (cs : List Cookie). agedOf cs (suc n)) (rest-none b at h t e))
+      go more Broken e = rest-whole b at h t e
+
+-- a stash that is read of a body: what is read of either is the same
+module _ (cap : ℕ) (b : List ℕ) (y : Bytes b) (f : stashFits b ≡ true) (k : stashKnown cap b ≡ true) where
+  held-is : heldOf cap (stashOf cap b) ≡ heldIn b
+  unfolding heldOf emptyAt cookies queue
+  held-is = ap (λ (t : Bool). cond t (cookies cap (stashOf cap b)) []) (in-range cap (stashOf cap b) (read-laid cap b y f k .whole)) ∙ read-laid cap b y f k .holds
+
+  pub place-is : getD b 0 0 ≡ stashOf cap b .read
+  unfolding emptyAt
+  place-is = sym (read-laid cap b y f k .reads)
+
+  pub aged-is : (age : ℕ) → agedIn b age ≡ agedOf (heldOf cap (stashOf cap b)) age
+  unfolding agedIn heldIn
+  aged-is age = aged-rest b age 1 (has-place b f) (runs-first b f) ∙ sym (ap (λ (cs : List Cookie). agedOf cs age) held-is)

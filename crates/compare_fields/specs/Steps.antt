@@ -1,15 +1,20 @@
 -- The fields by groups, as the code makes them (RULES, No. 10).
 -- Assumes nothing.
-use Prim.Native.Nat.{ℕ, _+_}
+use Prim.Native.Nat.{ℕ, zero, suc, _+_, _-_, _≤_}
+use mathlib.Core.Path.{_≡_}
 use mathlib.Core.List.{List, [], _∷_, _++_, map}
-use lib.ListN.{getD, take}
-use Rattle.cookiestash.specs.declared.CookieStash.{CookieStash}
+use lib.ListN.{length, getD}
+use Rattle.words.specs.Bytes.{part}
 use Rattle.cookiestash.specs.Stash.{stored}
-use Rattle.association.specs.declared.Association.{Association}
+use Rattle.association.specs.declared.Settings.{Settings}
+use Rattle.association.specs.declared.State.{State}
+use Rattle.handover_cut.specs.declared.Held.{Held}
+use Rattle.handover_cut.specs.declared.Held.the-variants.{One, End, Broken}
+use Rattle.handover_cut.specs.Steps.{heldAt}
 use Rattle.compare_fields.specs.declared.Field.{Field}
 use Rattle.compare_fields.specs.declared.Kept.{Kept}
 use Rattle.compare_fields.specs.declared.Groups.{Groups}
-use Rattle.compare_fields.specs.Readings.{Reading, plain, settingsNumbers, stateNumbers, heldOf, agedOf, ages}
+use Rattle.compare_fields.specs.Readings.{Reading, plain, settingsNumbers, stateNumbers, noCookie, ages}
 use Rattle.compare_fields.specs.Fields.{fieldOf}
 
 -- the i-th of two rows of numbers
@@ -29,22 +34,60 @@ eightOf first l r =
     ∷ numberOf first l r 7
     ∷ []
 
--- what is read of a cookie: the stored bytes count
-abbrev pub keptReading : Kept → Reading
-keptReading a = record { number = a .number; bytes = take (stored (a .number)) (a .bytes) }
+-- ---- the cookies of a stash's body
 
--- the cookies of an age, each of its own stash, behind its capacity
-unfoldable pub cookieField : ℕ → CookieStash → ℕ → CookieStash → ℕ → Field
-cookieField m l n r age = fieldOf (32 + age) (agedOf (heldOf m l) age) (agedOf (heldOf n r) age)
+-- what is read of a cookie there
+abbrev pub keptReading : List ℕ → Kept → Reading
+keptReading b k = record { number = k .number; bytes = part b (k .start) (k .end - k .start) }
 
-unfoldable pub groupsOf : Association → Association → Groups
-groupsOf a b =
+abbrev pub unkept : Kept
+unkept = record { number = 65536; start = 0; end = 0 }
+
+abbrev pub kept : ℕ → ℕ → ℕ → Kept
+kept len start end = record { number = len; start = start; end = end }
+
+-- of what stands at an offset, the cookie itself, or what is read of those behind it
+abbrev pub firstHeld : List ℕ → Held → Reading
+firstHeld b (One len start end) = keptReading b (kept len start end)
+firstHeld b End = noCookie
+firstHeld b Broken = noCookie
+
+abbrev pub nextHeld : (ℕ → Reading) → Held → Reading
+nextHeld rest (One len start end) = rest end
+nextHeld rest End = noCookie
+nextHeld rest Broken = noCookie
+
+-- the cookie of an age, counted from an offset on
+abbrev pub agedAt : List ℕ → ℕ → ℕ → Reading
+agedAt b zero at = firstHeld b (heldAt b at)
+agedAt b (suc age) at = nextHeld (λ end. agedAt b age end) (heldAt b at)
+
+-- behind the reading place, the body's first byte
+unfoldable pub agedIn : List ℕ → ℕ → Reading
+agedIn b age = agedAt b age 1
+
+-- where it lies
+pub record KeptIn (b : List ℕ) (age : ℕ) (k : Kept) : Type 0 where
+  pub reads : keptReading b k ≡ agedIn b age
+  pub few : k .number ≤ 65536
+  pub ordered : k .start ≤ k .end
+  pub inside : k .end ≤ length b
+  pub long : k .end - k .start ≡ stored (k .number)
+
+-- the cookies of an age, each of its own body
+unfoldable pub cookieIn : List ℕ → List ℕ → ℕ → Field
+cookieIn l r age = fieldOf (32 + age) (agedIn l age) (agedIn r age)
+
+-- ---- all fields, of settings, state, and the body of a stash's record on each side
+
+unfoldable pub groupsIn : Settings → State → List ℕ → Settings → State → List ℕ → Groups
+groupsIn l p left r q right =
     record {
-      settings = eightOf 1 (settingsNumbers (a .settings)) (settingsNumbers (b .settings));
-      capacity = fieldOf 9 (plain (a .settings .capacity)) (plain (b .settings .capacity));
-      read = fieldOf 16 (plain (a .stash .read)) (plain (b .stash .read));
-      cookies = map (cookieField (a .settings .capacity) (a .stash) (b .settings .capacity) (b .stash)) ages;
-      state = eightOf 48 (stateNumbers (a .state)) (stateNumbers (b .state));
+      settings = eightOf 1 (settingsNumbers l) (settingsNumbers r);
+      capacity = fieldOf 9 (plain (l .capacity)) (plain (r .capacity));
+      read = fieldOf 16 (plain (getD left 0 0)) (plain (getD right 0 0));
+      cookies = map (cookieIn left right) ages;
+      state = eightOf 48 (stateNumbers p) (stateNumbers q);
     }
 
 -- all of them, in their order

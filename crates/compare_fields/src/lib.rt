@@ -1,21 +1,20 @@
-// Two associations side by side: every field that differs, in the order of the hand-over file, with both readings.
+// Two associations side by side, each as settings, state, and the body of its stash's record, which is read where it lies: every field that differs, in the
+// order of the hand-over file, with both readings.
 // Promises: nothing is listed exactly when the two are equal; exchanged, the readings are exchanged; of a cookie only its length and a place are told.
 // Rule: RULES, No. 10 and No. 12; definitions in specs/Readings.antt and specs/Fields.antt.
-use association::Association;
 use association::Settings;
 use association::State;
-use cookiestash::CookieStash;
+use handover_cut::Held;
 use version::Version;
 ghost use mathlib.Core.Path.{_≡_};
 ghost use mathlib.Core.Bool.{_&&_};
 ghost use mathlib.Core.List.{map};
 ghost use Prim.Native.Nat.{_≤_, _<_};
 ghost use lib.Dec.{eqb};
-ghost use lib.ListN.{length};
 ghost use Rattle.handover_groups.specs.Codes.{yesCode};
-ghost use Rattle.compare_fields.specs.Readings.{plain, bits64, versionNumber, settingsNumbers, stateNumbers, noCookie, heldOf, agedOf, ages};
+ghost use Rattle.compare_fields.specs.Readings.{plain, bits64, versionNumber, settingsNumbers, stateNumbers, ages};
 ghost use Rattle.compare_fields.specs.Fields.{placeOf, fieldOf};
-ghost use Rattle.compare_fields.specs.Steps.{eightOf, keptReading, cookieField, groupsOf};
+ghost use Rattle.compare_fields.specs.Steps.{eightOf, unkept, KeptIn, cookieIn, groupsIn};
 
 // The reading of a cookie that a box does not have.
 const NO_COOKIE: u64 = 65536;
@@ -44,10 +43,11 @@ pub struct Groups {
     pub state: [Field; 8],
 }
 
-// What is read of a cookie: its length, and its bytes, of which the stored ones count.
+// Where a cookie lies in the body of its stash's record: its length as a reading, and its stored bytes, from start and before end.
 struct Kept {
     number: u64,
-    bytes: [u8; 724],
+    start: usize,
+    end: usize,
 }
 
 fn wide(b: u8) -> u64
@@ -170,31 +170,41 @@ fn place_of(l: &[u8], r: &[u8]) -> usize
 }
 
 fn no_cookie() -> Kept
-    ensures { λ r. ⌜ (keptReading r ≡ noCookie) × (r .number ≤ 65536) × (length (r .bytes) ≡ 724) ⌝ }
+    ensures { λ r. ⌜ r ≡ unkept ⌝ }
 {
     Kept {
         number: NO_COOKIE,
-        bytes: [0u8; 724],
+        start: 0,
+        end: 0,
     }
 }
 
-// The cookie of an age, 0 the oldest, of a stash that holds so many at most.
-fn aged(capacity: u8, s: CookieStash, age: usize) -> Kept
-    ensures { λ r. ⌜ (keptReading r ≡ agedOf (heldOf capacity s) age) × (r .number ≤ 65536) × (length (r .bytes) ≡ 724) ⌝ }
+// The cookie of an age, 0 the oldest.
+fn aged(body: &[u8], age: usize) -> Kept
+    ensures { λ r. ⌜ KeptIn (now (body .entry)) age r ⌝ }
 {
-    let cap = capacity as usize;
-    if !cookiestash::in_range(cap, s.read, s.held) {
-        return no_cookie();
-    }
-    if s.held <= age {
-        return no_cookie();
-    }
-    let place = cookiestash::wrapped(cap, s.read + age);
-    let slot = s.slots[place];
-    let bytes = slot.bytes;
-    Kept {
-        number: slot.len as u64,
-        bytes,
+    let mut at: usize = 1;
+    let mut left = age;
+    loop {
+        match handover_cut::held_at(body, at) {
+            Held::One { len, start, end } => {
+                if left == 0 {
+                    return Kept {
+                        number: len as u64,
+                        start,
+                        end,
+                    };
+                }
+                left = left - 1;
+                at = end;
+            }
+            Held::End => {
+                return no_cookie();
+            }
+            Held::Broken => {
+                return no_cookie();
+            }
+        }
     }
 }
 
@@ -205,19 +215,19 @@ fn alike(left: u64, right: u64, place: usize, end: usize) -> bool
     if left == right { place == end } else { false }
 }
 
-// The cookies of an age, each of its own stash, behind its capacity.
-fn cookie_field(m: u8, l: CookieStash, n: u8, r: CookieStash, age: u8) -> Field
+// The cookies of an age, each of its own body.
+fn cookie_field(l: &[u8], r: &[u8], age: u8) -> Field
     requires { ⌜ age < 8 ⌝ }
-    ensures { λ f. ⌜ f ≡ cookieField m l n r age ⌝ }
+    ensures { λ f. ⌜ f ≡ cookieIn (now (l .entry)) (now (r .entry)) age ⌝ }
 {
-    let a = aged(m, l, age as usize);
-    let b = aged(n, r, age as usize);
-    let from = cookiestash::stored_bytes(a.number as usize);
-    let to = cookiestash::stored_bytes(b.number as usize);
-    let x = a.bytes;
-    let y = b.bytes;
-    let place = place_of(&x[0..from], &y[0..to]);
-    let same = alike(a.number, b.number, place, from);
+    let a = aged(l, age as usize);
+    let b = aged(r, age as usize);
+    let first = a.start;
+    let last = a.end;
+    let from = b.start;
+    let to = b.end;
+    let place = place_of(&l[first..last], &r[from..to]);
+    let same = alike(a.number, b.number, place, last - first);
     Field {
         code: FIRST_COOKIE + age,
         left: a.number,
@@ -227,38 +237,32 @@ fn cookie_field(m: u8, l: CookieStash, n: u8, r: CookieStash, age: u8) -> Field
     }
 }
 
-fn cookie_fields(m: u8, l: CookieStash, n: u8, r: CookieStash) -> [Field; 8]
-    ensures { λ f. ⌜ f ≡ map (cookieField m l n r) ages ⌝ }
+fn cookie_fields(l: &[u8], r: &[u8]) -> [Field; 8]
+    ensures { λ f. ⌜ f ≡ map (cookieIn (now (l .entry)) (now (r .entry))) ages ⌝ }
 {
     [
-        cookie_field(m, l, n, r, 0),
-        cookie_field(m, l, n, r, 1),
-        cookie_field(m, l, n, r, 2),
-        cookie_field(m, l, n, r, 3),
-        cookie_field(m, l, n, r, 4),
-        cookie_field(m, l, n, r, 5),
-        cookie_field(m, l, n, r, 6),
-        cookie_field(m, l, n, r, 7),
+        cookie_field(l, r, 0),
+        cookie_field(l, r, 1),
+        cookie_field(l, r, 2),
+        cookie_field(l, r, 3),
+        cookie_field(l, r, 4),
+        cookie_field(l, r, 5),
+        cookie_field(l, r, 6),
+        cookie_field(l, r, 7),
     ]
 }
 
 // All fields, those that agree among them.
-pub fn fields(l: Association, r: Association) -> Groups
-    ensures { λ g. ⌜ g ≡ groupsOf l r ⌝ }
+pub fn fields(l: Settings, p: State, left: &[u8], r: Settings, q: State, right: &[u8]) -> Groups
+    ensures { λ g. ⌜ g ≡ groupsIn l p (now (left .entry)) r q (now (right .entry)) ⌝ }
 {
-    let m = l.settings.capacity;
-    let n = r.settings.capacity;
-    let ls = l.stash;
-    let rs = r.stash;
-    let settings = eight(
-        1,
-        settings_numbers(l.settings),
-        settings_numbers(r.settings),
-    );
-    let capacity = number(9, wide(m), wide(n));
-    let read = number(16, ls.read as u64, rs.read as u64);
-    let cookies = cookie_fields(m, ls, n, rs);
-    let state = eight(48, state_numbers(l.state), state_numbers(r.state));
+    let settings = eight(1, settings_numbers(l), settings_numbers(r));
+    let capacity = number(9, wide(l.capacity), wide(r.capacity));
+    let m = wide(handover_load::place_of(left));
+    let n = wide(handover_load::place_of(right));
+    let read = number(16, m, n);
+    let cookies = cookie_fields(left, right);
+    let state = eight(48, state_numbers(p), state_numbers(q));
     Groups {
         settings,
         capacity,

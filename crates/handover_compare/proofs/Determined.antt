@@ -1,17 +1,13 @@
--- The contracts of `compare` and `compare_associations` determine their results: any two that they allow are equal, and so are the bytes of the buffer that was lent.
+-- The contracts of the public functions determine their results: any two that they allow are equal, and so are the bytes of the buffer that was lent.
 -- Assumes nothing.
 use mathlib.Core.Path.{sym, _∙_}
 use denote.Ref.{now}
 use Rattle.words.specs.Determined.{Determined, DeterminedLent}
 use Rattle.handover_compare.proofs.CompareAnswer.number.Reads as number
-use Rattle.handover_compare.proofs.compare_associations.Reads as compare-associations
 use Rattle.handover_compare.proofs.compare.Reads as compare
 
 pub compare-determined : DeterminedLent compare.Post (λ κs e. now (e .1 .1 .0))
 compare-determined κs a y z e f p q = (p .0 ∙ sym (q .0), p .1 ∙ sym (q .1))
-
-pub compare-associations-determined : DeterminedLent compare-associations.Post (λ κs e. now (e .1 .1 .0))
-compare-associations-determined κs a y z e f p q = (p .0 ∙ sym (q .0), p .1 ∙ sym (q .1))
 
 pub number-determined : Determined number.Post
 number-determined κs a y z e f p q = p ∙ sym q

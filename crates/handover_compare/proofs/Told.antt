@@ -8,70 +8,82 @@ use native.Mathlib.Omega.{arith}
 use borrow.Author.Tests.{lt-ltb, le-ltb}
 use lib.Dec.{ltb}
 use lib.ListN.{length}
+use Rattle.words.proofs.Bytes.{Bytes}
+use Rattle.association.specs.declared.Settings.{Settings}
+use Rattle.association.specs.declared.State.{State}
 use Rattle.association.specs.declared.Association.{Association}
 use Rattle.handover_file.specs.declared.LoadAnswer.{LoadAnswer}
-use Rattle.handover_file.specs.declared.LoadOut.{LoadOut}
+use Rattle.handover_file.specs.Cookies.{stashFits, stashKnown}
 use Rattle.handover_file.specs.Answers.{over, loadOf}
+use Rattle.handover_read.specs.declared.FileRead.{FileRead}
+use Rattle.handover_read.specs.Reading.{readOf}
+use Rattle.handover_read.proofs.Within.{answer-is}
 use Rattle.handover_save.specs.Put.{Put}
 use Rattle.handover_save.proofs.Laid.{laid-over}
 use Rattle.compare_fields.specs.declared.Field.{Field}
 use Rattle.compare_fields.specs.declared.Groups.{Groups}
 use Rattle.compare_fields.specs.Fields.{differing, listOf, listBytes}
-use Rattle.compare_fields.specs.Steps.{groupsOf, allOf}
-use Rattle.compare_fields.proofs.Grouped.{all-fields}
+use Rattle.compare_fields.specs.Steps.{groupsIn, allOf}
+use Rattle.compare_fields.proofs.Grouped.{Of, all-fields}
 use Rattle.compare_fields.proofs.Listed.{list-long}
 use Rattle.handover_compare.specs.declared.Side.the-variants.{Left, Right}
 use Rattle.handover_compare.specs.declared.CompareAnswer.the-variants.{Listed, ShortBuffer}
+use Rattle.handover_compare.specs.Made.{madeOf}
 use Rattle.handover_compare.specs.Answers.{toldIn, writtenIn, onLoad, ifLoaded, rightOf, rightOut, compareOf, outOf}
 
 -- ---- two records
 
-module _ (a b : Association) (out : List ℕ) (g : Groups) (e : g ≡ groupsOf a b) where
+-- an association whose stash is read of a body
+pub of-body : (s : Settings) (q : State) (b : List ℕ) → Bytes b → stashFits b ≡ true → stashKnown (s .capacity) b ≡ true → Of (madeOf s q b) s q b
+of-body s q b y f k = record { bytes = y; fits = f; known = k; is = refl }
+
+module _ {a b : Association} {l r : Settings} {p q : State} {left right : List ℕ} (m : Of a l p left) (n : Of b r q right) (out : List ℕ) (g : Groups) (e : g ≡ groupsIn l p left r q right) where
   list-is : differing (allOf g) ≡ listOf a b
   unfolding listOf
-  list-is = ap (λ (x : Groups). differing (allOf x)) e ∙ ap differing (all-fields a b)
+  list-is = ap (λ (x : Groups). differing (allOf x)) e ∙ ap differing (all-fields m n)
 
-  module _ (n : ℕ) (m : n ≡ length (differing (allOf g))) where
-    count-is : n ≡ length (listOf a b)
-    count-is = m ∙ ap length list-is
+  module _ (k : ℕ) (c : k ≡ length (differing (allOf g))) where
+    count-is : k ≡ length (listOf a b)
+    count-is = c ∙ ap length list-is
 
-    long : length (listBytes (listOf a b)) ≡ 19 * n
-    long = list-long (listOf a b) ∙ ap (λ (k : ℕ). 19 * k) (sym count-is)
+    long : length (listBytes (listOf a b)) ≡ 19 * k
+    long = list-long (listOf a b) ∙ ap (λ (j : ℕ). 19 * j) (sym count-is)
 
-    pub room-for : 19 * n ≤ length out → length (listBytes (differing (allOf g))) ≤ length out
-    room-for h = omega (arith, list-long (differing (allOf g)), m)
+    pub room-for : 19 * k ≤ length out → length (listBytes (differing (allOf g))) ≤ length out
+    room-for h = omega (arith, list-long (differing (allOf g)), c)
 
-    pub short-by : length out < 19 * n → (ShortBuffer ≡ toldIn a b (length out)) × (out ≡ writtenIn a b out)
+    pub short-by : length out < 19 * k → (ShortBuffer ≡ toldIn a b (length out)) × (out ≡ writtenIn a b out)
     unfolding toldIn writtenIn
     short-by h =
         let t = lt-ltb (length out) (length (listBytes (listOf a b))) (omega (arith, long)) in
         (rw t, rw t)
 
-    pub listed-by : 19 * n ≤ length out → (r : ℕ) (left : List ℕ) → Put out 0 (listBytes (differing (allOf g))) r left → (Listed n ≡ toldIn a b (length out)) × (left ≡ writtenIn a b out)
+    pub listed-by : 19 * k ≤ length out → (to : ℕ) (after : List ℕ) → Put out 0 (listBytes (differing (allOf g))) to after → (Listed k ≡ toldIn a b (length out)) × (after ≡ writtenIn a b out)
     unfolding toldIn writtenIn
-    listed-by h r left p =
+    listed-by h to after put =
         let t = le-ltb (length out) (length (listBytes (listOf a b))) (omega (arith, long)) in
-        let w : left ≡ over (listBytes (listOf a b)) out = p .leaves ∙ laid-over out (listBytes (differing (allOf g))) ∙ ap (λ (l : List Field). over (listBytes l) out) list-is in
+        let w : after ≡ over (listBytes (listOf a b)) out = put .leaves ∙ laid-over out (listBytes (differing (allOf g))) ∙ ap (λ (l : List Field). over (listBytes l) out) list-is in
         (rw t (λ i. Listed (count-is i)), rw t w)
 
 -- ---- two files
 
-module _ (o : LoadOut) (f : List ℕ) (e : o ≡ loadOf f) {x : LoadAnswer} (h : o .answer ≡ x) where
-  answer-is : x ≡ loadOf f .answer
-  answer-is = sym h ∙ ap (λ (l : LoadOut). l .answer) e
+module _ (f : List ℕ) (o : FileRead) (e : o ≡ readOf f) {x : LoadAnswer} (h : o .answer ≡ x) where
+  said-is : x ≡ loadOf f .answer
+  said-is = sym h ∙ answer-is f o e
 
-  pub right-by : (a : Association) (room : ℕ) → onLoad Right x (toldIn a (o .association) room) ≡ rightOf a f room
-  unfolding rightOf
-  right-by a room = λ i. onLoad Right (answer-is i) (toldIn a (e i .association) room)
+  module _ (b : Association) (is : b ≡ loadOf f .association) where
+    pub right-by : (a : Association) (room : ℕ) → onLoad Right x (toldIn a b room) ≡ rightOf a f room
+    unfolding rightOf
+    right-by a room = λ i. onLoad Right (said-is i) (toldIn a (is i) room)
 
-  pub right-out-by : (a : Association) (out : List ℕ) → ifLoaded x (writtenIn a (o .association) out) out ≡ rightOut a f out
-  unfolding rightOut
-  right-out-by a out = λ i. ifLoaded (answer-is i) (writtenIn a (e i .association) out) out
+    pub right-out-by : (a : Association) (out : List ℕ) → ifLoaded x (writtenIn a b out) out ≡ rightOut a f out
+    unfolding rightOut
+    right-out-by a out = λ i. ifLoaded (said-is i) (writtenIn a (is i) out) out
 
-  pub left-by : (g : List ℕ) (room : ℕ) → onLoad Left x (rightOf (o .association) g room) ≡ compareOf f g room
-  unfolding compareOf
-  left-by g room = λ i. onLoad Left (answer-is i) (rightOf (e i .association) g room)
+    pub left-by : (g : List ℕ) (room : ℕ) → onLoad Left x (rightOf b g room) ≡ compareOf f g room
+    unfolding compareOf
+    left-by g room = λ i. onLoad Left (said-is i) (rightOf (is i) g room)
 
-  pub left-out-by : (g out : List ℕ) → ifLoaded x (rightOut (o .association) g out) out ≡ outOf f g out
-  unfolding outOf
-  left-out-by g out = λ i. ifLoaded (answer-is i) (rightOut (e i .association) g out) out
+    pub left-out-by : (g out : List ℕ) → ifLoaded x (rightOut b g out) out ≡ outOf f g out
+    unfolding outOf
+    left-out-by g out = λ i. ifLoaded (said-is i) (rightOut (is i) g out) out

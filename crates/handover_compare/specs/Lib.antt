@@ -1,4 +1,5 @@
 -- The definitions that the contracts of `handover_compare` cite.
+pub mod Made
 pub mod Answer
 pub mod Answers
 pub mod Numbers

@@ -1,18 +1,22 @@
-// Two hand-over files side by side: every field in which the two boxes differ, as a list of bytes.
+// Two hand-over files side by side, each read where it lies: every field in which the two boxes differ, as a list of bytes.
 // Promises: the list is empty exactly when the two loaded records are equal; a refusal of the left file comes before one of the right; after one nothing is written.
 // Rule: RULES, No. 10; the fields are defined in `compare_fields`, the answers in specs/Answers.antt, number by number in specs/Numbers.antt.
-use association::Association;
+use association::Settings;
+use association::State;
 use compare_fields::Field;
 use compare_fields::Groups;
 use handover_file::LoadAnswer;
 ghost use mathlib.Core.Path.{_≡_};
+ghost use mathlib.Core.Bool.{true};
 ghost use Prim.Native.Nat.{_+_, _≤_};
 ghost use lib.ListN.{length};
 ghost use mathlib.Core.List.{_∷_, []};
 ghost use Rattle.compare_fields.specs.Fields.{differing, entryBytes, listBytes};
 ghost use Rattle.compare_fields.specs.Steps.{allOf};
 ghost use Rattle.handover_save.specs.Put.{Put};
+ghost use Rattle.handover_file.specs.Cookies.{stashFits, stashKnown};
 ghost use Rattle.handover_compare.specs.Answer.{compareNumber};
+ghost use Rattle.handover_compare.specs.Made.{madeOf};
 ghost use Rattle.handover_compare.specs.Answers.{toldIn, writtenIn, rightOf, rightOut, compareOf, outOf};
 
 // How many bytes an entry has: the code, two readings, and the place.
@@ -156,11 +160,21 @@ fn put_list(out: &mut [u8], g: Groups) -> usize
     put_eight(out, to, state)
 }
 
-// Compares two associations.
-pub fn compare_associations(l: Association, r: Association, out: &mut [u8]) -> CompareAnswer
-    ensures { λ x. ⌜ (x ≡ toldIn l r (length (now (out .entry)))) × (now (out .exit) ≡ writtenIn l r (now (out .entry))) ⌝ }
+// Compares two associations, each as its settings, its state, and the body of its stash's record.
+fn compare_found(
+    l: Settings,
+    p: State,
+    left: &[u8],
+    r: Settings,
+    q: State,
+    right: &[u8],
+    out: &mut [u8],
+) -> CompareAnswer
+    requires { ⌜ (stashFits (now left) ≡ true) × (stashKnown (l .capacity) (now left) ≡ true) × (stashFits (now right) ≡ true) × (stashKnown (r .capacity) (now right) ≡ true) ⌝ }
+    ensures { λ x. ⌜ (x ≡ toldIn (madeOf l p (now (left .entry))) (madeOf r q (now (right .entry))) (length (now (out .entry))))
+        × (now (out .exit) ≡ writtenIn (madeOf l p (now (left .entry))) (madeOf r q (now (right .entry))) (now (out .entry))) ⌝ }
 {
-    let g = compare_fields::fields(l, r);
+    let g = compare_fields::fields(l, p, left, r, q, right);
     let n = entries(g);
     if out.len() < ENTRY * n {
         return CompareAnswer::ShortBuffer;
@@ -169,15 +183,28 @@ pub fn compare_associations(l: Association, r: Association, out: &mut [u8]) -> C
     CompareAnswer::Listed(n)
 }
 
-// Compares a loaded association with a file.
-fn compare_right(l: Association, right: &[u8], out: &mut [u8]) -> CompareAnswer
-    ensures { λ x. ⌜ (x ≡ rightOf l (now (right .entry)) (length (now (out .entry)))) × (now (out .exit) ≡ rightOut l (now (right .entry)) (now (out .entry))) ⌝ }
+// Compares an association with a file.
+fn compare_right(l: Settings, p: State, left: &[u8], right: &[u8], out: &mut [u8]) -> CompareAnswer
+    requires { ⌜ (stashFits (now left) ≡ true) × (stashKnown (l .capacity) (now left) ≡ true) ⌝ }
+    ensures { λ x. ⌜ (x ≡ rightOf (madeOf l p (now (left .entry))) (now (right .entry)) (length (now (out .entry))))
+        × (now (out .exit) ≡ rightOut (madeOf l p (now (left .entry))) (now (right .entry)) (now (out .entry))) ⌝ }
 {
-    let loaded = handover_load::load(right);
-    let answer = loaded.answer;
-    let r = loaded.association;
+    let found = handover_read::read(right);
+    let answer = found.answer;
+    let r = found.settings;
+    let q = found.state;
+    let start = found.start;
+    let end = found.end;
     match answer {
-        LoadAnswer::Loaded { retired: _ } => compare_associations(l, r, out),
+        LoadAnswer::Loaded { retired: _ } => compare_found(
+            l,
+            p,
+            left,
+            r,
+            q,
+            &right[start..end],
+            out,
+        ),
         LoadAnswer::WrongMark => CompareAnswer::WrongMark(Side::Right),
         LoadAnswer::WrongLength => CompareAnswer::WrongLength(Side::Right),
         LoadAnswer::NoAssociation => CompareAnswer::NoAssociation(Side::Right),
@@ -188,11 +215,14 @@ fn compare_right(l: Association, right: &[u8], out: &mut [u8]) -> CompareAnswer
 pub fn compare(left: &[u8], right: &[u8], out: &mut [u8]) -> CompareAnswer
     ensures { λ x. ⌜ (x ≡ compareOf (now (left .entry)) (now (right .entry)) (length (now (out .entry)))) × (now (out .exit) ≡ outOf (now (left .entry)) (now (right .entry)) (now (out .entry))) ⌝ }
 {
-    let loaded = handover_load::load(left);
-    let answer = loaded.answer;
-    let l = loaded.association;
+    let found = handover_read::read(left);
+    let answer = found.answer;
+    let l = found.settings;
+    let p = found.state;
+    let start = found.start;
+    let end = found.end;
     match answer {
-        LoadAnswer::Loaded { retired: _ } => compare_right(l, right, out),
+        LoadAnswer::Loaded { retired: _ } => compare_right(l, p, &left[start..end], right, out),
         LoadAnswer::WrongMark => CompareAnswer::WrongMark(Side::Left),
         LoadAnswer::WrongLength => CompareAnswer::WrongLength(Side::Left),
         LoadAnswer::NoAssociation => CompareAnswer::NoAssociation(Side::Left),

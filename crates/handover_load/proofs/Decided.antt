@@ -103,15 +103,15 @@ module _ (s : Settings) (k : CookieStash) (m : State) {g : Settings} {q : State}
 
 -- the parts that the code cuts out
 pub slices : (f : List ℕ) (k e : ℕ) →
-    loadIn (part f 4 (4 + k - 4) ∷ part f (8 + k) (e - (8 + k)) ∷ part f (e + 4) (e + 6 - (e + 4)) ∷ part f (e + 10) (e + 12 - (e + 10)) ∷ part f (e + 16) (e + 18 - (e + 16)) ∷ part f (e + 22) (e + 28 - (e + 22)) ∷ [])
-    ≡ loadIn (partsAt f k e)
+    part f 4 (4 + k - 4) ∷ part f (8 + k) (e - (8 + k)) ∷ part f (e + 4) (e + 6 - (e + 4)) ∷ part f (e + 10) (e + 12 - (e + 10)) ∷ part f (e + 16) (e + 18 - (e + 16)) ∷ part f (e + 22) (e + 28 - (e + 22)) ∷ []
+    ≡ partsAt f k e
 slices f k e =
     let e₀ : 4 + k - 4 ≡ k = omega arith in
     let e₂ : e + 6 - (e + 4) ≡ 2 = omega arith in
     let e₃ : e + 12 - (e + 10) ≡ 2 = omega arith in
     let e₄ : e + 18 - (e + 16) ≡ 2 = omega arith in
     let e₅ : e + 28 - (e + 22) ≡ 6 = omega arith in
-    λ i. loadIn (part f 4 (e₀ i) ∷ part f (8 + k) (e - (8 + k)) ∷ part f (e + 4) (e₂ i) ∷ part f (e + 10) (e₃ i) ∷ part f (e + 16) (e₄ i) ∷ part f (e + 22) (e₅ i) ∷ [])
+    λ i. part f 4 (e₀ i) ∷ part f (8 + k) (e - (8 + k)) ∷ part f (e + 4) (e₂ i) ∷ part f (e + 10) (e₃ i) ∷ part f (e + 16) (e₄ i) ∷ part f (e + 22) (e₅ i) ∷ []
 
 -- the length that the settings say
 pub said : (f : List ℕ) (k : ℕ) → k ≡ be (part f 2 2) → k ≡ bodyLength f
@@ -122,12 +122,12 @@ pub loads : (f : List ℕ) → Six f → (k : ℕ) → k ≡ bodyLength f → lo
 unfolding loadOf
 loads f s k e = ap onCut (s .cuts) ∙ ap (λ (j : ℕ). loadIn (partsAt f j (length f - 28))) (sym e)
 
-mark-by : (c : Cut) → stopOf c ≡ Misplaced → c ≡ misplaced
+pub mark-by : (c : Cut) → stopOf c ≡ Misplaced → c ≡ misplaced
 mark-by (bodies bs) e = let z : _≡_ {A = ℕ} 0 1 = cc in absurd (omega arith)
 mark-by misplaced e = refl
 mark-by missized e = let z : _≡_ {A = ℕ} 0 1 = cc in absurd (omega arith)
 
-length-by : (c : Cut) → stopOf c ≡ Missized → c ≡ missized
+pub length-by : (c : Cut) → stopOf c ≡ Missized → c ≡ missized
 length-by (bodies bs) e = let z : _≡_ {A = ℕ} 0 1 = cc in absurd (omega arith)
 length-by misplaced e = let z : _≡_ {A = ℕ} 0 1 = cc in absurd (omega arith)
 length-by missized e = refl

@@ -36,6 +36,31 @@ kept-is len c n =
 abbrev pub restOf : List ℕ → ℕ → List Cookie
 restOf b at = cookiesOf (runOf (drop at b))
 
+rest-ahead : (c : Cookie) (r : Run) → isRun r ≡ true → cookiesOf (ahead c r) ≡ c ∷ cookiesOf r
+rest-ahead c (whole cs) e = refl
+rest-ahead c broken e = let z : _≡_ {A = ℕ} 0 1 = cc in absurd (omega arith)
+
+not-both : (t : Bool) {A : Type 0} → t ≡ true → t ≡ false → A
+not-both t p q = let z : _≡_ {A = ℕ} 0 1 = ap (λ (u : Bool). cond u 1 0) (sym q ∙ p) in absurd (omega arith)
+
+-- what stands at an offset from which cookies run to the body's end
+module _ (b : List ℕ) (at : ℕ) (h : at ≤ length b) (t : isRun (runOf (drop at b)) ≡ true) where
+  module _ (len start end : ℕ) (e : heldAt b at ≡ One len start end) where
+    run-one : runOf (drop at b) ≡ ahead (cookie len (part b start (end - start))) (runOf (drop end b))
+    run-one = run-at b at h ∙ ap (onHeld b) e
+
+    pub runs-on : isRun (runOf (drop end b)) ≡ true
+    runs-on = sym (run-ahead (cookie len (part b start (end - start))) (runOf (drop end b))) ∙ sym (ap isRun run-one) ∙ t
+
+    pub rest-one : restOf b at ≡ cookie len (part b start (end - start)) ∷ restOf b end
+    rest-one = ap cookiesOf run-one ∙ rest-ahead (cookie len (part b start (end - start))) (runOf (drop end b)) runs-on
+
+  pub rest-none : heldAt b at ≡ End → restOf b at ≡ []
+  rest-none e = ap cookiesOf (run-at b at h ∙ ap (onHeld b) e)
+
+  pub rest-whole : {A : Type 0} → heldAt b at ≡ Broken → A
+  rest-whole e = not-both (isRun (runOf (drop at b))) t (ap isRun (run-at b at h ∙ ap (onHeld b) e))
+
 -- s is the stash of the cookies before the offset
 pub record Reading (cap : ℕ) (b : List ℕ) (at : ℕ) (s : CookieStash) : Type 0 where
   pub most : cap ≤ 8
@@ -47,13 +72,6 @@ pub record Reading (cap : ℕ) (b : List ℕ) (at : ℕ) (s : CookieStash) : Typ
   pub holds : s .held + length (restOf b at) ≡ length (heldIn b)
   pub makes : laidIn cap s (restOf b at) ≡ stashOf cap b
 
-rest-ahead : (c : Cookie) (r : Run) → isRun r ≡ true → cookiesOf (ahead c r) ≡ c ∷ cookiesOf r
-rest-ahead c (whole cs) e = refl
-rest-ahead c broken e = let z : _≡_ {A = ℕ} 0 1 = cc in absurd (omega arith)
-
-not-both : (t : Bool) {A : Type 0} → t ≡ true → t ≡ false → A
-not-both t p q = let z : _≡_ {A = ℕ} 0 1 = ap (λ (u : Bool). cond u 1 0) (sym q ∙ p) in absurd (omega arith)
-
 module _ (b : List ℕ) (f : stashFits b ≡ true) where
   pub has-place : 0 < length b
   unfolding stashFits
@@ -63,13 +81,17 @@ module _ (b : List ℕ) (f : stashFits b ≡ true) where
       some zero e = not-both (stashFits b) f (ap (λ (t : Bool). cond t false (isRun (runOf (drop 1 b)))) (eq-eqb (length b) 0 e))
       some (suc n) e = omega arith
 
+  pub runs-first : isRun (runOf (drop 1 b)) ≡ true
+  unfolding stashFits
+  runs-first = sym (ap (λ (t : Bool). cond t false (isRun (runOf (drop 1 b)))) (ne-eqb (length b) 0 (λ e. omega (arith, has-place)))) ∙ f
+
   pub starts : (cap : ℕ) → cap ≤ 8 → getD b 0 0 < cap → Reading cap b 1 (emptyAt (getD b 0 0))
-  unfolding stashFits heldIn stashOf emptyAt
+  unfolding heldIn stashOf emptyAt
   starts cap m h =
       record {
         most = m;
         inside = has-place;
-        runs = sym (ap (λ (t : Bool). cond t false (isRun (runOf (drop 1 b)))) (ne-eqb (length b) 0 (λ e. omega (arith, has-place)))) ∙ f;
+        runs = runs-first;
         reads = h;
         place = h;
         counts = omega arith;
@@ -104,14 +126,8 @@ module _ (cap : ℕ) (b : List ℕ) (at : ℕ) (s : CookieStash) (r : Reading ca
     abbrev found : Cookie
     found = cookie len (part b start (end - start))
 
-    run-one : runOf (drop at b) ≡ ahead found (runOf (drop end b))
-    run-one = run-at b at (r .inside) ∙ ap (onHeld b) e
-
-    runs-on : isRun (runOf (drop end b)) ≡ true
-    runs-on = sym (run-ahead found (runOf (drop end b))) ∙ sym (ap isRun run-one) ∙ r .runs
-
-    rest-one : restOf b at ≡ found ∷ restOf b end
-    rest-one = ap cookiesOf run-one ∙ rest-ahead found (runOf (drop end b)) runs-on
+    rest : restOf b at ≡ found ∷ restOf b end
+    rest = rest-one b at (r .inside) (r .runs) len start end e
 
     pub reads-one : s .held < cap → Reading cap b end (putOf cap s (slotFor found))
     reads-one h =
@@ -119,25 +135,25 @@ module _ (cap : ℕ) (b : List ℕ) (at : ℕ) (s : CookieStash) (r : Reading ca
         record {
           most = r .most;
           inside = one-within b at len start end e .3;
-          runs = runs-on;
+          runs = runs-on b at (r .inside) (r .runs) len start end e;
           reads = omega (arith, p .0, r .reads);
           place = r .place;
           counts = omega (arith, p .1);
-          holds = omega (arith, p .1, ap length rest-one, r .holds);
-          makes = sym (ap (laidIn cap s) rest-one) ∙ r .makes;
+          holds = omega (arith, p .1, ap length rest, r .holds);
+          makes = sym (ap (laidIn cap s) rest) ∙ r .makes;
         }
 
     pub too-many : s .held ≡ cap → stashKnown cap b ≡ false
     unfolding stashKnown
-    too-many h = passes _ (le-leb cap 8 (r .most)) ∙ passes _ (lt-ltb (getD b 0 0) cap (r .place)) ∙ lt-leb (length (heldIn b)) cap (omega (arith, ap length rest-one, r .holds))
+    too-many h = passes _ (le-leb cap 8 (r .most)) ∙ passes _ (lt-ltb (getD b 0 0) cap (r .place)) ∙ lt-leb (length (heldIn b)) cap (omega (arith, ap length rest, r .holds))
 
   pub reads-end : heldAt b at ≡ End → (stashKnown cap b ≡ true) × (s ≡ stashOf cap b)
   unfolding stashKnown
   reads-end e =
-      let rest : restOf b at ≡ [] = ap cookiesOf (run-at b at (r .inside) ∙ ap (onHeld b) e) in (
+      let rest = rest-none b at (r .inside) (r .runs) e in (
         passes _ (le-leb cap 8 (r .most)) ∙ passes _ (lt-ltb (getD b 0 0) cap (r .place)) ∙ le-leb (length (heldIn b)) cap (omega (arith, ap length rest, r .holds, r .counts)),
         sym (ap (laidIn cap s) rest) ∙ r .makes,
       )
 
   pub never-broken : {A : Type 0} → heldAt b at ≡ Broken → A
-  never-broken e = not-both (isRun (runOf (drop at b))) (r .runs) (ap isRun (run-at b at (r .inside) ∙ ap (onHeld b) e))
+  never-broken e = rest-whole b at (r .inside) (r .runs) e

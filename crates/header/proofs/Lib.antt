@@ -1,4 +1,5 @@
 -- Laws that belong to no one function.
+pub mod Head
 pub mod Fit
 pub mod Codes
 pub mod RoundTrip

@@ -7,7 +7,7 @@ use time_types::PollInterval;
 ghost use mathlib.Core.Path.{_≡_};
 ghost use Prim.Native.Nat.{_+_, _≤_, _<_};
 ghost use lib.ListN.{length};
-ghost use Rattle.words.specs.Bytes.{toBe};
+ghost use Rattle.words.specs.Bytes.{be, part, toBe};
 ghost use Rattle.header.specs.Header.{leapOf, modeOf, leapCode, modeCode, versionCode, firstByte, fields, headerOf, placed, bytesOf};
 ghost use Rattle.header.specs.Kiss.{kissesOf};
 
@@ -133,8 +133,18 @@ impl HeaderVersion {
     }
 }
 
-// The fields of a packet that is long enough for them.
-fn fields_of(version: HeaderVersion, p: &[u8]) -> Header
+// The number of the eight bytes from an offset on, by its halves: the compiler takes each as one load.
+fn word_at(p: &[u8], at: usize) -> u64
+    requires { ⌜ at + 8 ≤ length (now p) ⌝ }
+    ensures { λ r. ⌜ r ≡ be (part (now (p .entry)) at 8) ⌝ }
+{
+    let high = words::be32_at(p, at) as u64;
+    let low = words::be32_at(p, at + 4) as u64;
+    high * 4294967296 + low
+}
+
+// The fields of bytes that are long enough for them.
+fn fields_in(version: HeaderVersion, p: &[u8]) -> Header
     requires { ⌜ 48 ≤ length (now p) ⌝ }
     ensures { λ r. ⌜ r ≡ fields version (now (p .entry)) ⌝ }
 {
@@ -147,10 +157,10 @@ fn fields_of(version: HeaderVersion, p: &[u8]) -> Header
     let rootdelay = words::be32_at(p, 4);
     let rootdisp = words::be32_at(p, 8);
     let refid = ReferenceId(words::be32_at(p, 12));
-    let reftime = NtpTimestamp(words::be64_at(p, 16));
-    let origin = NtpTimestamp(words::be64_at(p, 24));
-    let receive = NtpTimestamp(words::be64_at(p, 32));
-    let transmit = NtpTimestamp(words::be64_at(p, 40));
+    let reftime = NtpTimestamp(word_at(p, 16));
+    let origin = NtpTimestamp(word_at(p, 24));
+    let receive = NtpTimestamp(word_at(p, 32));
+    let transmit = NtpTimestamp(word_at(p, 40));
     Header {
         version,
         leap,
@@ -166,6 +176,14 @@ fn fields_of(version: HeaderVersion, p: &[u8]) -> Header
         receive,
         transmit,
     }
+}
+
+// The fields of a packet that is long enough for them, read from a part whose length the compiler knows.
+fn fields_of(version: HeaderVersion, p: &[u8]) -> Header
+    requires { ⌜ 48 ≤ length (now p) ⌝ }
+    ensures { λ r. ⌜ r ≡ fields version (now (p .entry)) ⌝ }
+{
+    fields_in(version, &p[..HEADER_BYTES])
 }
 
 // The header at the start of a packet. What is shorter, or of another version, is refused.

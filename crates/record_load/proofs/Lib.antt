@@ -1,5 +1,5 @@
 -- Laws that belong to no one function.
 pub mod Laid
-pub mod Decides
+pub mod Told
 pub mod Writes
 pub mod Determined

@@ -24,7 +24,7 @@ use Rattle.association.specs.Settings.{settingsValid}
 use Rattle.association.specs.Record.{freshOf, withStash}
 use Rattle.association.specs.New.{numberOf, madeOf, firstDropped, newMade, newOf}
 use Rattle.metered.specs.Profile as Profile
-use Rattle.metered.proofs.Plain.{plain-made, same-record, same-dropped, same-answer}
+use Rattle.metered.proofs.Plain.{plain-made, same-record, same-dropped}
 use Rattle.record_stash.specs.Rows.{sizedIn, Sized}
 use Rattle.record_stash.specs.Slots.{Refilled, refilled, refilledIn}
 use Rattle.record_stash.proofs.Zeros.{cleared}
@@ -70,26 +70,54 @@ module _ (s : Settings) where
 
 -- ---- the calls, by what was tested
 
-module _ {A : Type 0} (b : List ℕ) (cap number : ℕ) (said wrong : A) (d : Dropped) (a : Association) where
-  pub refused-in : (number ≡ 0 → ⊥) → gave said noneDropped (replicate (length b) 0) ≡ madeIn b cap number said wrong d a
-  refused-in h = sym (unless (cond (sizedIn b cap) (gave said d (packed a)) (gave wrong noneDropped b)) (gave said noneDropped (replicate (length b) 0)) (ne-eqb number 0 h))
+-- what a call gives, whatever its answers are: number 0 makes the association where the bytes fit it
+pub record Calls {A B : Type 0} (number : B → ℕ) (says : B → A) (wrong : A) (s : Settings) (list b : List ℕ) (is : B) (call : Call A) : Type 0 where
+  pub refuses : (number is ≡ 0 → ⊥) → gave (says is) noneDropped (replicate (length b) 0) ≡ call
+  pub misfits : number is ≡ 0 → sizedIn b (s .capacity) ≡ false → gave wrong noneDropped b ≡ call
+  pub makes : number is ≡ 0 → sizedIn b (s .capacity) ≡ true → gave (says is) (firstDropped s list) (packed (madeOf s list)) ≡ call
 
-  module _ (e : number ≡ 0) where
-    fits : madeIn b cap number said wrong d a ≡ cond (sizedIn b cap) (gave said d (packed a)) (gave wrong noneDropped b)
-    fits = when (cond (sizedIn b cap) (gave said d (packed a)) (gave wrong noneDropped b)) (gave said noneDropped (replicate (length b) 0)) (eq-eqb number 0 e)
+module _ {A B : Type 0} (number : B → ℕ) (says : B → A) (wrong : A) (s : Settings) (list b : List ℕ) (is : B) (d : Dropped) (a : Association) where
+  abbrev made : Call A
+  made = gave (says is) d (packed a)
 
-    pub wrong-in : sizedIn b cap ≡ false → gave wrong noneDropped b ≡ madeIn b cap number said wrong d a
-    wrong-in z = sym (fits ∙ unless (gave said d (packed a)) (gave wrong noneDropped b) z)
+  abbrev misfit : Call A
+  misfit = gave wrong noneDropped b
 
-    pub made-in : sizedIn b cap ≡ true → gave said d (packed a) ≡ madeIn b cap number said wrong d a
-    made-in z = sym (fits ∙ when (gave said d (packed a)) (gave wrong noneDropped b) z)
+  abbrev cleared-all : Call A
+  cleared-all = gave (says is) noneDropped (replicate (length b) 0)
 
--- number 0 is the association that is made
+  fits : number is ≡ 0 → madeIn b (s .capacity) (number is) (says is) wrong d a ≡ cond (sizedIn b (s .capacity)) made misfit
+  fits e = when (cond (sizedIn b (s .capacity)) made misfit) cleared-all (eq-eqb (number is) 0 e)
+
+  calls-by : (number is ≡ 0 → (d ≡ firstDropped s list) × (a ≡ madeOf s list)) → Calls number says wrong s list b is (madeIn b (s .capacity) (number is) (says is) wrong d a)
+  calls-by m =
+      record {
+        refuses = λ h. sym (unless (cond (sizedIn b (s .capacity)) made misfit) cleared-all (ne-eqb (number is) 0 h));
+        misfits = λ e z. sym (fits e ∙ unless made misfit z);
+        makes = λ e z. (λ i. gave (says is) (sym (m e .0) i) (packed (sym (m e .1) i))) ∙ sym (fits e ∙ when made misfit z);
+      }
+
+-- what the code gives, of the test's result and its number: one law for both calls
+module _ {A B : Type 0} {number : B → ℕ} {says : B → A} {wrong : A} {s : Settings} {list b : List ℕ} {is : B} {call : Call A} (k : Calls number says wrong s list b is call) (x : B) (ex : x ≡ is) (n : ℕ) (en : n ≡ number x) where
+  number-is : n ≡ number is
+  number-is = en ∙ ap number ex
+
+  pub told-refused : (n ≡ 0 → ⊥) → {d : Dropped} {c : List ℕ} → d ≡ noneDropped → c ≡ replicate (length b) 0 → gave (says x) d c ≡ call
+  told-refused h p q = (λ i. gave (says (ex i)) (p i) (q i)) ∙ k .refuses (λ e. h (number-is ∙ e))
+
+  module _ (e : n ≡ 0) where
+    pub told-wrong : sizedIn b (s .capacity) ≡ false → {d : Dropped} → d ≡ noneDropped → gave wrong d b ≡ call
+    told-wrong z p = (λ i. gave wrong (p i) b) ∙ k .misfits (sym number-is ∙ e) z
+
+    pub told-made : sizedIn b (s .capacity) ≡ true → {d : Dropped} {c : List ℕ} → refilled d c ≡ refilled (firstDropped s list) (packed (madeOf s list)) → gave (says x) d c ≡ call
+    told-made z g = (λ i. gave (says (ex i)) (g i .dropped) (g i .bytes)) ∙ k .makes (sym number-is ∙ e) z
+
 module _ (s : Settings) (list : List ℕ) where
+  -- number 0 is the association that is made
   abbrev IsMade : NewOut → Type 0
   IsMade o = numberOf (o .answer) ≡ 0 → o ≡ newMade s list
 
-  pub is-made : IsMade (newOf s list)
+  is-made : IsMade (newOf s list)
   unfolding newOf
   is-made =
       either IsMade (settingsValid s)
@@ -97,42 +125,16 @@ module _ (s : Settings) (list : List ℕ) where
       (λ l. either IsMade (upgrading (s .start .kind)) (λ u e. absurd (omega arith)) (λ u e. refl)))
       (λ v e. absurd (omega arith))
 
-  module _ (b : List ℕ) (d : Dropped) (c : List ℕ) (g : refilled d c ≡ refilled (firstDropped s list) (packed (madeOf s list))) where
-    abbrev told : {A : Type 0} → A → Refilled → Call A
-    told r x = gave r (x .dropped) (x .bytes)
+  made-parts : numberOf (newOf s list .answer) ≡ 0 → (newOf s list .dropped ≡ firstDropped s list) × (newOf s list .association ≡ madeOf s list)
+  made-parts e = (ap (λ (o : NewOut). o .dropped) (is-made e), ap (λ (o : NewOut). o .association) (is-made e))
 
-    pub new-made : numberOf (newOf s list .answer) ≡ 0 → sizedIn b (s .capacity) ≡ true → gave (N.Said (newOf s list .answer)) d c ≡ newCall s list b
-    unfolding newCall
-    new-made e z =
-        let o = newOf s list in
-        let r = N.Said (o .answer) in
-        ap (told r) g
-        ∙ ap (λ (x : NewOut). gave r (x .dropped) (packed (x .association))) (sym (is-made e))
-        ∙ made-in b (s .capacity) (numberOf (o .answer)) r N.WrongSize (o .dropped) (o .association) e z
+  pub new-calls : (b : List ℕ) → Calls numberOf N.Said N.WrongSize s list b (newOf s list .answer) (newCall s list b)
+  unfolding newCall
+  new-calls b = let o = newOf s list in calls-by numberOf N.Said N.WrongSize s list b (o .answer) (o .dropped) (o .association) made-parts
 
-    pub metered-made : Profile.numberOf (Profile.profileOf s list) ≡ 0 → sizedIn b (s .capacity) ≡ true → gave (M.Said (Profile.profileOf s list)) d c ≡ meteredCall s list b
-    unfolding meteredCall Profile.meteredOf
-    metered-made e z =
-        let o = Profile.meteredOf s list in
-        let r = M.Said (o .answer) in
-        ap (told r) g
-        ∙ ap (λ (x : NewOut). gave r (x .dropped) (packed (x .association))) (sym (is-made (plain-made s list e)))
-        ∙ (λ i. gave r (sym (same-dropped s list e) i) (packed (sym (same-record s list e) i)))
-        ∙ made-in b (s .capacity) (Profile.numberOf (o .answer)) r M.WrongSize (o .dropped) (o .association) e z
-
-  module _ (b : List ℕ) where
-    pub new-refused : (numberOf (newOf s list .answer) ≡ 0 → ⊥) → gave (N.Said (newOf s list .answer)) noneDropped (replicate (length b) 0) ≡ newCall s list b
-    unfolding newCall
-    new-refused h = let o = newOf s list in refused-in b (s .capacity) (numberOf (o .answer)) (N.Said (o .answer)) N.WrongSize (o .dropped) (o .association) h
-
-    pub new-wrong : numberOf (newOf s list .answer) ≡ 0 → sizedIn b (s .capacity) ≡ false → gave N.WrongSize noneDropped b ≡ newCall s list b
-    unfolding newCall
-    new-wrong e z = let o = newOf s list in wrong-in b (s .capacity) (numberOf (o .answer)) (N.Said (o .answer)) N.WrongSize (o .dropped) (o .association) e z
-
-    pub metered-refused : (Profile.numberOf (Profile.profileOf s list) ≡ 0 → ⊥) → gave (M.Said (Profile.profileOf s list)) noneDropped (replicate (length b) 0) ≡ meteredCall s list b
-    unfolding meteredCall Profile.meteredOf
-    metered-refused h = let o = Profile.meteredOf s list in refused-in b (s .capacity) (Profile.numberOf (o .answer)) (M.Said (o .answer)) M.WrongSize (o .dropped) (o .association) h
-
-    pub metered-wrong : Profile.numberOf (Profile.profileOf s list) ≡ 0 → sizedIn b (s .capacity) ≡ false → gave M.WrongSize noneDropped b ≡ meteredCall s list b
-    unfolding meteredCall Profile.meteredOf
-    metered-wrong e z = let o = Profile.meteredOf s list in wrong-in b (s .capacity) (Profile.numberOf (o .answer)) (M.Said (o .answer)) M.WrongSize (o .dropped) (o .association) e z
+  pub metered-calls : (b : List ℕ) → Calls Profile.numberOf M.Said M.WrongSize s list b (Profile.profileOf s list) (meteredCall s list b)
+  unfolding meteredCall Profile.meteredOf
+  metered-calls b =
+      let o = Profile.meteredOf s list in
+      calls-by Profile.numberOf M.Said M.WrongSize s list b (o .answer) (o .dropped) (o .association)
+      (λ e. let p = made-parts (plain-made s list e) in (same-dropped s list e ∙ p .0, same-record s list e ∙ p .1))

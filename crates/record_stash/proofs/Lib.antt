@@ -6,4 +6,5 @@ pub mod Stores
 pub mod With
 pub mod Along
 pub mod Zeros
+pub mod Blank
 pub mod Determined

@@ -33,11 +33,11 @@ padded-next : (b : List ℕ) (at n : ℕ) → 0 < n → allPadded (slotsIn b at 
 padded-next b at zero h = absurd (omega arith)
 padded-next b at (suc n) h = let e : n ≡ suc n - 1 = omega arith in ap (λ (k : ℕ). padded (slotIn b at) && allPadded (slotsIn b (at + 726) k)) e
 
-and-assoc : (s t u : Bool) → (s && t) && u ≡ s && (t && u)
+pub and-assoc : (s t u : Bool) → (s && t) && u ≡ s && (t && u)
 and-assoc true t u = refl
 and-assoc false t u = refl
 
-and-true : (t : Bool) → t && true ≡ t
+pub and-true : (t : Bool) → t && true ≡ t
 and-true true = refl
 and-true false = refl
 

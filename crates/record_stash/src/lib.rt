@@ -9,9 +9,9 @@ ghost use mathlib.Core.Path.{_≡_};
 ghost use mathlib.Core.Bool.{true, _&&_};
 ghost use Prim.Native.Nat.{_+_, _*_, _≤_, _<_, min};
 ghost use lib.ListN.{length, getD, replicate};
-ghost use Rattle.words.specs.Bytes.{be, part};
+ghost use Rattle.words.specs.Bytes.{be, part, zeros};
 ghost use Rattle.cookiestash.specs.Stash.{rangeOf, putOf};
-ghost use Rattle.cookiestash.specs.Whole.{padded, allPadded, hasOf};
+ghost use Rattle.cookiestash.specs.Whole.{padded, allPadded, hasOf, seenFrom};
 ghost use Rattle.cookiestash.specs.Falling.{oldestOf, plusOf, Fit};
 ghost use Rattle.cookiestash.specs.Handed.{handedOf};
 ghost use Rattle.record_stash.specs.Rows.{slotIn, slotsIn, stashIn, lensIn, sizedIn, Sized, rowOf};
@@ -22,6 +22,9 @@ ghost use Rattle.record_stash.specs.Slots.{Becomes, PlacedIn, TakenIn, L
 pub const HEAD: usize = 92;
 
 pub const ROW: usize = 726;
+
+// How many bytes two rows have.
+const PAIR: usize = 1452;
 
 // Whether the bytes are as many as a record of the capacity has.
 pub fn sized(b: &[u8], capacity: u8) -> bool
@@ -38,6 +41,16 @@ pub fn sized(b: &[u8], capacity: u8) -> bool
 struct RowsRead {
     padded: bool,
     lens: [u16; 8],
+}
+
+// The length of the slot at an offset, read from a part whose own length the compiler knows.
+fn length_at(b: &[u8], at: usize) -> u16
+    requires { ⌜ at + 726 ≤ length (now b) ⌝ }
+    ensures { λ r. ⌜ r ≡ be (part (now (b .entry)) (at + 724) 2) ⌝ }
+{
+    let from = at + 724;
+    let end = at + ROW;
+    words::be16_at(&b[from..end], 0)
 }
 
 // Whether the slot at an offset, whose length this is, has no bytes past its stored ones. An empty one is tested whole, with bounds that the compiler knows.
@@ -68,13 +81,51 @@ fn read_rows(b: &[u8], cap: usize) -> RowsRead
     let mut at = HEAD;
     let mut i: usize = 0;
     while i < cap {
-        let len = words::be16_at(b, at + 724);
+        let len = length_at(b, at);
         lens[i] = len;
         padded = both(padded, padded_at(b, at, len));
         at = at + ROW;
         i += 1;
     }
     RowsRead { padded, lens }
+}
+
+// Whether the bytes are all zero; those of one row with bounds that the compiler knows.
+fn zero_row(b: &[u8]) -> bool
+    ensures { λ r. ⌜ r ≡ zeros (now (b .entry)) ⌝ }
+{
+    if b.len() == ROW {
+        return words::zeros_from(&b[..ROW], 0);
+    }
+    words::zeros_from(b, 0)
+}
+
+// Whether the bytes are all zero, two rows at a time, with bounds that the compiler knows: of two rows it leaves 12 bytes to be taken one by one, of one row 22.
+fn zero_rows(b: &[u8]) -> bool
+    ensures { λ r. ⌜ r ≡ zeros (now (b .entry)) ⌝ }
+{
+    let mut all = true;
+    let mut at: usize = 0;
+    while PAIR <= b.len() - at {
+        let end = at + PAIR;
+        all = both(all, words::zeros_from(&b[at..end], 0));
+        at = end;
+    }
+    both(all, zero_row(&b[at..]))
+}
+
+// What is seen of a stash that holds no cookie and whose rows are zero: it is whole if its place is one of its capacity.
+fn seen_empty(capacity: u8, read: usize) -> Seen
+    ensures { λ r. ⌜ r ≡ seenFrom capacity read 0 true (replicate 8 0) ⌝ }
+{
+    Seen {
+        whole: cookiestash::in_range(capacity as usize, read, 0),
+        found: false,
+        len: 0,
+        gap: capacity,
+        read,
+        held: 0,
+    }
 }
 
 // What the rules read of the stash. Where no cookie is held all rows are tested at once: zeros are slots that hold nothing.
@@ -94,8 +145,8 @@ pub fn see(b: &[u8], capacity: u8) -> Seen
     let read = b[27] as usize;
     let held = b[28] as usize;
     if held == 0 {
-        if words::zeros_from(&b[HEAD..], 0) {
-            return cookiestash::seen_from(capacity, read, held, true, [0u16; 8]);
+        if zero_rows(&b[HEAD..]) {
+            return seen_empty(capacity, read);
         }
     }
     let rows = read_rows(b, capacity as usize);

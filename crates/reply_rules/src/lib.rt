@@ -18,7 +18,8 @@ ghost use Rattle.incoming.specs.Incoming.{decodedOf};
 ghost use Rattle.reply_rules.specs.Answer.{numberOf};
 ghost use Rattle.reply_clauses.specs.After.{arrival};
 ghost use Rattle.cookielist.specs.List.{listBroken};
-ghost use Rattle.reply_rules.specs.Judge.{matchedOf, judgeOf, verdictOf, readWith};
+ghost use Rattle.reply_rules.specs.Judge.{judgeOf, verdictOf, readWith};
+ghost use Rattle.reply_rules.specs.Told.{Matched, afterOf, storesOf, toldOf};
 
 pub enum ReplyAnswer {
     Measured(Measurement),
@@ -63,84 +64,48 @@ fn list_broken(nts: bool, list: &[u8]) -> bool
     }
 }
 
-// A matching reply, once the upgrade step is made: 5 to 11 in order, else 0.
+// The answer to a matching reply: 5 to 11 in order, else 0.
 fn matched(
     settings: Settings,
-    s: State,
     reply: Reply,
     t1: NtpTimestamp,
     t4: NtpTimestamp,
     time: u64,
-) -> Verdict
-    ensures { λ r. ⌜ r ≡ matchedOf settings s reply t1 t4 time ⌝ }
+) -> ReplyAnswer
+    ensures { λ r. ⌜ Matched settings reply t1 t4 time r ⌝ }
 {
     let kisses = reply.kisses;
     // The timestamps of a kiss need not be right, so nothing is measured of it.
     if kisses.rate {
-        let slower = reply_clauses::after_rate_kiss(settings, s);
-        return Verdict {
-            answer: ReplyAnswer::Rate,
-            state: slower,
-            stores: false,
-        };
+        return ReplyAnswer::Rate;
     }
     if reply_clauses::denies(kisses) {
         // With NTS a denial that matches is signed. Without, it is easily forged: it is noted, and counts once nothing else is heard.
         if settings.nts {
-            return Verdict {
-                answer: ReplyAnswer::DeniedNts,
-                state: s,
-                stores: false,
-            };
+            return ReplyAnswer::DeniedNts;
         }
-        let noted = reply_clauses::after_denial(s);
-        return Verdict {
-            answer: ReplyAnswer::Denied,
-            state: noted,
-            stores: false,
-        };
+        return ReplyAnswer::Denied;
     }
     // It comes without a signature and is easily forged, so a true reply is still awaited.
     if kisses.ntsn {
-        return Verdict {
-            answer: ReplyAnswer::Ntsn,
-            state: s,
-            stores: false,
-        };
+        return ReplyAnswer::Ntsn;
     }
     // A kiss that is not understood asks for nothing.
     if kisses.any {
-        return Verdict {
-            answer: ReplyAnswer::OtherKiss,
-            state: s,
-            stores: false,
-        };
+        return ReplyAnswer::OtherKiss;
     }
     if MAX_STRATUM < reply.stratum {
-        return Verdict {
-            answer: ReplyAnswer::BadStratum,
-            state: s,
-            stores: false,
-        };
+        return ReplyAnswer::BadStratum;
     }
     // Only a server's answer is measured: no other mode is spoken here.
     if !reply.server {
-        return Verdict {
-            answer: ReplyAnswer::NotServer,
-            state: s,
-            stores: false,
-        };
+        return ReplyAnswer::NotServer;
     }
     let measurement = reply_clauses::measured(reply, t1, t4, time);
-    let next = reply_clauses::after_measured(s, reply);
-    Verdict {
-        answer: ReplyAnswer::Measured(measurement),
-        state: next,
-        stores: settings.nts,
-    }
+    ReplyAnswer::Measured(measurement)
 }
 
-// A reply that was read: 33, 2, 12, 13, 14, 4, then the upgrade step and what follows it.
+// The answer to a reply that was read: 33, 2, 12, 13, 14, 4, then what follows the upgrade step.
 fn judge(
     settings: Settings,
     s: State,
@@ -149,57 +114,77 @@ fn judge(
     t1: NtpTimestamp,
     t4: NtpTimestamp,
     time: u64,
-) -> Verdict
-    ensures { λ r. ⌜ r ≡ judgeOf settings s reply (arrival (now (list .entry)) t1 t4 time) ⌝ }
+) -> ReplyAnswer
+    ensures { λ r. ⌜ r ≡ judgeOf settings s reply (arrival (now (list .entry)) t1 t4 time) .answer ⌝ }
 {
     if list_broken(settings.nts, list) {
-        return Verdict {
-            answer: ReplyAnswer::BrokenList,
-            state: s,
-            stores: false,
-        };
+        return ReplyAnswer::BrokenList;
     }
     let version = s.version;
     if !version.expects(reply.version) {
-        return Verdict {
-            answer: ReplyAnswer::UnexpectedVersion,
-            state: s,
-            stores: false,
-        };
+        return ReplyAnswer::UnexpectedVersion;
     }
     let request = s.request;
     if reply_clauses::never_sent(request) {
-        return Verdict {
-            answer: ReplyAnswer::NeverSent,
-            state: s,
-            stores: false,
-        };
+        return ReplyAnswer::NeverSent;
     }
     if reply_clauses::already_measured(request) {
-        return Verdict {
-            answer: ReplyAnswer::AlreadyMeasured,
-            state: s,
-            stores: false,
-        };
+        return ReplyAnswer::AlreadyMeasured;
     }
     // An expired request stays pending: a clock that goes back may make it live again.
     if reply_clauses::expired(request, time) {
-        return Verdict {
-            answer: ReplyAnswer::Expired,
-            state: s,
-            stores: false,
-        };
+        return ReplyAnswer::Expired;
     }
     // This comes before every kiss. A kiss that answers nothing is not believed: else anybody could stop an association by sending it one.
     if !reply_clauses::answers(settings.nts, request.id, reply) {
-        return Verdict {
-            answer: ReplyAnswer::NoMatch,
-            state: s,
-            stores: false,
-        };
+        return ReplyAnswer::NoMatch;
+    }
+    matched(settings, reply, t1, t4, time)
+}
+
+// The state that a reply leaves follows from the number of its answer: from 5 to 11 and at 0 the reply matched, and the upgrade step is made.
+fn after(settings: Settings, s: State, reply: Reply, number: u8) -> State
+    ensures { λ r. ⌜ r ≡ afterOf settings s reply number ⌝ }
+{
+    if number == 0 {
+        let next = reply_clauses::stepped(s);
+        return reply_clauses::after_measured(next, reply);
+    }
+    if number < 5 {
+        return s;
+    }
+    if 11 < number {
+        return s;
     }
     let next = reply_clauses::stepped(s);
-    matched(settings, next, reply, t1, t4, time)
+    if number == 5 {
+        return reply_clauses::after_rate_kiss(settings, next);
+    }
+    if number == 6 {
+        return reply_clauses::after_denial(next);
+    }
+    next
+}
+
+// With NTS the cookies of a measured reply are stored.
+fn stores(nts: bool, number: u8) -> bool
+    ensures { λ r. ⌜ r ≡ storesOf nts number ⌝ }
+{
+    if number == 0 { nts } else { false }
+}
+
+// The verdict that an answer comes to. Only here are answer and state put together: by value through each step they would be copied as often.
+fn told(settings: Settings, s: State, reply: Reply, answer: ReplyAnswer) -> Verdict
+    ensures { λ r. ⌜ r ≡ toldOf settings s reply answer ⌝ }
+{
+    let number = answer.number();
+    let state = after(settings, s, reply, number);
+    let stores = stores(settings.nts, number);
+    Verdict {
+        answer,
+        state,
+        stores,
+    }
 }
 
 // The unique identifier that a reply is to have; without NTS none is looked for.
@@ -245,7 +230,8 @@ pub fn judge_packet(
             stores: false,
         };
     };
-    judge(settings, s, reply, list, t1, t4, time)
+    let answer = judge(settings, s, reply, list, t1, t4, time);
+    told(settings, s, reply, answer)
 }
 
 // The verdict on the decoded form (V5 only): 32, and then the judge.
@@ -269,7 +255,8 @@ pub fn judge_decoded(
         };
     }
     let reply = d.value();
-    judge(settings, s, reply, list, t1, t4, time)
+    let answer = judge(settings, s, reply, list, t1, t4, time);
+    told(settings, s, reply, answer)
 }
 
 impl ReplyAnswer {

@@ -1,4 +1,4 @@
--- How long a request can be that is written. One that a timer asks for is shorter: crate `longest_request`.
+-- How long a request can be that is written. One that a timer asks for is shorter: crate `laws`.
 -- Assumes nothing.
 use mathlib.Core.Path.{_≡_, refl}
 use mathlib.Core.Bool.{Bool, true, false}

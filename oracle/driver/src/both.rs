@@ -1,5 +1,6 @@
 //! One step on the crate and on the rules, and the list of the reasons for which they may differ.
 use crate::exec::{Drawn, Exec};
+use crate::handover;
 use crate::rules::{self, Rules};
 use crate::state::*;
 use ntp_proto::tls_utils::identifier_of;
@@ -28,6 +29,10 @@ pub struct Step {
     pub failed: bool,
     /// A V5 packet that the crate could not decode: it has no decoded form, so no log can hold it.
     pub left_out: bool,
+    /// What the crate sent, up to its 0404 field.
+    pub packet: Option<Vec<u8>>,
+    /// Settings and record of a file that was loaded.
+    pub loaded: Option<Rules>,
 }
 
 pub struct Both {
@@ -40,7 +45,37 @@ impl Both {
         Both { exec: Exec::new(), rules: None }
     }
 
+    /// What the crate knows nothing of: the rules alone answer, and the crate goes on with the record that they leave.
+    fn of_rules(&mut self, op: &Op) -> Step {
+        let rules = self.rules.as_mut().unwrap();
+        let version = rules.state.version;
+        let mut loaded = None;
+        let answer = match op {
+            Op::Load { file } => match handover::load(file) {
+                Err(number) => Answer { number, ..Answer::default() },
+                Ok((new, retired)) => {
+                    self.exec.load(&new);
+                    *rules = new.clone();
+                    loaded = Some(new);
+                    Answer { retired: Some(retired), ..Answer::default() }
+                }
+            },
+            Op::Save { room } => {
+                let answer = rules.save(room.map_or(handover::LONGEST, usize::from));
+                self.exec.follow(&rules.state);
+                answer
+            }
+            _ => Answer::default(),
+        };
+        let (of_crate, of_rules) = ((answer.clone(), self.exec.state()), (answer, rules.state.clone()));
+        let failed = of_crate != of_rules;
+        Step { of_crate, of_rules, drawn: None, version, reason: None, failed, left_out: false, packet: None, loaded }
+    }
+
     pub fn step(&mut self, op: &Op) -> Step {
+        if matches!(op, Op::Save { .. } | Op::Load { .. } | Op::Break(_)) {
+            return self.of_rules(op);
+        }
         let before = self.rules.as_ref().map(|r| r.state.clone());
         let (answer, drawn) = self.exec.run(op);
         let of_crate = (answer, self.exec.state());
@@ -69,13 +104,16 @@ impl Both {
                 rules.accept(*stratum, &local, *bloom)
             }
             Op::Poke(pairs) => rules.poke(pairs),
+            Op::Save { .. } | Op::Load { .. } | Op::Break(_) => panic!("answered above"),
         };
         let of_rules = (answer, rules.state.clone());
         let version = before.as_ref().filter(|_| !matches!(op, Op::New { .. })).map_or(of_rules.1.version, |b| b.version);
         let collected = drawn
             .as_ref()
             .is_none_or(|d| !d.decoded || d.v5.is_some() || rules::collect(&d.plain).is_some_and(|list| list == d.cookies));
-        let mut step = Step { of_crate, of_rules, drawn, version, reason: None, failed: !collected, left_out };
+        let packet = self.exec.packet.take();
+        let mut step =
+            Step { of_crate, of_rules, drawn, version, reason: None, failed: !collected, left_out, packet, loaded: None };
         if step.of_crate != step.of_rules {
             step.reason = before.as_ref().and_then(|before| match op {
                 Op::Reply { packet, .. } => listed_reply(packet, &step, before, rules.max),
@@ -319,7 +357,17 @@ mod tests {
             let side = |number| (Answer { number, ..Answer::default() }, after.clone());
             let (of_crate, of_rules) = (side(numbers.0), side(numbers.1));
             let version = before.version;
-            let step = Step { of_crate, of_rules, drawn: None, version, reason: None, failed: false, left_out: false };
+            let step = Step {
+                of_crate,
+                of_rules,
+                drawn: None,
+                version,
+                reason: None,
+                failed: false,
+                left_out: false,
+                packet: None,
+                loaded: None,
+            };
             listed_accept(stratum, local, bloom, SOURCE, &step, &before)
         };
         // A new association: stratum 16, XNON, not reached.

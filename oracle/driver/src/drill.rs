@@ -59,6 +59,10 @@ pub fn commands(op: &Op, step: &Step) -> Vec<String> {
                 }
             )
         }
+        Op::Save { room } => format!("save{}", room.map_or(String::new(), |r| format!(" room={r}"))),
+        Op::Load { file } => format!("load file={}", bytes(file)),
+        // Which commands these are hangs on the record.
+        Op::Break(_) => return vec![],
         Op::Poke(pairs) => return pairs.iter().map(|(k, v)| format!("poke key={k} value={v}")).collect(),
     }]
 }
@@ -120,6 +124,12 @@ pub fn answer(word: &str, a: &Answer) -> String {
     }
     if let Some((count, sum)) = a.dropped {
         write!(s, " dropped={count} lost={sum}").unwrap();
+    }
+    if let Some(file) = &a.file {
+        write!(s, " len={} file={}", file.len(), bytes(file)).unwrap();
+    }
+    if let Some(retired) = a.retired {
+        write!(s, " retired={}", if retired { "yes" } else { "no" }).unwrap();
     }
     s
 }

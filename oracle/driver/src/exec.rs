@@ -1,5 +1,6 @@
 //! Runs operations on the published NtpSource and brings what it did to the numbers and the record of RULES.
-use crate::rules;
+use crate::requests;
+use crate::rules::{self, Rules};
 use crate::state::*;
 use ntp_proto::tls_utils::{FakeCipher, NtpHeader, Record, set_now, set_window};
 use ntp_proto::v5::{BloomFilter, ServerId};
@@ -48,6 +49,8 @@ pub struct Drawn {
     pub plain: Vec<u8>,
     pub cookies: Vec<Vec<u8>>,
     pub v5: Option<Decoded>,
+    /// Type and body of each field of a V4 packet that the crate could decode, but for the 0404 fields.
+    pub fields: Option<Vec<(u16, Vec<u8>)>>,
 }
 
 fn leap_code(l: NtpLeapIndicator) -> u8 {
@@ -120,6 +123,8 @@ pub struct Exec {
     answered: bool,
     /// A reply that is ignored (12, 13, 14) and one that does not match (4) leave the same text; the former stands first in the file.
     line_of_ignored: u32,
+    /// What the last timer sent, up to its 0404 field; none where it sent nothing.
+    pub packet: Option<Vec<u8>>,
 }
 
 impl Exec {
@@ -129,7 +134,7 @@ impl Exec {
             .position(|l| l.contains("Received old/unexpected packet from source"))
             .unwrap() as u32
             + 1;
-        Exec { source: None, nts: false, startup: 3, capacity: 8, answered: false, line_of_ignored }
+        Exec { source: None, nts: false, startup: 3, capacity: 8, answered: false, line_of_ignored, packet: None }
     }
 
     fn source(&mut self) -> &mut NtpSource<Controller> {
@@ -166,9 +171,21 @@ impl Exec {
         self.source().set_record(&r);
     }
 
+    /// Makes the crate's association that of a loaded file: a new one with the file's settings, and then its record. The crate
+    /// has no hand-over, but its record has all that a file has.
+    pub fn load(&mut self, r: &Rules) {
+        (self.nts, self.capacity, self.startup) = (r.nts, r.state.capacity, r.startup as usize);
+        set_window(r.window);
+        let source = SocketAddr::new(std::net::Ipv4Addr::from(r.source).into(), 123);
+        let (made, _) = NtpSource::make(source, r.min, r.max, r.start, Controller::default(), r.nts.then_some(&[]));
+        self.source = Some(made);
+        self.follow(&r.state);
+    }
+
     pub fn run(&mut self, op: &Op) -> (Answer, Option<Drawn>) {
         tracing::oracle::take();
         rand::oracle::clear();
+        self.packet = None;
         match op {
             Op::New { nts, min, max, startup, window, start, source, cookies, capacity } => {
                 self.nts = *nts;
@@ -190,6 +207,7 @@ impl Exec {
                 (Answer { dropped: Some(fallen(&[], given, &self.held())), ..Answer::default() }, None)
             }
             Op::Timer { now, desired, id, uid, .. } => (self.timer(*now, *desired, *id, uid), None),
+            Op::Save { .. } | Op::Load { .. } | Op::Break(_) => panic!("the crate has no such thing"),
             Op::Reply { now, t1, t4, packet, fail } => {
                 set_now(*now);
                 FakeCipher::force_fail(*fail);
@@ -277,6 +295,8 @@ impl Exec {
                 assert_eq!(rand::oracle::left(), (0, 0));
                 let poll = source.record().last_poll;
                 self.answered = false;
+                let end = if nts { requests::authenticator(p) } else { p.len() };
+                self.packet = Some(p[..end].to_vec());
                 Answer { number: 20, sent: Some(sent(p, poll, id, nts.then_some(uid), oldest)), ..Answer::default() }
             }
             _ => panic!("actions that RULES does not name"),
@@ -347,6 +367,7 @@ impl Exec {
             Ok((p, _)) => {
                 d.decoded = true;
                 d.cookies = p.new_cookies().collect();
+                d.fields = (d.version == 4).then(|| p.fields());
                 if let NtpHeader::V5(h) = p.header() {
                     let uid = record.pending.and_then(|(_, uid, _)| uid).unwrap_or([0; 32]);
                     d.v5 = Some(Decoded {

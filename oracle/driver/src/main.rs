@@ -39,6 +39,9 @@ fn check(seed: u64, count: u64, steps: u64, manner: Manner) -> ExitCode {
             Op::Reply { .. } => "reply",
             Op::Accept { .. } => "accept",
             Op::Poke(_) => "poke",
+            Op::Save { .. } => "save",
+            Op::Load { .. } => "load",
+            Op::Break(_) => "break",
         };
         *numbers.entry((word, step.of_rules.0.number)).or_default() += 1;
         *versions.entry(drill::version(step.version)).or_default() += 1;
@@ -77,7 +80,7 @@ fn sample(log: &mut Log) {
     limits::write(log);
     for (i, nts) in [false, true].into_iter().enumerate() {
         for (j, (wild, set)) in [(false, false), (true, false), (true, true)].into_iter().enumerate() {
-            let manner = Manner { wild, set, nts: Some(nts), small: true, metered: false, capacity: false };
+            let manner = Manner { wild, set, nts: Some(nts), small: true, ..Manner::default() };
             log.comment(&format!("random steps: nts {nts}, wild {wild}, set {set}"));
             write_cases(log, (3 * i + j) as u64, 9, 40, manner);
         }
@@ -118,7 +121,7 @@ fn main() -> ExitCode {
     let has = |name: &str| args.iter().any(|a| a == name);
     let nts = if has("nts") { Some(true) } else { has("plain").then_some(false) };
     let (metered, capacity) = (has("metered"), has("capacity"));
-    let manner = Manner { wild: has("wild"), set: has("set"), nts, small: false, metered, capacity };
+    let manner = Manner { wild: has("wild"), set: has("set"), nts, metered, capacity, ..Manner::default() };
     let rest: Vec<&str> = args.iter().map(String::as_str).filter(|a| !MANNERS.contains(a)).collect();
     let numbers: Vec<u64> = rest.iter().skip(1).map_while(|a| a.parse().ok()).collect();
     match (rest.as_slice(), numbers.as_slice()) {

@@ -1,27 +1,86 @@
 //! Random operations from a seed, within the drill's limits.
+use crate::both::Step;
 use crate::state::*;
+use crate::whole;
 use ntp_proto::tls_utils::FakeCipher;
 use std::net::{IpAddr, Ipv4Addr, Ipv6Addr};
 
 /// The drill holds packets, decrypted bytes and cookie lists of at most this many bytes.
 pub const HELD: usize = 4096;
 
-/// SplitMix64.
-pub struct Rng(u64);
+/// Choices: random ones of SplitMix64, or those that bytes make.
+pub struct Rng {
+    state: u64,
+    fed: Option<Fed>,
+}
+
+struct Fed {
+    bytes: Vec<u8>,
+    at: usize,
+}
+
+/// The least byte that says that what follows is said as it is.
+const LITERAL: u64 = 224;
 
 impl Rng {
     pub fn of(seed: u64) -> Self {
-        Rng(seed.wrapping_mul(0xd1342543de82ef95) ^ 0x6f7261636c65)
+        Rng { state: seed.wrapping_mul(0xd1342543de82ef95) ^ 0x6f7261636c65, fed: None }
     }
-    pub fn next(&mut self) -> u64 {
-        self.0 = self.0.wrapping_add(0x9e3779b97f4a7c15);
-        let mut z = self.0;
+    /// Choices that bytes make, for a search that changes the bytes; behind their end every choice is the first.
+    pub fn fed(bytes: &[u8]) -> Self {
+        Rng { state: 0, fed: Some(Fed { bytes: bytes.to_vec(), at: 0 }) }
+    }
+    /// The bytes are used up.
+    pub fn ended(&self) -> bool {
+        self.fed.as_ref().is_some_and(|f| f.at >= f.bytes.len())
+    }
+    /// Whether what follows is said as it is, and not chosen: the logs of the drill are told so (`literal`).
+    pub fn literal(&mut self) -> bool {
+        self.fed.is_some() && self.byte() >= LITERAL
+    }
+    /// So many bytes as they are.
+    pub fn raw<const N: usize>(&mut self) -> [u8; N] {
+        std::array::from_fn(|_| self.byte() as u8)
+    }
+    /// Bytes as they are, with their number before them; no more than there are.
+    pub fn blob(&mut self, most: usize) -> Vec<u8> {
+        let n = u16::from_be_bytes(self.raw()) as usize % (most + 1);
+        let left = self.fed.as_ref().map_or(0, |f| f.bytes.len().saturating_sub(f.at));
+        (0..n.min(left)).map(|_| self.byte() as u8).collect()
+    }
+    fn byte(&mut self) -> u64 {
+        self.fed.as_mut().map_or(0, |f| {
+            f.at += 1;
+            f.bytes.get(f.at - 1).copied().unwrap_or(0) as u64
+        })
+    }
+    fn mixed(&mut self) -> u64 {
+        self.state = self.state.wrapping_add(0x9e3779b97f4a7c15);
+        let mut z = self.state;
         z = (z ^ (z >> 30)).wrapping_mul(0xbf58476d1ce4e5b9);
         z = (z ^ (z >> 27)).wrapping_mul(0x94d049bb133111eb);
         z ^ (z >> 31)
     }
+    /// 64 bits. Fed, one byte stands for a number that it is mixed into; the largest is followed by all eight.
+    pub fn next(&mut self) -> u64 {
+        if self.fed.is_none() {
+            return self.mixed();
+        }
+        match self.byte() {
+            255 => (0..8).fold(0, |n, _| n << 8 | self.byte()),
+            seed => {
+                self.state = seed;
+                self.mixed()
+            }
+        }
+    }
     pub fn below(&mut self, n: u64) -> u64 {
-        self.next() % n
+        match self.fed {
+            None => self.mixed() % n,
+            Some(_) if n <= 1 << 8 => self.byte() % n,
+            Some(_) if n <= 1 << 16 => (self.byte() << 8 | self.byte()) % n,
+            Some(_) => self.next() % n,
+        }
     }
     pub fn one_in(&mut self, n: u64) -> bool {
         self.below(n) == 0
@@ -31,8 +90,12 @@ impl Rng {
     }
     pub fn bytes(&mut self, n: usize) -> Vec<u8> {
         let mut v = Vec::with_capacity(n + 8);
+        if self.fed.is_some() {
+            // One byte makes them all, so that an input has room for more than bytes that nobody looks at.
+            self.state = self.byte();
+        }
         while v.len() < n {
-            v.extend(self.next().to_be_bytes());
+            v.extend(self.mixed().to_be_bytes());
         }
         v.truncate(n);
         v
@@ -57,6 +120,12 @@ pub struct Manner {
     pub metered: bool,
     /// Stashes of a capacity from 1 to 8 (RULES, No. 12), instead of the crate's 8.
     pub capacity: bool,
+    /// Hand-over files are written and loaded between the steps (RULES, No. 6), right ones and damaged ones.
+    pub handover: bool,
+    /// Copies of the record are broken by hand between the steps.
+    pub broken: bool,
+    /// Fields of every type that the crate knows, among those that are decrypted too.
+    pub typed: bool,
 }
 
 pub struct Random {
@@ -76,6 +145,9 @@ pub struct Random {
     previous: Option<Vec<u8>>,
     /// The remote minimum was just set to 127, where RATE has an edge.
     rate_next: bool,
+    /// The hand-over file last written, and whether it waits to be loaded.
+    file: Vec<u8>,
+    waits: bool,
 }
 
 /// The reference identifier that a new association and a V5 reply leave in the record.
@@ -85,7 +157,10 @@ const SHORT_LENGTHS: [usize; 8] = [0, 1, 4, 16, 24, 90, 91, 100];
 
 impl Random {
     pub fn new(seed: u64, manner: Manner) -> Self {
-        let mut r = Rng::of(seed);
+        Self::of(Rng::of(seed), manner)
+    }
+
+    pub fn of(mut r: Rng, manner: Manner) -> Self {
         let base = r.next();
         Random {
             r,
@@ -103,6 +178,8 @@ impl Random {
             denial: false,
             previous: None,
             rate_next: false,
+            file: vec![],
+            waits: false,
         }
     }
 
@@ -143,6 +220,9 @@ impl Random {
 
     /// The operation that begins a case.
     pub fn first(&mut self) -> Op {
+        if self.r.literal() {
+            return self.literal_first();
+        }
         let min = self.r.below(18) as i8;
         let max = min + self.r.below(18 - min as u64) as i8;
         let (min, max) = if self.r.one_in(2) { (4, 10) } else { (min, max) };
@@ -164,8 +244,15 @@ impl Random {
     }
 
     /// Keeps up with what happened.
-    pub fn saw(&mut self, number: u8, s: &State) {
-        if number == 20
+    pub fn saw(&mut self, step: &Step) {
+        let (answer, s) = &step.of_rules;
+        if let Some(file) = &answer.file {
+            (self.file, self.waits) = (file.clone(), true);
+        }
+        if let Some(loaded) = &step.loaded {
+            (self.nts, self.source, self.waits) = (loaded.nts, IpAddr::V4(Ipv4Addr::from(loaded.source)), false);
+        }
+        if answer.number == 20
             && let Some((id, uid, _)) = s.pending
         {
             self.sent.push((id, uid));
@@ -179,7 +266,16 @@ impl Random {
     }
 
     pub fn next(&mut self) -> Op {
+        if self.r.literal() {
+            return self.literal_next();
+        }
         let timers = if self.pending.is_none() { 12 } else { 5 };
+        if self.manner.handover && self.r.one_in(if self.waits { 2 } else { 12 }) {
+            return self.handover();
+        }
+        if self.manner.broken && self.r.one_in(2) {
+            return self.broken();
+        }
         match self.r.below(20) {
             _ if self.rate_next => self.reply(),
             // Only a hand-over file brings an upgraded association with polls answered; its reach is set here as that would.
@@ -244,6 +340,98 @@ impl Random {
         }
         self.rate_next = pairs.contains(&("remote", 127));
         Op::Poke(pairs)
+    }
+
+    /// A file is written, or the last one is loaded: as it is, as an older box wrote it, or damaged.
+    fn handover(&mut self) -> Op {
+        if self.file.is_empty() || !self.waits && self.r.one_in(2) {
+            let room = if self.r.one_in(6) { Some(self.r.pick(&[0, 63, 64, 100, 1000, 5871])) } else { None };
+            return Op::Save { room };
+        }
+        let mut file = self.file.clone();
+        let length = file.len() as u64;
+        match self.r.below(14) {
+            // An older box has no capacity in its settings.
+            0 => {
+                file[3] = 26;
+                file.remove(30);
+            }
+            1 => file.truncate(self.r.below(length) as usize),
+            2 => file.extend(vec![0; 1 + self.r.below(3) as usize]),
+            // A version of another kind, as start version or as version, behind whose mark it stands.
+            3 => {
+                let at = file.windows(4).position(|w| w == b"VE\0\x02").map_or(23, |at| at + 4);
+                let at = if self.r.one_in(2) { 23 } else { at };
+                file[at] = self.r.below(5) as u8;
+                file[at + 1] = self.r.pick(&[0, 0, 1, 8, 255]);
+            }
+            // One byte, mostly of what stands at a place that every file has.
+            4..=6 => {
+                let most = if self.r.one_in(2) { length } else { length.min(40) };
+                let at = self.r.below(most) as usize;
+                file[at] = if self.r.one_in(2) { self.r.next() as u8 } else { file[at] ^ 1 << self.r.below(8) };
+            }
+            7 => {
+                let end = length as usize - 1 - self.r.below(28) as usize;
+                file[end] = self.r.next() as u8;
+            }
+            8 | 9 => self.another_length(&mut file),
+            _ => {}
+        }
+        Op::Load { file }
+    }
+
+    /// A record of a file gets another length: with a byte more or less in its body, without, or with no body at all; or another mark.
+    fn another_length(&mut self, file: &mut Vec<u8>) {
+        let (mut heads, mut at) = (vec![], 0);
+        while at < file.len() {
+            heads.push(at);
+            at += 4 + u16::from_be_bytes([file[at + 2], file[at + 3]]) as usize;
+        }
+        let head = self.r.pick(&heads);
+        let n = u16::from_be_bytes([file[head + 2], file[head + 3]]);
+        let n = match self.r.below(6) {
+            0 => {
+                file.insert(head + 4 + n as usize, self.r.next() as u8);
+                n + 1
+            }
+            1 => {
+                file.remove(head + 3 + n as usize);
+                n - 1
+            }
+            2 => n + 1,
+            3 => n - 1,
+            4 => {
+                file.drain(head + 4..head + 4 + n as usize);
+                0
+            }
+            _ => {
+                let other = self.r.pick(&heads);
+                (file[head], file[head + 1]) = (file[other], file[other + 1]);
+                n
+            }
+        };
+        file[head + 2..head + 4].copy_from_slice(&n.to_be_bytes());
+    }
+
+    /// A byte of a copy of the record, now and then two: mostly one of its numbers, by a bit or to an edge.
+    fn broken(&mut self) -> Op {
+        let count = if self.r.one_in(4) { 2 } else { 1 };
+        let bytes = (0..count).map(|_| {
+            let place = whole::HEAD + whole::ROW * self.r.below(8) as usize;
+            let at = match self.r.below(8) {
+                0 => place + self.r.below(whole::ROW as u64) as usize,
+                1 => place + STORED + self.r.below(2) as usize,
+                _ => self.r.below(whole::HEAD as u64) as usize,
+            };
+            let value = if self.r.one_in(2) {
+                self.r.pick(&[0, 1, 2, 3, 4, 7, 8, 9, 10, 17, 18, 127, 128, 255])
+            } else {
+                self.r.next() as u8
+            };
+            (at, value)
+        });
+        Op::Break(bytes.collect())
     }
 
     /// The last poll was answered, or the one before it.
@@ -434,6 +622,13 @@ impl Random {
             let body = if self.r.one_in(3) { vec![0; n] } else { self.r.bytes(n) };
             field(p, self.r.pick(&[0x0104, 0x0204, 0x0304, 0x1111, 0xF501, 0xF5FF]), &body, 0);
         }
+        if self.manner.typed && self.r.one_in(2) {
+            self.typed(p);
+        }
+        if self.manner.typed && self.r.one_in(20) {
+            // Too short for the lengths of nonce and text.
+            p.extend([4, 4, 0, 4]);
+        }
         if wild && self.r.one_in(16) {
             // A field that says a wrong length.
             let n: u16 = self.r.pick(&[0, 1, 3, 4, 5, 15, 16, 17, 18, 24, 25, 28, 65532, 65535]);
@@ -461,6 +656,9 @@ impl Random {
                     plain.extend(self.r.bytes(n));
                 }
             }
+            if self.manner.typed && self.r.one_in(3) {
+                self.typed(&mut plain);
+            }
             seal(p, &plain);
             if self.r.one_in(12) {
                 if self.r.one_in(3) {
@@ -484,6 +682,98 @@ impl Random {
         }
     }
 }
+
+impl Random {
+    /// A field of any type that the crate knows, or of one that it does not. What answers the request for a piece of the Bloom filter
+    /// has 16 bytes.
+    fn typed(&mut self, p: &mut Vec<u8>) {
+        let ty = self.r.pick(&[0x0304, 0x2323, 0xF501, 0xF503, 0xF504, 0xF504, 0xF5FF]);
+        let n = if self.r.one_in(2) { 16 } else { 4 * self.r.below(8) as usize };
+        let zero = ty == 0x0304 && !self.r.one_in(4);
+        let body = if zero { vec![0; n] } else { self.r.bytes(n) };
+        field(p, ty, &body, 0);
+    }
+}
+
+/// Operations that the bytes say as they are; `side::corpus` writes them so.
+impl Random {
+    fn literal_first(&mut self) -> Op {
+        let r = &mut self.r;
+        let [min, max, startup, start, capacity, count] = r.raw();
+        let min = min % 18;
+        let (min, max) = (min as i8, (min + max % (18 - min)) as i8);
+        let window = 1 + u64::from_be_bytes(r.raw()) % 60_000_000_000;
+        let source = IpAddr::V4(Ipv4Addr::from(r.raw::<4>()));
+        let start = [Version::V4, Version::UpgradedToV5, Version::V5][start as usize % 3];
+        self.nts = self.manner.nts.unwrap_or(false);
+        self.source = source;
+        let (mut cookies, mut room) = (vec![], HELD);
+        for _ in 0..if self.nts { count % 12 } else { 0 } {
+            let cookie = self.r.blob(1000);
+            if cookie.len() + 4 > room {
+                break;
+            }
+            room -= cookie.len() + 4;
+            cookies.push(cookie);
+        }
+        let startup = 1 + startup % 8;
+        let (min, max, startup) = if self.manner.metered {
+            cookies.iter_mut().for_each(|c| c.truncate(100));
+            (min.max(8), max.max(8), startup.min(3))
+        } else {
+            (min, max, startup)
+        };
+        let capacity = if self.manner.capacity { 1 + capacity % 8 } else { 8 };
+        Op::New { nts: self.nts, min, max, startup, window, start, source, cookies, capacity }
+    }
+
+    fn literal_next(&mut self) -> Op {
+        let r = &mut self.r;
+        let [kind] = r.raw();
+        match kind % 7 {
+            0 => {
+                self.now = u64::from_be_bytes(r.raw());
+                let [desired, room] = r.raw();
+                let (id, uid) = (u64::from_be_bytes(r.raw()), r.raw());
+                let room = [None, Some(724), Some(725), Some(1000), Some(1024)][room as usize % 5];
+                Op::Timer { now: self.now, desired: desired as i8, id, uid, room }
+            }
+            1 => {
+                let [now, t1, t4] = [(); 3].map(|()| u64::from_be_bytes(r.raw()));
+                let [fail] = r.raw();
+                Op::Reply { now, t1, t4, packet: r.blob(HELD), fail: fail & 1 == 1 }
+            }
+            2 => {
+                let [stratum, bloom, count] = r.raw();
+                let local = (0..count % 4).map(|_| IpAddr::V4(Ipv4Addr::from(r.raw::<4>()))).collect();
+                Op::Accept { stratum, local, bloom: [Bloom::None, Bloom::Absent, Bloom::Present][bloom as usize % 3] }
+            }
+            3 => {
+                let [key, value] = r.raw();
+                Op::Poke(match POKES[key as usize % POKES.len()] {
+                    "reach" => reach(value).to_vec(),
+                    // Beside a pending request it would make the record not whole.
+                    "answered" if self.pending.is_some() => vec![],
+                    "answered" => vec![("answered", (value & 1) as i64)],
+                    key @ ("last" | "remote") => vec![(key, value as i8 as i64)],
+                    key => vec![(key, value as i64)],
+                })
+            }
+            4 => {
+                let [room] = r.raw();
+                Op::Save { room: [None, Some(0), Some(63), Some(64), Some(1000), Some(5871)][room as usize % 6] }
+            }
+            5 => Op::Load { file: r.blob(8192) },
+            _ => {
+                let [high, low, value] = r.raw();
+                Op::Break(vec![(u16::from_be_bytes([high, low]) as usize % whole::LONGEST, value)])
+            }
+        }
+    }
+}
+
+/// The numbers that are set by hand, by their place in an input.
+pub const POKES: [&str; 6] = ["reach", "tries", "stratum", "last", "remote", "answered"];
 
 /// A field of at least `least` bytes, padded with zeros to a multiple of 4.
 pub fn field(out: &mut Vec<u8>, ty: u16, body: &[u8], least: usize) {

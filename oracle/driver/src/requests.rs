@@ -23,20 +23,23 @@ const STRIDE: u64 = 1747;
 /// One line in so many has the next of these pairs.
 const PAIR_EVERY: u64 = 16;
 
-struct Request {
-    kind: &'static str,
-    poll: i8,
-    id: u64,
-    mark: u64,
-    uid: [u8; 32],
-    cookie: Vec<u8>,
-    asked: u8,
-    room: usize,
+pub struct Request {
+    pub kind: &'static str,
+    pub poll: i8,
+    pub id: u64,
+    pub mark: u64,
+    pub uid: [u8; 32],
+    pub cookie: Vec<u8>,
+    pub asked: u8,
+    pub room: usize,
 }
+
+/// The expected number and packet, and the reason where they are not the crate's.
+pub type Expected = (u8, Vec<u8>, Option<&'static str>);
 
 impl Request {
     /// The line; where it is `short` the keys that have their defaults are left out.
-    fn command(&self, short: bool) -> String {
+    pub fn command(&self, short: bool) -> String {
         let mut line = format!("request kind={} poll={} id={:016x}", self.kind, self.poll, self.id);
         for (key, value, default) in [
             ("mark", format!("{:016x}", self.mark), "0000000000000000"),
@@ -56,12 +59,20 @@ impl Request {
         self.kind.starts_with("nts-")
     }
 
+    /// What is expected of this request.
+    pub fn expected(&self) -> Expected {
+        match self.refused() {
+            Some((number, reason)) => (number, vec![], Some(reason)),
+            None => self.answer(self.packet()),
+        }
+    }
+
     /// The first two refusals of RULES, No. 1, and why the crate has no answer there.
-    fn refused(&self) -> Option<(&'static str, &'static str)> {
+    fn refused(&self) -> Option<(u8, &'static str)> {
         if self.kind.ends_with("v5") {
-            Some(("request 50", "v5-kind"))
+            Some((50, "v5-kind"))
         } else if self.nts() && (self.cookie.len() > STORED || !(1..=ASKED).contains(&(self.asked as usize))) {
-            Some(("request 52", "cookie-or-asked"))
+            Some((52, "cookie-or-asked"))
         } else {
             None
         }
@@ -115,7 +126,7 @@ impl Request {
 
     /// The crate's bytes up to the place where the 0404 field starts. The crate's timer has to send the same, and its reader to
     /// find the same place and uid.
-    fn packet(&self) -> Vec<u8> {
+    pub fn packet(&self) -> Vec<u8> {
         let mut packet = self.whole_packet();
         if let Some(sent) = self.sent_by_timer() {
             assert_eq!(sent, packet, "the crate's timer sends what its packet functions write");
@@ -131,38 +142,67 @@ impl Request {
         packet
     }
 
-    /// The expected answer, and the reason where it is not the crate's.
-    fn answer(&self, mut packet: Vec<u8>) -> (String, Option<&'static str>) {
+    /// The expected answer of a request whose packet by the crate is given.
+    fn answer(&self, mut packet: Vec<u8>) -> Expected {
         if self.room < packet.len() {
-            return ("request 51".into(), Some("buffer-short"));
+            return (51, vec![], Some("buffer-short"));
         }
         let marked = self.kind == "v4-upgrade" && self.mark != UPGRADE_MARK;
         if marked {
             assert_eq!(packet[16..24], UPGRADE_MARK.to_be_bytes());
             packet[16..24].copy_from_slice(&self.mark.to_be_bytes());
         }
-        (format!("request 0 len={} packet={}", packet.len(), bytes(&packet)), marked.then_some("other-mark"))
+        (0, packet, marked.then_some("other-mark"))
     }
 }
 
 /// Where the 0404 field starts, by the types and lengths of the fields behind the header.
-fn authenticator(packet: &[u8]) -> usize {
+pub fn authenticator(packet: &[u8]) -> usize {
     let mut at = 48;
     while packet[at..at + 2] != [0x04, 0x04] {
-        at += u16::from_be_bytes([packet[at + 2], packet[at + 3]]) as usize;
+        // V5 pads behind the length that it says.
+        at += u16::from_be_bytes([packet[at + 2], packet[at + 3]]).next_multiple_of(4) as usize;
     }
     at
 }
 
 /// Random requests, and the walks over what each run has to have.
-struct Source {
-    r: Rng,
+pub struct Source {
+    pub r: Rng,
     /// The place among the pairs of a length and a number asked, and the next length for a request that the timer can make.
     pair: u64,
     length: usize,
 }
 
 impl Source {
+    pub fn new(r: Rng, pair: u64, length: usize) -> Self {
+        Source { r, pair, length }
+    }
+
+    /// The request of line `i`, and what is expected of it.
+    pub fn request(&mut self, i: u64) -> (Request, Expected) {
+        let every_pair = i.is_multiple_of(PAIR_EVERY);
+        let mut request = match self.r.below(100) {
+            _ if every_pair => self.next_pair(),
+            0..=11 => self.unlooked("v4"),
+            12..=24 => self.unlooked("v4-upgrade"),
+            25 | 26 => self.unlooked("v5"),
+            27 | 28 => self.unlooked("nts-v5"),
+            29..=31 => self.refused(),
+            32..=65 => self.next_length(),
+            _ => self.short_cookie(),
+        };
+        if let Some((number, reason)) = request.refused() {
+            request.room = self.enough(0);
+            return (request, (number, vec![], Some(reason)));
+        }
+        let packet = request.packet();
+        let short = !every_pair && self.r.one_in(20);
+        request.room = if short { self.too_little(packet.len()) } else { self.enough(packet.len()) };
+        let expected = request.answer(packet);
+        (request, expected)
+    }
+
     /// A request with everything but its cookie, number asked and room, which are those of no cookie.
     fn any(&mut self, kind: &'static str) -> Request {
         let r = &mut self.r;
@@ -243,27 +283,12 @@ impl Source {
 /// the log before ends; 92,800 lines have all of them.
 pub fn write(log: &mut Log, seed: u64, count: u64) {
     let pair = seed.wrapping_mul(count.div_ceil(PAIR_EVERY)) % PAIRS;
-    let mut source = Source { r: Rng::of(seed), pair, length: seed as usize % (STORED + 1) };
+    let mut source = Source::new(Rng::of(seed), pair, seed as usize % (STORED + 1));
     for i in 0..count {
-        let every_pair = i % PAIR_EVERY == 0;
-        let mut request = match source.r.below(100) {
-            _ if every_pair => source.next_pair(),
-            0..=11 => source.unlooked("v4"),
-            12..=24 => source.unlooked("v4-upgrade"),
-            25 | 26 => source.unlooked("v5"),
-            27 | 28 => source.unlooked("nts-v5"),
-            29..=31 => source.refused(),
-            32..=65 => source.next_length(),
-            _ => source.short_cookie(),
-        };
-        let (answer, reason) = if let Some((answer, reason)) = request.refused() {
-            request.room = source.enough(0);
-            (answer.into(), Some(reason))
-        } else {
-            let packet = request.packet();
-            let short = !every_pair && source.r.one_in(20);
-            request.room = if short { source.too_little(packet.len()) } else { source.enough(packet.len()) };
-            request.answer(packet)
+        let (request, (number, packet, reason)) = source.request(i);
+        let answer = match number {
+            0 => format!("request 0 len={} packet={}", packet.len(), bytes(&packet)),
+            number => format!("request {number}"),
         };
         let of_crate = if reason.is_some() { "" } else { &answer };
         log.put(&request.command(source.r.one_in(2)), of_crate, &answer, reason);

@@ -1,11 +1,15 @@
 //! The rules (RULES) in Rust, set against the crate step by step. They only decide where a difference is listed.
+use crate::handover;
 use crate::state::*;
 
 #[derive(Debug, Clone, PartialEq, Eq)]
 pub struct Rules {
+    pub min: i8,
     pub max: i8,
     pub startup: u8,
     pub window: u64,
+    pub mark: u64,
+    pub start: Version,
     pub nts: bool,
     pub source: u32,
     /// What fell out of the first list.
@@ -81,7 +85,7 @@ impl Rules {
             cookies: vec![],
             capacity,
         };
-        let mut r = Rules { max, startup, window, nts, source, first: (0, 0), state };
+        let mut r = Rules { min, max, startup, window, mark: UPGRADE_MARK, start, nts, source, first: (0, 0), state };
         if nts {
             r.first = r.store(list);
         }
@@ -265,7 +269,7 @@ impl Rules {
             leap: d.leap,
             precision: d.precision,
         };
-        Answer { number: 0, sent: None, measured: Some(measured), dropped: Some(dropped) }
+        Answer { measured: Some(measured), dropped: Some(dropped), ..Answer::default() }
     }
 
     /// RULES, part 12, with No. 2: the reported identifier is compared too, from stratum 2 up.
@@ -283,6 +287,16 @@ impl Rules {
             0
         };
         Answer { number, ..Answer::default() }
+    }
+
+    /// RULES, No. 6, writing: the file has the cookies then.
+    pub fn save(&mut self, room: usize) -> Answer {
+        let file = handover::file(self);
+        if room < file.len() {
+            return Answer { number: 60, ..Answer::default() };
+        }
+        self.state.cookies.clear();
+        Answer { file: Some(file), ..Answer::default() }
     }
 
     /// Numbers set by hand.

@@ -42,6 +42,18 @@ pub enum Op {
         bloom: Bloom,
     },
     Poke(Vec<(&'static str, i64)>),
+    /// The hand-over file is written (RULES, No. 6); `room` is the lent buffer, if not one that is always enough.
+    Save {
+        room: Option<u16>,
+    },
+    /// The association of a hand-over file takes the place of the one before. A file that is refused is loaded elsewhere, and the
+    /// association goes on.
+    Load {
+        file: Vec<u8>,
+    },
+    /// Bytes of a copy of the record set by hand, each at a place of the longest record: calls are made with the copy, and the
+    /// association goes on.
+    Break(Vec<(usize, u8)>),
 }
 
 #[derive(Debug, Clone, Copy, PartialEq, Eq)]
@@ -58,6 +70,10 @@ pub struct Answer {
     pub measured: Option<Measured>,
     /// Of `new` and of a measured reply: how many cookies fell out of the stash, and their lengths summed (RULES, No. 5).
     pub dropped: Option<(u64, u64)>,
+    /// Of a save that is not refused: the hand-over file.
+    pub file: Option<Vec<u8>>,
+    /// Of a load that is not refused: whether the file had the retired version (RULES, No. 14).
+    pub retired: Option<bool>,
 }
 
 #[derive(Debug, Clone, PartialEq, Eq)]
@@ -150,7 +166,7 @@ pub fn hex(b: &[u8]) -> String {
     s
 }
 
-/// The cookie list in the house form.
+/// The cookies as a cookie list: mark, length, bytes of each.
 pub fn list(cookies: &[Vec<u8>]) -> Vec<u8> {
     let mut out = vec![];
     for c in cookies {

@@ -1,19 +1,24 @@
 //! An association of the library, its answers and its record brought to the terms of RULES.
-use crate::ffi::{self, Association, Decoded, Made, Replied, Settings};
+use crate::ffi::{self, Association, Decoded, Field, Loaded, Made, Replied, Settings};
 use crate::identifiers::ReferenceId;
 use crate::wrong::Wrong;
 use driver::both::Step;
+use driver::exec::Drawn;
+use driver::requests::Request;
+use driver::rules::Rules;
 use driver::state::*;
+use driver::whole::{self, HEAD, ROW};
+use driver::{handover, rules};
 use ntp_proto::tls_utils::identifier_of;
 use std::mem::MaybeUninit;
 
 /// Bytes before and behind what is lent, which no call may touch.
-const BESIDE: usize = 16;
+pub const BESIDE: usize = 16;
 const FILL: u8 = 0xA5;
 /// The drill's own buffer, where a command names no room.
 const ROOM: usize = 1024;
-const HEAD: usize = 92;
-const ROW: usize = 726;
+/// The kinds of a request, by their codes.
+pub const KINDS: [&str; 6] = ["nothing", "v4", "v4-upgrade", "v5", "nts-v4", "nts-v5"];
 
 pub struct Library {
     /// The record, between bytes that are not lent.
@@ -22,18 +27,70 @@ pub struct Library {
     buffer: Vec<u8>,
     metered: bool,
     wrong: Option<Wrong>,
+    /// The drill's commands for the copy of the record that was broken last.
+    pub pokes: Vec<String>,
 }
 
-type Found<T> = Result<T, String>;
+pub type Found<T> = Result<T, String>;
 
-fn made<const SLOTS: usize>(metered: bool, settings: Settings, list: &[u8]) -> (Made, Vec<u8>) {
-    let mut place = MaybeUninit::<Association<SLOTS>>::uninit();
+/// The place of a record, in bytes that are lent; they may be any.
+fn place<const SLOTS: usize>(bytes: &mut [u8]) -> &mut MaybeUninit<Association<SLOTS>> {
+    assert_eq!(bytes.len(), Association::<SLOTS>::BYTES);
+    // SAFETY: there are as many bytes as the struct has, it has no alignment, and they stay lent exclusively.
+    unsafe { &mut *bytes.as_mut_ptr().cast() }
+}
+
+fn made_in<const SLOTS: usize>(bytes: &mut [u8], metered: bool, settings: Settings, list: &[u8]) -> Made {
     let call = if metered { ffi::metered } else { ffi::new };
-    let (said, a) = call(&mut place, settings, list);
-    (said, a.map_or(vec![], |a| a.as_bytes().to_vec()))
+    call(place::<SLOTS>(bytes), settings, list).0
 }
 
-fn code(v: Version) -> u32 {
+fn loaded_in<const SLOTS: usize>(bytes: &mut [u8], file: &[u8]) -> Loaded {
+    ffi::load(place::<SLOTS>(bytes), file).0
+}
+
+/// The call for as many slots as the bytes have places.
+macro_rules! sized {
+    ($bytes:expr, $call:ident, $($more:expr),*) => {
+        match ($bytes.len() - HEAD) / ROW {
+            1 => $call::<1>($bytes, $($more),*),
+            2 => $call::<2>($bytes, $($more),*),
+            3 => $call::<3>($bytes, $($more),*),
+            4 => $call::<4>($bytes, $($more),*),
+            5 => $call::<5>($bytes, $($more),*),
+            6 => $call::<6>($bytes, $($more),*),
+            7 => $call::<7>($bytes, $($more),*),
+            _ => $call::<8>($bytes, $($more),*),
+        }
+    };
+}
+
+/// A record of some bytes, as many as 1 to 8 slots have, made in place.
+pub fn make_in(bytes: &mut [u8], metered: bool, settings: Settings, list: &[u8]) -> Made {
+    sized!(bytes, made_in, metered, settings, list)
+}
+
+pub fn load_in(bytes: &mut [u8], file: &[u8]) -> Loaded {
+    sized!(bytes, loaded_in, file)
+}
+
+/// The settings that an association has by the rules.
+fn settings_of(r: &Rules) -> Settings {
+    Settings {
+        window: r.window,
+        upgrademark: r.mark,
+        source: r.source,
+        start: code(r.start),
+        nts: r.nts as u16,
+        capacity: r.state.capacity,
+        startup: r.startup,
+        min: r.min,
+        max: r.max,
+        ..Settings::default()
+    }
+}
+
+pub fn code(v: Version) -> u32 {
     match v {
         Version::V4 => 0,
         Version::V4UpgradingToV5 { .. } => 1,
@@ -42,29 +99,35 @@ fn code(v: Version) -> u32 {
     }
 }
 
-fn must(holds: bool, what: &str) -> Found<()> {
+pub fn must(holds: bool, what: &str) -> Found<()> {
     holds.then_some(()).ok_or_else(|| what.to_string())
 }
 
 /// A number as the driver has it; cut to a byte, a wrong one could pass for another.
-fn small(number: u32) -> Found<u8> {
+pub fn small(number: u32) -> Found<u8> {
     u8::try_from(number).map_err(|_| format!("{number}, which no answer has"))
 }
 
 /// A buffer of which `room` bytes are lent, full of what no answer is made of.
-fn lend(buffer: &mut Vec<u8>, room: usize) -> &mut [u8] {
+pub fn lend(buffer: &mut Vec<u8>, room: usize) -> &mut [u8] {
     buffer.clear();
     buffer.resize(room + 2 * BESIDE, FILL);
     &mut buffer[BESIDE..BESIDE + room]
 }
 
-fn untouched(bytes: &[u8]) -> bool {
+pub fn untouched(bytes: &[u8]) -> bool {
     bytes.iter().all(|b| *b == FILL)
 }
 
 impl Library {
     pub fn new(metered: bool, wrong: Option<Wrong>) -> Self {
-        Library { bytes: vec![], settings: Settings::default(), buffer: vec![], metered, wrong }
+        Library { bytes: vec![], settings: Settings::default(), buffer: vec![], metered, wrong, pokes: vec![] }
+    }
+
+    /// The bytes of a record as long as the capacity asks for, between bytes that are not lent.
+    fn clear(&mut self, capacity: u8) {
+        self.bytes.clear();
+        self.bytes.resize(HEAD + ROW * capacity as usize + 2 * BESIDE, FILL);
     }
 
     fn record(&mut self) -> &mut [u8] {
@@ -91,10 +154,17 @@ impl Library {
                 self.make(&list(cookies))?
             }
             Op::Timer { now, desired, id, uid, room } => {
-                self.timer(*now, *desired, *id, uid, room.map_or(ROOM, usize::from))?
+                let answer = self.timer(*now, *desired, *id, uid, room.map_or(ROOM, usize::from))?;
+                if let (Some(sent), Some(packet)) = (&answer.sent, &step.packet) {
+                    self.write_request(sent, packet, *id, *uid, step)?;
+                }
+                answer
             }
             Op::Reply { now, t1, t4, packet, .. } => {
                 let d = step.drawn.as_ref().ok_or("a reply of which nothing was drawn")?;
+                if d.version == 4 && packet.len() >= 48 {
+                    fields(packet, d, self.wrong)?;
+                }
                 match &d.v5 {
                     // It has no decoded form, so there is nothing to hand over.
                     None if step.left_out => step.of_rules.0.clone(),
@@ -130,6 +200,12 @@ impl Library {
                 }
                 Answer::default()
             }
+            Op::Save { room } => self.save(room.map_or(handover::LONGEST, usize::from))?,
+            Op::Load { file } => self.load(file, step)?,
+            Op::Break(changes) => {
+                self.broken(changes)?;
+                Answer::default()
+            }
         };
         if let Some(wrong) = self.wrong {
             wrong.spoil(&mut answer, &mut self.bytes, BESIDE);
@@ -138,22 +214,10 @@ impl Library {
     }
 
     fn make(&mut self, list: &[u8]) -> Found<Answer> {
-        let call = match self.settings.capacity {
-            1 => made::<1>,
-            2 => made::<2>,
-            3 => made::<3>,
-            4 => made::<4>,
-            5 => made::<5>,
-            6 => made::<6>,
-            7 => made::<7>,
-            _ => made::<8>,
-        };
-        let (said, record) = call(self.metered, self.settings, list);
+        let (metered, settings) = (self.metered, self.settings);
+        self.clear(settings.capacity);
+        let said = make_in(self.record(), metered, settings, list);
         must(said.number == 0 && said.made == 1, &format!("new: number {}, made {}", said.number, said.made))?;
-        self.bytes.clear();
-        self.bytes.resize(BESIDE, FILL);
-        self.bytes.extend(record);
-        self.bytes.resize(self.bytes.len() + BESIDE, FILL);
         Ok(Answer { dropped: Some((said.dropped, said.lost)), ..Answer::default() })
     }
 
@@ -164,9 +228,7 @@ impl Library {
         let length = said.length as usize;
         let answer = if said.number == 20 {
             must(length <= room.min(STORED), "timer: the cookie is longer than the buffer or than a cookie may be")?;
-            let kind = ["nothing", "v4", "v4-upgrade", "v5", "nts-v4", "nts-v5"]
-                .get(said.kind as usize)
-                .ok_or("timer: an unknown kind")?;
+            let kind = KINDS.get(said.kind as usize).ok_or("timer: an unknown kind")?;
             let cookie = buffer[BESIDE..BESIDE + length].to_vec();
             Answer {
                 number: 20,
@@ -186,6 +248,114 @@ impl Library {
         )?;
         self.buffer = buffer;
         Ok(answer)
+    }
+
+    /// The request of a poll that was sent: the crate's packet, up to its 0404 field, in a buffer that is just long enough. Of a smaller
+    /// stash the crate asks for more, so its packet functions write the one with our number.
+    fn write_request(&mut self, sent: &Sent, packet: &[u8], id: u64, uid: [u8; 32], step: &Step) -> Found<()> {
+        let kind = KINDS.iter().position(|k| *k == sent.kind).unwrap_or(0) as u8;
+        let (mark, cookie, asked) = (self.settings.upgrademark, sent.cookie.clone(), sent.asked);
+        let as_many = step.of_crate.0.sent.as_ref().is_some_and(|s| s.asked == asked);
+        let v5 = sent.kind.ends_with("v5");
+        let request = Request { kind: sent.kind, poll: sent.poll, id, mark, uid, cookie, asked, room: 0 };
+        let packet = if v5 {
+            vec![]
+        } else if as_many {
+            packet.to_vec()
+        } else {
+            request.packet()
+        };
+        let (number, room) = if v5 { (50, packet.len().max(1000)) } else { (0, packet.len()) };
+        let lent = lend(&mut self.buffer, room);
+        let said = ffi::write_request(kind, sent.poll, id, mark, uid, &request.cookie, asked, lent);
+        must(
+            (said.number, said.written, said.length) == (number, (number == 0) as u32, packet.len() as u64),
+            &format!("write_request: number {}, length {}; expected {number}, {}", said.number, said.length, packet.len()),
+        )?;
+        if self.wrong == Some(Wrong::Request) && number == 0 {
+            // The last byte of the header.
+            self.buffer[BESIDE + 47] ^= 1;
+        }
+        let (end, buffer) = (BESIDE + packet.len(), &self.buffer);
+        must(
+            buffer[BESIDE..end] == packet,
+            &format!("write_request: not the packet that the crate sends, {}", bytes(&packet)),
+        )?;
+        must(untouched(&buffer[..BESIDE]) && untouched(&buffer[end..]), "write_request: bytes past the packet were written")
+    }
+
+    fn save(&mut self, room: usize) -> Found<Answer> {
+        let mut buffer = std::mem::take(&mut self.buffer);
+        let said = ffi::save(self.record(), lend(&mut buffer, room));
+        let length = said.length as usize;
+        must(said.written == (said.number == 0) as u32, "save: number and written do not go together")?;
+        must(
+            length <= room && (said.number == 0 || length == 0),
+            "save: the file is longer than the buffer, or refused and long",
+        )?;
+        must(
+            untouched(&buffer[..BESIDE]) && untouched(&buffer[BESIDE + length..]),
+            "save: bytes of the buffer past the file were written",
+        )?;
+        let file = (said.number == 0).then(|| buffer[BESIDE..BESIDE + length].to_vec());
+        self.buffer = buffer;
+        Ok(Answer { number: small(said.number)?, file, ..Answer::default() })
+    }
+
+    /// A file that is refused is loaded over a copy, which has to be blank then; so is one of another size, which has to stay.
+    fn load(&mut self, file: &[u8], step: &Step) -> Found<Answer> {
+        let Some(rules) = &step.loaded else {
+            let mut copy = self.record().to_vec();
+            let said = load_in(&mut copy, file);
+            must(said.retired == 0, "load: refused and retired")?;
+            must(copy.iter().all(|b| *b == 0), "load: refused, and the record is not blank")?;
+            blank(&mut copy, self.settings.nts == 1, self.wrong)?;
+            return Ok(Answer { number: small(said.number)?, ..Answer::default() });
+        };
+        let other = if rules.state.capacity == 8 { 1 } else { rules.state.capacity + 1 };
+        let mut copy = vec![FILL; HEAD + ROW * other as usize];
+        let said = load_in(&mut copy, file);
+        must((said.number, said.retired) == (31, 0) && untouched(&copy), "load: a record of another size was not left alone")?;
+        self.settings = settings_of(rules);
+        self.clear(rules.state.capacity);
+        let said = load_in(self.record(), file);
+        must(said.retired < 2, "load: retired is a code that no answer has")?;
+        Ok(Answer { number: small(said.number)?, retired: Some(said.retired == 1), ..Answer::default() })
+    }
+
+    /// Calls with a copy of the record in which bytes were set by hand: where it is not whole every call answers 32 and leaves it as
+    /// it is; where it is, the rules say what its timer, its acceptance and its file are.
+    fn broken(&mut self, changes: &[(usize, u8)]) -> Found<()> {
+        let mut copy = self.record().to_vec();
+        let places: Vec<(usize, u8)> = changes.iter().map(|(at, value)| (at % copy.len(), *value)).collect();
+        places.iter().for_each(|(at, value)| copy[*at] = *value);
+        self.pokes = places
+            .iter()
+            .map(|(at, value)| whole::poke(&copy, *at).unwrap_or_else(|| format!("# byte {at} of the record becomes {value}")))
+            .collect();
+        looked(&copy)?;
+        // One byte less and one more than a record has.
+        for other in [&copy[..copy.len() - 1], &[&copy[..], &[0]].concat()] {
+            looked(other)?;
+            refused(other, self.wrong)?;
+        }
+        let Some(rules) = whole::whole(&copy) else { return refused(&copy, self.wrong) };
+        unknown(&copy, changes[0].1, rules.state.stratum)?;
+        let call = |copy: &[u8]| copy.to_vec();
+        let local = [ReferenceId::from_bits(rules.state.refid)];
+        let number = ffi::accept(&copy, 17, &local, 0);
+        let expected = rules.accept(17, &[rules.state.refid], Bloom::None).number;
+        must(number == expected as u32, &format!("accept: {number} on a record that is whole, expected {expected}"))?;
+        let (mut after, mut timed) = (call(&copy), rules.clone());
+        let expected = timed.timer(1000, 6, 1, &[1; 32]);
+        let said = ffi::timer(&mut after, 1000, 6, 1, [1; 32], lend(&mut self.buffer, ROOM));
+        must(said.number == expected.number as u32, &format!("timer: {} on a record that is whole", said.number))?;
+        must(whole::whole(&after).as_ref() == Some(&timed), "timer: another record than the rule's")?;
+        let (mut after, mut saved) = (call(&copy), rules);
+        let file = saved.save(handover::LONGEST).file.unwrap_or_default();
+        let said = ffi::save(&mut after, lend(&mut self.buffer, file.len()));
+        must(said.number == 0 && self.buffer[BESIDE..BESIDE + file.len()] == file, "save: another file than the rule's")?;
+        must(whole::whole(&after).as_ref() == Some(&saved), "save: another record than the rule's")
     }
 
     /// The new cookies of a reply; where the crate decoded it they are the crate's, in a buffer that is just long enough.
@@ -316,5 +486,143 @@ fn replied(r: Replied) -> Found<Answer> {
         leap: r.leap,
         precision: r.precision,
     };
-    Ok(Answer { number: 0, sent: None, measured: Some(measured), dropped: Some((r.dropped, r.lost)) })
+    Ok(Answer { measured: Some(measured), dropped: Some((r.dropped, r.lost)), ..Answer::default() })
+}
+
+/// What stands at an offset of a V4 packet, by part 7: 0 and a field, 0 and none at the end, 1 where it is broken.
+pub fn field_of(packet: &[u8], at: usize) -> Field {
+    let told = |number, found, kind, body, length, next| Field { number, found, kind, spare: 0, body, length, next };
+    let end = told(0, 0, 0, 0, 0, 0);
+    let broken = told(1, 0, 0, 0, 0, 0);
+    let Some(rest) = packet.get(at..) else { return broken };
+    if rest.len() <= 24 {
+        return end;
+    }
+    let n = u16::from_be_bytes([rest[2], rest[3]]) as u64;
+    if n < 16 || !n.is_multiple_of(4) || n > rest.len() as u64 {
+        return broken;
+    }
+    let at = at as u64;
+    told(0, 1, u16::from_be_bytes([rest[0], rest[1]]).into(), at + 4, n - 4, at + n)
+}
+
+/// The numbers of a field, for comparing.
+pub fn told(f: &Field) -> [u64; 7] {
+    [f.number.into(), f.found.into(), f.kind.into(), f.spare.into(), f.body, f.length, f.next]
+}
+
+/// The fields of a V4 packet, step by step: those of part 7's walk; and where the crate decodes the packet, the crate's, but for the
+/// 0404 fields, which it does not keep.
+fn fields(packet: &[u8], d: &Drawn, wrong: Option<Wrong>) -> Found<()> {
+    let (mut at, mut found) = (48, vec![]);
+    loop {
+        let mut said = ffi::field_at(packet, at);
+        if wrong == Some(Wrong::Field) && said.found == 1 {
+            said.kind ^= 1;
+        }
+        must(told(&said) == told(&field_of(packet, at)), &format!("field_at: {:?} at {at}, not part 7's", told(&said)))?;
+        if said.found == 0 {
+            // A field of less than 16 bytes is broken by part 7, and read by the crate.
+            let whole = rules::walk(packet, 48, 16, 24).is_some();
+            let crates = d.fields.as_ref().filter(|_| whole);
+            return must(crates.is_none_or(|fields| *fields == found), "field_at: other fields than the crate's");
+        }
+        if said.kind != 0x0404 {
+            let body = &packet[said.body as usize..(said.body + said.length) as usize];
+            found.push((said.kind as u16, body.to_vec()));
+        }
+        at = said.next as usize;
+    }
+}
+
+/// `look` on any bytes: the numbers where they are a record's, else 32 and nothing.
+fn looked(bytes: &[u8]) -> Found<()> {
+    let view = ffi::look(bytes);
+    let Some(n) = whole::shown(bytes) else {
+        let zero = view.settings == Settings::default() && view.state == ffi::State::default();
+        return must(view.number == 32 && zero, &format!("look: {} on bytes that are no record's", view.number));
+    };
+    let settings = Settings {
+        window: n.window,
+        upgrademark: n.mark,
+        source: n.source,
+        start: n.start.0.into(),
+        nts: n.nts.into(),
+        capacity: n.capacity,
+        spare: 0,
+        left: n.start.1,
+        startup: n.startup,
+        min: n.min,
+        max: n.max,
+    };
+    let state = ffi::State {
+        reach: n.reach,
+        tries: n.tries,
+        last: n.last,
+        remote: n.remote,
+        refid: n.refid,
+        version: n.version.0.into(),
+        left: n.version.1,
+        stratum: n.stratum,
+        denial: n.denial,
+        unanswered: n.unanswered,
+        id: n.id,
+        deadline: n.deadline,
+        uid: n.uid,
+        answered: n.answered.into(),
+        present: n.present.into(),
+    };
+    let same = view.number == 0 && view.settings == settings && view.state == state;
+    must(same, &format!("look: {} {:?} {:?}, not what the bytes say", view.number, view.settings, view.state))
+}
+
+/// Every call answers 32 to bytes that are not a whole record, and changes nothing.
+fn refused(bytes: &[u8], wrong: Option<Wrong>) -> Found<()> {
+    let (mut copy, mut buffer) = (bytes.to_vec(), vec![]);
+    let packet = [&[0x24, 2][..], &[0; 46]].concat();
+    let mut timed = ffi::timer(&mut copy, 1000, 6, 1, [1; 32], lend(&mut buffer, ROOM));
+    if wrong == Some(Wrong::Whole) {
+        timed.number = 20;
+    }
+    let timer = if (timed.kind, timed.poll, timed.asked, timed.length) == (0, 0, 0, 0) { timed.number } else { 0 };
+    let clean = untouched(&buffer);
+    let reply = replied(ffi::reply(&mut copy, &packet, 48, &[], &[], 0, 0, 2000))?.number;
+    let decoded = replied(ffi::reply_decoded(&mut copy, Decoded::default(), &[], 0, 0, 2000))?.number;
+    let accept = ffi::accept(&copy, 17, &[], 0);
+    let saved = ffi::save(&mut copy, lend(&mut buffer, handover::LONGEST));
+    let save = if (saved.written, saved.length) == (0, 0) { saved.number } else { 0 };
+    let numbers = [timer, reply.into(), decoded.into(), accept, save];
+    must(numbers == [32; 5], &format!("timer, reply, decoded reply, accept, save: {numbers:?} on a record that is not whole"))?;
+    must(clean && untouched(&buffer) && copy == bytes, "32, and bytes were written")
+}
+
+/// Codes of no kind, beside a record that is whole: 1 from a decoded reply, and 41 from an acceptance, unless our stratum is too low.
+fn unknown(bytes: &[u8], code: u8, stratum: u8) -> Found<()> {
+    let high = code | 8;
+    let d = Decoded::default();
+    let mut copy = bytes.to_vec();
+    for d in [
+        Decoded { mode: high.into(), ..d },
+        Decoded { leap: high, ..d },
+        Decoded { rate: high, ..d },
+        Decoded { any: high, ..d },
+        Decoded { authenticated: high, ..d },
+        Decoded { untrusted: high, ..d },
+    ] {
+        let number = replied(ffi::reply_decoded(&mut copy, d, &[], 0, 0, 2000))?.number;
+        must(number == 1 && copy == bytes, &format!("reply_decoded: {number} to a code of no kind, {high}"))?;
+    }
+    let (number, expected) = (ffi::accept(bytes, 255, &[], high.into()), if stratum == 255 { 40 } else { 41 });
+    must(number == expected, &format!("accept: {number} to a Bloom word of no kind, {high}"))
+}
+
+/// The blank record is shown as no record and refused by every call.
+pub fn blank(bytes: &mut [u8], again: bool, wrong: Option<Wrong>) -> Found<()> {
+    looked(bytes)?;
+    refused(bytes, wrong)?;
+    if again {
+        bytes.fill(FILL);
+        must(ffi::blank(bytes) == 0 && bytes.iter().all(|b| *b == 0), "blank: the bytes are not zero")?;
+    }
+    Ok(())
 }

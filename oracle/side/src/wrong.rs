@@ -11,9 +11,14 @@ pub enum Wrong {
     Cookie,
     Settings,
     Beside,
+    File,
+    Retired,
+    Request,
+    Field,
+    Whole,
 }
 
-pub const NAMES: [(&str, Wrong); 8] = [
+pub const NAMES: [(&str, Wrong); 13] = [
     ("number", Wrong::Number),
     ("asked", Wrong::Asked),
     ("offset", Wrong::Offset),
@@ -22,7 +27,17 @@ pub const NAMES: [(&str, Wrong); 8] = [
     ("cookie", Wrong::Cookie),
     ("settings", Wrong::Settings),
     ("beside", Wrong::Beside),
+    ("file", Wrong::File),
+    ("retired", Wrong::Retired),
+    ("request", Wrong::Request),
+    ("field", Wrong::Field),
+    ("whole", Wrong::Whole),
 ];
+
+/// The way of that name.
+pub fn named(name: &str) -> Option<Wrong> {
+    NAMES.into_iter().find(|n| n.0 == name).map(|n| n.1)
+}
 
 impl Wrong {
     /// Changes one bit of what the library answered or left, where there is such a thing.
@@ -39,6 +54,9 @@ impl Wrong {
             Wrong::Cookie if answer.number == 20 => bytes[record + 92 + 723] ^= 1,
             Wrong::Settings if answer.number == 20 => bytes[record + 18] ^= 1,
             Wrong::Beside if answer.number == 20 => *bytes.last_mut().expect("bytes beside the record") ^= 1,
+            // The last byte of a file is whether service was denied.
+            Wrong::File => answer.file.iter_mut().filter_map(|f| f.last_mut()).for_each(|b| *b ^= 1),
+            Wrong::Retired => answer.retired.iter_mut().for_each(|r| *r = !*r),
             _ => {}
         }
     }

@@ -94,9 +94,9 @@ mod cipher {
     impl reckonstile::Open for Siv {
         type Error = Sealed;
 
-        fn open(&mut self, associated: &[u8], nonce: &[u8], ciphertext: &[u8], plain: &mut [u8]) -> Result<usize, Sealed> {
+        fn open(&mut self, associated: &[u8], nonce: &[u8], ciphertext: &[u8], decrypted: &mut [u8]) -> Result<usize, Sealed> {
             let length = ciphertext.len().checked_sub(TAG).ok_or(Sealed::Short)?;
-            let out = plain.get_mut(..length).ok_or(Sealed::Short)?;
+            let out = decrypted.get_mut(..length).ok_or(Sealed::Short)?;
             // SAFETY: each pointer has the bytes of its length, and `ciphertext` a tag more than `out`.
             let right = unsafe {
                 nettle_siv_cmac_aes128_decrypt_message(

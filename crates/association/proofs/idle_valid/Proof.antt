@@ -1,36 +1,20 @@
 -- `idle_valid` meets its contract: the tests in order.
 -- Assumes nothing.
 use borrow.Author.Tests.{eq-eqb, ne-eqb}
-use Rattle.association.specs.Record.{idleValid}
-use borrow.Author.Needs.{needs}
 use Rattle.association.proofs.idle_valid.Statement.{statement}
 use Rattle.association.proofs.idle_valid.Tie as tie
 
 returns : tie.Need-returns
-unfolding idleValid
 returns c = rw (c .if1 .taken)
 
 returns-2 : tie.Need-returns-2
-unfolding idleValid
 returns-2 c = rw (c .before .if1 .left, ne-eqb _ _ (c .if2 .taken))
 
 returns-3 : tie.Need-returns-3
-unfolding idleValid
 returns-3 c = rw (c .before .before .if1 .left, eq-eqb _ _ (c .before .if2 .left), ne-eqb _ _ (c .if3 .taken))
 
-slice-aggregate-zeros-from : tie.Need-slice-aggregate-zeros-from
-slice-aggregate-zeros-from c = search needs
-
-zeros-from-requires : tie.Need-zeros-from-requires
-zeros-from-requires c κs = search needs
-
 returns-4 : tie.Need-returns-4
-unfolding idleValid
-returns-4 c =
-    let k = c .before .before in
-    rw (k .before .before .if1 .left, eq-eqb _ _ (k .before .if2 .left), eq-eqb _ _ (k .if3 .left)) (c .zeros-from .ensures)
+returns-4 c = rw (c .before .before .if1 .left, eq-eqb _ _ (c .before .if2 .left), eq-eqb _ _ (c .if3 .left))
 
 pub idle-valid-spec : {M : Type 1} → statement M
-idle-valid-spec =
-    tie.close
-    (tie.spec returns returns-2 returns-3 slice-aggregate-zeros-from zeros-from-requires returns-4)
+idle-valid-spec = tie.close (tie.spec returns returns-2 returns-3 returns-4)

@@ -4,7 +4,7 @@ use mathlib.Core.Path.{_≡_, sym, _∙_}
 use mathlib.Core.Bool.{true}
 use borrow.Author.Tests.{not-true, not-false}
 use Rattle.association.specs.Settings.{settingsValid}
-use Rattle.association.specs.Record.{effortValid, versionsValid, wholeSeen}
+use Rattle.association.specs.Record.{effortValid, versionsValid, idleValid, wholeSeen}
 use borrow.Author.Needs.{needs}
 use Rattle.association.proofs.whole_seen.Statement.{statement}
 use Rattle.association.proofs.whole_seen.Tie as tie
@@ -52,28 +52,38 @@ returns-4 c =
     let k = e .before .before .before in
     rw (settled (k .before .before), seen-whole k, counted e, sym (c .before .versions-valid .ensures) ∙ not-true _ (c .if4 .taken))
 
-valid-requires-3 : tie.Need-valid-requires-3
-valid-requires-3 c κs = search needs
+zero-uid-requires : tie.Need-zero-uid-requires
+zero-uid-requires c κs = search needs
+
+pending-valid-requires : tie.Need-pending-valid-requires
+pending-valid-requires c κs = c .zero-uid .ensures
 
 returns-5 : tie.Need-returns-5
 unfolding wholeSeen
 returns-5 c =
-    let v = c .before .before .before in
+    let v = c .before .before .before .before .before in
     let e = v .before .before in
     let k = e .before .before .before in
-    rw (settled (k .before .before), seen-whole k, counted e, spoken v, sym (c .before .valid3 .ensures) ∙ not-true _ (c .if5 .taken))
+    rw (settled (k .before .before), seen-whole k, counted e, spoken v, sym (c .before .pending-valid .ensures) ∙ not-true _ (c .if5 .taken))
 
 idle-valid-requires : tie.Need-idle-valid-requires
 idle-valid-requires c κs = search needs
 
 returns-6 : tie.Need-returns-6
-unfolding wholeSeen
+unfolding wholeSeen idleValid
 returns-6 c =
-    let r = c .before .before in
-    let v = r .before .before .before in
+    let r = c .before in
+    let v = r .before .before .before .before .before in
     let e = v .before .before in
     let k = e .before .before .before in
-    rw (settled (k .before .before), seen-whole k, counted e, spoken v, sym (r .before .valid3 .ensures) ∙ not-false _ (r .if5 .left)) (c .idle-valid .ensures)
+    rw (
+      settled (k .before .before),
+      seen-whole k,
+      counted e,
+      spoken v,
+      sym (r .before .pending-valid .ensures) ∙ not-false _ (r .if5 .left),
+      sym (r .before .before .zero-uid .ensures),
+    ) (c .idle-valid .ensures)
 
 pub whole-seen-spec : {M : Type 1} → statement M
 whole-seen-spec =
@@ -86,7 +96,8 @@ whole-seen-spec =
     returns-3
     versions-valid-requires
     returns-4
-    valid-requires-3
+    zero-uid-requires
+    pending-valid-requires
     returns-5
     idle-valid-requires
     returns-6)

@@ -1,69 +1,82 @@
--- `aged` meets its contract: the slot so many places behind the oldest, or none.
+-- `aged` meets its contract. The invariant: the cookie of the age that is left, counted from here, is the one that is looked for.
 -- Assumes nothing.
-use Prim.Native.Nat.{ℕ, _+_}
-use mathlib.Core.Path.{sym, ap, _∙_}
-use native.Mathlib.Omega.{arith}
-use borrow.Author.Tests.{not-true, not-false}
-use Rattle.cookiestash.specs.Stash.{slotAt}
-use Rattle.cookiestash.specs.Queue.{seen}
-use Rattle.cookiestash.proofs.Typed.{typed-is}
-use Rattle.compare_fields.specs.Steps.{keptReading}
-use Rattle.compare_fields.proofs.Ages.{out-of-range, none-so-young, aged-slot, place-lt, bounds}
 use borrow.Author.Needs.{needs}
+use Prim.Native.Nat.{_-_}
+use mathlib.Core.Path.{_≡_, refl, sym, _∙_}
+use mathlib.Core.Logic.{inl, inr}
+use native.Mathlib.Omega.{arith}
+use lib.ListN.{length}
+use Rattle.handover_cut.proofs.Turn.{one-within}
+use Rattle.compare_fields.specs.Steps.{agedAt}
+use Rattle.compare_fields.proofs.Ages.{further, kept-here, kept-none}
 use Rattle.compare_fields.proofs.aged.Statement.{statement}
 use Rattle.compare_fields.proofs.aged.Tie as tie
 
-in-range-requires : tie.Need-in-range-requires
-in-range-requires c κs = search needs
+abbrev Inv-loop : tie.InvT-loop
+Inv-loop body age at₀ left₀ at left = agedAt body left at ≡ agedAt body age 1
 
-no-cookie-requires : tie.Need-no-cookie-requires
+abbrev μ-loop : tie.MeasureT-loop
+μ-loop body age at₀ left₀ at left = length body - at
+
+loop-holds : tie.Need-loop-holds Inv-loop μ-loop
+loop-holds c = refl
+
+held-at-requires : tie.Need-held-at-requires Inv-loop μ-loop
+held-at-requires c κs = search needs
+
+enum-known-len : tie.Need-enum-known-len Inv-loop μ-loop
+enum-known-len c = search needs
+
+cast-t10 : tie.Need-cast-t10 Inv-loop μ-loop
+cast-t10 c = search needs
+
+returns : tie.Need-returns Inv-loop μ-loop
+returns c = kept-here (c .before .before .before .before .before .before .before .args .body .now) (c .before .before .before .before .before .before .before .args .age) (c .before .before .before .before .before .loop .at) (c .before .before .before .before .before .loop .left) _ _ _ (c .before .before .before .before .before .loop .inv) (c .if1 .taken) (sym (c .before .before .before .before .held-at .ensures) ∙ c .before .before .len .given .1) (omega arith)
+
+sub-left : tie.Need-sub-left Inv-loop μ-loop
+sub-left c = search needs
+
+loop-less : tie.Need-loop-less Inv-loop μ-loop
+loop-less c = let w = one-within _ _ _ _ _ (sym (c .before .before .before .before .held-at .ensures) ∙ c .before .before .len .given .1) in omega arith
+
+loop-again : tie.Need-loop-again Inv-loop μ-loop
+loop-again c = sym (further (c .before .before .before .before .before .before .before .args .body .now) (c .before .before .before .before .before .loop .at) (c .before .before .before .before .before .loop .left) _ _ _ (c .if1 .left) (sym (c .before .before .before .before .held-at .ensures) ∙ c .before .before .len .given .1)) ∙ c .before .before .before .before .before .loop .inv
+
+enum-told : tie.Need-enum-told Inv-loop μ-loop
+enum-told c = search needs
+
+no-cookie-requires : tie.Need-no-cookie-requires Inv-loop μ-loop
 no-cookie-requires c κs = search needs
 
-returns : tie.Need-returns
-returns c = let a = c .before .before .before .args in (c .no-cookie .ensures .0 ∙ sym (out-of-range (a .capacity) (a .t2) (a .age) (sym (c .before .before .in-range .ensures) ∙ not-true _ (c .before .if1 .taken))), c .no-cookie .ensures .1, c .no-cookie .ensures .2)
+returns-2 : tie.Need-returns-2 Inv-loop μ-loop
+returns-2 c = kept-none (c .before .before .before .before .before .before .args .body .now) (c .before .before .before .before .before .before .args .age) (c .before .before .before .before .loop .at) (c .before .before .before .before .loop .left) (c .before .before .before .before .loop .inv) (inl (sym (c .before .before .before .held-at .ensures) ∙ c .before .enum-told .given .1)) _ (c .no-cookie .ensures)
 
-no-cookie-requires-2 : tie.Need-no-cookie-requires-2
+enum-told-2 : tie.Need-enum-told-2 Inv-loop μ-loop
+enum-told-2 c = search needs
+
+no-cookie-requires-2 : tie.Need-no-cookie-requires-2 Inv-loop μ-loop
 no-cookie-requires-2 c κs = search needs
 
-returns-2 : tie.Need-returns-2
-returns-2 c = let a = c .before .before .before .before .args in (c .no-cookie2 .ensures .0 ∙ sym (none-so-young (a .capacity) (a .t2) (a .age) (sym (c .before .before .before .in-range .ensures) ∙ not-false _ (c .before .before .if1 .left)) (c .before .if2 .taken)), c .no-cookie2 .ensures .1, c .no-cookie2 .ensures .2)
-
-add-wrapped : tie.Need-add-wrapped
-add-wrapped c = let a = c .before .before .before .args in omega (arith, bounds (a .capacity) (a .t2) (a .age) (sym (c .before .before .in-range .ensures) ∙ not-false _ (c .before .if1 .left)), c .if2 .left)
-
-wrapped-requires : tie.Need-wrapped-requires
-wrapped-requires c κs = search needs
-
-mul-slot : tie.Need-mul-slot
-mul-slot c = let a = c .before .before .before .before .args in omega (arith, place-lt (a .capacity) (a .t2) (a .age) (sym (c .before .before .before .in-range .ensures) ∙ not-false _ (c .before .before .if1 .left)) (c .before .if2 .left), c .wrapped .ensures)
-
-element-copy-out-slot : tie.Need-element-copy-out-slot
-element-copy-out-slot c = let a = c .before .before .before .before .args in omega (arith, place-lt (a .capacity) (a .t2) (a .age) (sym (c .before .before .before .in-range .ensures) ∙ not-false _ (c .before .before .if1 .left)) (c .before .if2 .left), c .wrapped .ensures)
-
-cast-t16 : tie.Need-cast-t16
-cast-t16 c = search needs
-
-returns-3 : tie.Need-returns-3
-unfolding seen
-returns-3 c =
-    let a = c .before .before .before .before .before .before .before .args in
-    let e = (sym (c .before .before .before .before .before .before .in-range .ensures) ∙ not-false _ (c .before .before .before .before .before .if1 .left)) in
-    let h = c .before .before .before .before .if2 .left in
-    let t = typed-is (a .t2) _ (c .before .before .before .before .before .before .before .good .1 .0) .each (c .before .before .before .wrapped .result) (omega (arith, place-lt (a .capacity) (a .t2) (a .age) e h, c .before .before .before .wrapped .ensures)) in
-    (ap (λ (k : ℕ). keptReading (record { number = slotAt (a .t2 .slots) k .len; bytes = slotAt (a .t2 .slots) k .bytes })) (c .before .before .before .wrapped .ensures) ∙ sym (aged-slot (a .capacity) (a .t2) (a .age) e h), omega (arith, t .1), t .0)
+returns-3 : tie.Need-returns-3 Inv-loop μ-loop
+returns-3 c = kept-none (c .before .before .before .before .before .before .args .body .now) (c .before .before .before .before .before .before .args .age) (c .before .before .before .before .loop .at) (c .before .before .before .before .loop .left) (c .before .before .before .before .loop .inv) (inr (sym (c .before .before .before .held-at .ensures) ∙ c .before .enum-told2 .given .1)) _ (c .no-cookie2 .ensures)
 
 pub aged-spec : {M : Type 1} → statement M
 aged-spec =
     tie.close
     (tie.spec
-    in-range-requires
-    no-cookie-requires
+    Inv-loop
+    μ-loop
+    loop-holds
+    held-at-requires
+    enum-known-len
+    cast-t10
     returns
-    no-cookie-requires-2
+    sub-left
+    loop-less
+    loop-again
+    enum-told
+    no-cookie-requires
     returns-2
-    add-wrapped
-    wrapped-requires
-    mul-slot
-    element-copy-out-slot
-    cast-t16
+    enum-told-2
+    no-cookie-requires-2
     returns-3)

@@ -1,5 +1,6 @@
 -- `fields` meets its contract: the groups one behind the other.
 -- Assumes nothing.
+use mathlib.Core.Path.{_∙_}
 use Rattle.compare_fields.proofs.Grouped.{grouped}
 use borrow.Author.Needs.{needs}
 use Rattle.compare_fields.proofs.fields.Statement.{statement}
@@ -23,6 +24,18 @@ wide-requires-2 c κs = search needs
 number-requires : tie.Need-number-requires
 number-requires c κs = search needs
 
+place-of-requires : tie.Need-place-of-requires
+place-of-requires c κs = search needs
+
+wide-requires-3 : tie.Need-wide-requires-3
+wide-requires-3 c κs = search needs
+
+place-of-requires-2 : tie.Need-place-of-requires-2
+place-of-requires-2 c κs = search needs
+
+wide-requires-4 : tie.Need-wide-requires-4
+wide-requires-4 c κs = search needs
+
 number-requires-2 : tie.Need-number-requires-2
 number-requires-2 c κs = search needs
 
@@ -40,19 +53,13 @@ eight-requires-2 c κs = search needs
 
 returns : tie.Need-returns
 returns c =
-    let a = c .before .before .before .before .before .before .before .before .before .before .before .before .before .args in
-    grouped (a .l) (a .r)
-    (c .before .before .before .before .before .before .before .before .before .before .settings-numbers .ensures)
-    (c .before .before .before .before .before .before .before .before .before .settings-numbers2 .ensures)
-    (c .before .before .before .before .before .before .before .before .eight .ensures)
-    (c .before .before .before .before .before .before .before .wide .ensures .0)
-    (c .before .before .before .before .before .before .wide2 .ensures .0)
-    (c .before .before .before .before .before .number .ensures)
-    (c .before .before .before .before .number2 .ensures)
+    let a = c .before .before .before .before .before .before .before .before .before .before .before .before .before .before .before .before .before .args in
+    grouped (a .l) (a .p) (a .left .now) (a .r) (a .q) (a .right .now)
+    (c .before .before .before .before .before .before .before .before .before .before .before .before .before .before .settings-numbers .ensures) (c .before .before .before .before .before .before .before .before .before .before .before .before .before .settings-numbers2 .ensures) (c .before .before .before .before .before .before .before .before .before .before .before .before .eight .ensures)
+    (c .before .before .before .before .before .before .before .before .before .before .before .wide .ensures .0) (c .before .before .before .before .before .before .before .before .before .before .wide2 .ensures .0) (c .before .before .before .before .before .before .before .before .before .number .ensures)
+    (c .before .before .before .before .before .before .before .wide3 .ensures .0 ∙ c .before .before .before .before .before .before .before .before .place-of .ensures) (c .before .before .before .before .before .wide4 .ensures .0 ∙ c .before .before .before .before .before .before .place-of2 .ensures) (c .before .before .before .before .number2 .ensures)
     (c .before .before .before .cookie-fields .ensures)
-    (c .before .before .state-numbers .ensures)
-    (c .before .state-numbers2 .ensures)
-    (c .eight2 .ensures)
+    (c .before .before .state-numbers .ensures) (c .before .state-numbers2 .ensures) (c .eight2 .ensures)
 
 pub fields-spec : {M : Type 1} → statement M
 fields-spec =
@@ -64,6 +71,10 @@ fields-spec =
     wide-requires
     wide-requires-2
     number-requires
+    place-of-requires
+    wide-requires-3
+    place-of-requires-2
+    wide-requires-4
     number-requires-2
     cookie-fields-requires
     state-numbers-requires

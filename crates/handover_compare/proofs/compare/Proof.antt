@@ -1,21 +1,35 @@
 -- `compare` meets its contract: the left file, and then the right one.
 -- Assumes nothing.
-use mathlib.Core.Path.{_∙_}
+use mathlib.Core.Path.{refl, sym, _∙_}
+use native.Mathlib.Omega.{arith}
 use denote.Ref.{now}
 use lib.ListN.{length}
+use Rattle.words.specs.Bytes.{part}
+use Rattle.handover_file.specs.Answers.{loadOf}
+use Rattle.handover_read.proofs.Within.{found-is}
 use Rattle.handover_compare.proofs.Told.{left-by, left-out-by}
 use borrow.Author.Needs.{needs}
 use Rattle.handover_compare.proofs.compare.Statement.{statement}
 use Rattle.handover_compare.proofs.compare.Tie as tie
 
-load-requires : tie.Need-load-requires
-load-requires c κs = search needs
+read-requires : tie.Need-read-requires
+read-requires c κs = search needs
 
 enum-told : tie.Need-enum-told
 enum-told c = search needs
 
+sub-compare-right : tie.Need-sub-compare-right
+sub-compare-right c = let a = c .before .before .before .before .before .before .before .before .args in let w = found-is (now (a .left)) (c .before .before .before .before .read .result) (c .before .before .before .before .read .ensures) _ (c .enum-told .given .1) in omega (arith, w .ordered)
+
+part-compare-right-start : tie.Need-part-compare-right-start
+part-compare-right-start c = let a = c .before .before .before .before .before .before .before .before .args in let w = found-is (now (a .left)) (c .before .before .before .before .read .result) (c .before .before .before .before .read .ensures) _ (c .enum-told .given .1) in omega (arith, w .ordered)
+
+part-compare-right-end : tie.Need-part-compare-right-end
+part-compare-right-end c = let a = c .before .before .before .before .before .before .before .before .args in let w = found-is (now (a .left)) (c .before .before .before .before .read .result) (c .before .before .before .before .read .ensures) _ (c .enum-told .given .1) in omega (arith, w .inside)
+
 compare-right-requires : tie.Need-compare-right-requires
-compare-right-requires c κs = search needs
+unfolding part
+compare-right-requires c κs = let a = c .before .before .before .before .before .before .before .before .before .before .args in let w = found-is (now (a .left)) (c .before .before .before .before .before .before .read .result) (c .before .before .before .before .before .before .read .ensures) _ (c .before .before .enum-told .given .1) in (w .fits, w .known)
 
 enum-told-2 : tie.Need-enum-told-2
 enum-told-2 c = search needs
@@ -30,39 +44,48 @@ same-length : tie.Need-same-length
 same-length c = search needs
 
 returns : tie.Need-returns
+unfolding part
 returns c =
-    let a = c .before .before .before .before .before .before .before .before .before .before .before .args in
-    let o = c .before .before .before .before .before .before .before .load in
-    let told = c .before .before .before .before .enum-told .given .1 in
-    (c .before .before .compare-right .ensures .0 ∙ left-by (o .result) (now (a .left)) (o .ensures) told (now (a .right)) (length (now (a .out))), c .before .before .compare-right .ensures .1 ∙ left-out-by (o .result) (now (a .left)) (o .ensures) told (now (a .right)) (now (a .out)))
+    let a = c .before .before .before .before .before .before .before .before .before .before .before .before .before .args in
+    let w = found-is (now (a .left)) (c .before .before .before .before .before .before .before .before .before .read .result) (c .before .before .before .before .before .before .before .before .before .read .ensures) _ (c .before .before .before .before .before .enum-told .given .1) in
+    let h = c .before .before .before .before .before .enum-told .given .1 in (
+      c .before .before .compare-right .ensures .0 ∙ left-by (now (a .left)) (c .before .before .before .before .before .before .before .before .before .read .result) (c .before .before .before .before .before .before .before .before .before .read .ensures) h _ (sym (w .association)) (now (a .right)) (length (now (a .out))),
+      c .before .before .compare-right .ensures .1 ∙ left-out-by (now (a .left)) (c .before .before .before .before .before .before .before .before .before .read .result) (c .before .before .before .before .before .before .before .before .before .read .ensures) h _ (sym (w .association)) (now (a .right)) (now (a .out)),
+    )
 
 returns-2 : tie.Need-returns-2
 returns-2 c =
-    let a = c .before .before .before .before .before .before .before .args in
-    let o = c .before .before .before .load in
-    let told = c .enum-told2 .given .1 in
-    (left-by (o .result) (now (a .left)) (o .ensures) told (now (a .right)) (length (now (a .out))), left-out-by (o .result) (now (a .left)) (o .ensures) told (now (a .right)) (now (a .out)))
+    let a = c .before .before .before .before .before .before .before .before .args in
+    let h = c .enum-told2 .given .1 in (
+      left-by (now (a .left)) (c .before .before .before .before .read .result) (c .before .before .before .before .read .ensures) h (loadOf (now (a .left)) .association) refl (now (a .right)) (length (now (a .out))),
+      left-out-by (now (a .left)) (c .before .before .before .before .read .result) (c .before .before .before .before .read .ensures) h (loadOf (now (a .left)) .association) refl (now (a .right)) (now (a .out)),
+    )
 
 returns-3 : tie.Need-returns-3
 returns-3 c =
-    let a = c .before .before .before .before .before .before .before .args in
-    let o = c .before .before .before .load in
-    let told = c .enum-told3 .given .1 in
-    (left-by (o .result) (now (a .left)) (o .ensures) told (now (a .right)) (length (now (a .out))), left-out-by (o .result) (now (a .left)) (o .ensures) told (now (a .right)) (now (a .out)))
+    let a = c .before .before .before .before .before .before .before .before .args in
+    let h = c .enum-told3 .given .1 in (
+      left-by (now (a .left)) (c .before .before .before .before .read .result) (c .before .before .before .before .read .ensures) h (loadOf (now (a .left)) .association) refl (now (a .right)) (length (now (a .out))),
+      left-out-by (now (a .left)) (c .before .before .before .before .read .result) (c .before .before .before .before .read .ensures) h (loadOf (now (a .left)) .association) refl (now (a .right)) (now (a .out)),
+    )
 
 returns-4 : tie.Need-returns-4
 returns-4 c =
-    let a = c .before .before .before .before .before .before .before .args in
-    let o = c .before .before .before .load in
-    let told = c .enum-told4 .given .1 in
-    (left-by (o .result) (now (a .left)) (o .ensures) told (now (a .right)) (length (now (a .out))), left-out-by (o .result) (now (a .left)) (o .ensures) told (now (a .right)) (now (a .out)))
+    let a = c .before .before .before .before .before .before .before .before .args in
+    let h = c .enum-told4 .given .1 in (
+      left-by (now (a .left)) (c .before .before .before .before .read .result) (c .before .before .before .before .read .ensures) h (loadOf (now (a .left)) .association) refl (now (a .right)) (length (now (a .out))),
+      left-out-by (now (a .left)) (c .before .before .before .before .read .result) (c .before .before .before .before .read .ensures) h (loadOf (now (a .left)) .association) refl (now (a .right)) (now (a .out)),
+    )
 
 pub compare-spec : {M : Type 1} → statement M
 compare-spec =
     tie.close
     (tie.spec
-    load-requires
+    read-requires
     enum-told
+    sub-compare-right
+    part-compare-right-start
+    part-compare-right-end
     compare-right-requires
     enum-told-2
     enum-told-3

@@ -1,21 +1,36 @@
--- `compare_right` meets its contract: the right file, and then the two records.
+-- `compare_right` meets its contract: the right file, and then the two associations.
 -- Assumes nothing.
-use mathlib.Core.Path.{_∙_}
+use mathlib.Core.Path.{refl, sym, _∙_}
+use native.Mathlib.Omega.{arith}
 use denote.Ref.{now}
 use lib.ListN.{length}
+use Rattle.words.specs.Bytes.{part}
+use Rattle.handover_file.specs.Answers.{loadOf}
+use Rattle.handover_read.proofs.Within.{found-is}
+use Rattle.handover_compare.specs.Made.{madeOf}
 use Rattle.handover_compare.proofs.Told.{right-by, right-out-by}
 use borrow.Author.Needs.{needs}
 use Rattle.handover_compare.proofs.compare_right.Statement.{statement}
 use Rattle.handover_compare.proofs.compare_right.Tie as tie
 
-load-requires : tie.Need-load-requires
-load-requires c κs = search needs
+read-requires : tie.Need-read-requires
+read-requires c κs = search needs
 
 enum-told : tie.Need-enum-told
 enum-told c = search needs
 
-compare-associations-requires : tie.Need-compare-associations-requires
-compare-associations-requires c κs = search needs
+sub-compare-found : tie.Need-sub-compare-found
+sub-compare-found c = let a = c .before .before .before .before .before .before .before .before .args in let w = found-is (now (a .right)) (c .before .before .before .before .read .result) (c .before .before .before .before .read .ensures) _ (c .enum-told .given .1) in omega (arith, w .ordered)
+
+part-compare-found-start : tie.Need-part-compare-found-start
+part-compare-found-start c = let a = c .before .before .before .before .before .before .before .before .args in let w = found-is (now (a .right)) (c .before .before .before .before .read .result) (c .before .before .before .before .read .ensures) _ (c .enum-told .given .1) in omega (arith, w .ordered)
+
+part-compare-found-end : tie.Need-part-compare-found-end
+part-compare-found-end c = let a = c .before .before .before .before .before .before .before .before .args in let w = found-is (now (a .right)) (c .before .before .before .before .read .result) (c .before .before .before .before .read .ensures) _ (c .enum-told .given .1) in omega (arith, w .inside)
+
+compare-found-requires : tie.Need-compare-found-requires
+unfolding part
+compare-found-requires c κs = let a = c .before .before .before .before .before .before .before .before .before .before .args in let w = found-is (now (a .right)) (c .before .before .before .before .before .before .read .result) (c .before .before .before .before .before .before .read .ensures) _ (c .before .before .enum-told .given .1) in (c .before .before .before .before .before .before .before .before .before .before .pre .0, c .before .before .before .before .before .before .before .before .before .before .pre .1, w .fits, w .known)
 
 enum-told-2 : tie.Need-enum-told-2
 enum-told-2 c = search needs
@@ -30,40 +45,49 @@ same-length : tie.Need-same-length
 same-length c = search needs
 
 returns : tie.Need-returns
+unfolding part
 returns c =
-    let a = c .before .before .before .before .before .before .before .before .before .before .args in
-    let o = c .before .before .before .before .before .before .before .load in
-    let told = c .before .before .before .before .enum-told .given .1 in
-    (c .before .before .compare-associations .ensures .0 ∙ right-by (o .result) (now (a .right)) (o .ensures) told (a .l) (length (now (a .out))), c .before .before .compare-associations .ensures .1 ∙ right-out-by (o .result) (now (a .right)) (o .ensures) told (a .l) (now (a .out)))
+    let a = c .before .before .before .before .before .before .before .before .before .before .before .before .before .args in
+    let w = found-is (now (a .right)) (c .before .before .before .before .before .before .before .before .before .read .result) (c .before .before .before .before .before .before .before .before .before .read .ensures) _ (c .before .before .before .before .before .enum-told .given .1) in
+    let h = c .before .before .before .before .before .enum-told .given .1 in (
+      c .before .before .compare-found .ensures .0 ∙ right-by (now (a .right)) (c .before .before .before .before .before .before .before .before .before .read .result) (c .before .before .before .before .before .before .before .before .before .read .ensures) h _ (sym (w .association)) (madeOf (a .l) (a .p) (now (a .left))) (length (now (a .out))),
+      c .before .before .compare-found .ensures .1 ∙ right-out-by (now (a .right)) (c .before .before .before .before .before .before .before .before .before .read .result) (c .before .before .before .before .before .before .before .before .before .read .ensures) h _ (sym (w .association)) (madeOf (a .l) (a .p) (now (a .left))) (now (a .out)),
+    )
 
 returns-2 : tie.Need-returns-2
 returns-2 c =
-    let a = c .before .before .before .before .before .before .args in
-    let o = c .before .before .before .load in
-    let told = c .enum-told2 .given .1 in
-    (right-by (o .result) (now (a .right)) (o .ensures) told (a .l) (length (now (a .out))), right-out-by (o .result) (now (a .right)) (o .ensures) told (a .l) (now (a .out)))
+    let a = c .before .before .before .before .before .before .before .before .args in
+    let h = c .enum-told2 .given .1 in (
+      right-by (now (a .right)) (c .before .before .before .before .read .result) (c .before .before .before .before .read .ensures) h (loadOf (now (a .right)) .association) refl (madeOf (a .l) (a .p) (now (a .left))) (length (now (a .out))),
+      right-out-by (now (a .right)) (c .before .before .before .before .read .result) (c .before .before .before .before .read .ensures) h (loadOf (now (a .right)) .association) refl (madeOf (a .l) (a .p) (now (a .left))) (now (a .out)),
+    )
 
 returns-3 : tie.Need-returns-3
 returns-3 c =
-    let a = c .before .before .before .before .before .before .args in
-    let o = c .before .before .before .load in
-    let told = c .enum-told3 .given .1 in
-    (right-by (o .result) (now (a .right)) (o .ensures) told (a .l) (length (now (a .out))), right-out-by (o .result) (now (a .right)) (o .ensures) told (a .l) (now (a .out)))
+    let a = c .before .before .before .before .before .before .before .before .args in
+    let h = c .enum-told3 .given .1 in (
+      right-by (now (a .right)) (c .before .before .before .before .read .result) (c .before .before .before .before .read .ensures) h (loadOf (now (a .right)) .association) refl (madeOf (a .l) (a .p) (now (a .left))) (length (now (a .out))),
+      right-out-by (now (a .right)) (c .before .before .before .before .read .result) (c .before .before .before .before .read .ensures) h (loadOf (now (a .right)) .association) refl (madeOf (a .l) (a .p) (now (a .left))) (now (a .out)),
+    )
 
 returns-4 : tie.Need-returns-4
 returns-4 c =
-    let a = c .before .before .before .before .before .before .args in
-    let o = c .before .before .before .load in
-    let told = c .enum-told4 .given .1 in
-    (right-by (o .result) (now (a .right)) (o .ensures) told (a .l) (length (now (a .out))), right-out-by (o .result) (now (a .right)) (o .ensures) told (a .l) (now (a .out)))
+    let a = c .before .before .before .before .before .before .before .before .args in
+    let h = c .enum-told4 .given .1 in (
+      right-by (now (a .right)) (c .before .before .before .before .read .result) (c .before .before .before .before .read .ensures) h (loadOf (now (a .right)) .association) refl (madeOf (a .l) (a .p) (now (a .left))) (length (now (a .out))),
+      right-out-by (now (a .right)) (c .before .before .before .before .read .result) (c .before .before .before .before .read .ensures) h (loadOf (now (a .right)) .association) refl (madeOf (a .l) (a .p) (now (a .left))) (now (a .out)),
+    )
 
 pub compare-right-spec : {M : Type 1} → statement M
 compare-right-spec =
     tie.close
     (tie.spec
-    load-requires
+    read-requires
     enum-told
-    compare-associations-requires
+    sub-compare-found
+    part-compare-found-start
+    part-compare-found-end
+    compare-found-requires
     enum-told-2
     enum-told-3
     enum-told-4

@@ -1,12 +1,13 @@
 -- `load` meets its contract: how the reading of the records ended, and then what their bodies are.
 -- Assumes nothing.
 use Prim.Native.Nat.{ℕ, _+_, _-_}
-use mathlib.Core.Path.{_≡_, sym, subst, _∙_}
+use mathlib.Core.Path.{_≡_, sym, ap, subst, _∙_}
 use mathlib.Core.Bool.{true}
 use native.Mathlib.Omega.{arith}
 use lib.ListN.{length}
 use Rattle.words.specs.Bytes.{part}
 use Rattle.handover_file.specs.Cookies.{stashFits}
+use Rattle.handover_file.specs.Answers.{loadIn}
 use Rattle.handover_cut.proofs.Six.{six}
 use Rattle.handover_load.proofs.Decided.{slices, said, loads, wrong-mark, wrong-length}
 use borrow.Author.Needs.{needs}
@@ -134,7 +135,7 @@ returns : tie.Need-returns
 unfolding part
 returns c =
     let f = c .before .before .before .before .before .before .before .before .before .before .before .before .args .file .now in let s = six f (sym (c .before .before .before .before .before .before .before .before .before .before .cut .ensures) ∙ c .before .before .before .before .before .before .before .before .enum-told .given .1) in let k = said f _ (c .before .before .before .before .before .before .before .be16-at .ensures) in
-    c .association-in .ensures ∙ slices f (c .before .before .before .before .before .before .before .be16-at .result) (length f - 28) ∙ sym (loads f s _ k)
+    c .association-in .ensures ∙ ap loadIn (slices f (c .before .before .before .before .before .before .before .be16-at .result) (length f - 28)) ∙ sym (loads f s _ k)
 
 returns-2 : tie.Need-returns-2
 returns-2 c = c .refused .ensures ∙ sym (wrong-mark (c .before .before .before .before .before .args .file .now) (sym (c .before .before .before .cut .ensures) ∙ c .before .enum-told2 .given .1))

@@ -1,103 +1,22 @@
--- `header::fields_of` meets its contract: field by field, what each call ensures.
+-- `header::fields_of` meets its contract: no field lies past the first 48 bytes.
 -- Assumes nothing.
-use borrow.Author.Needs.{needs}
 use mathlib.Core.Path.{_∙_}
-use lib.ListN.{getD}
-use mir.Facts.{toZ-ofZ}
-use Rattle.identifiers.specs.Names.{named}
-use Rattle.time_types.specs.Time.{timestamp}
-use Rattle.time_types.specs.Poll.{interval}
-use Rattle.header.specs.Header.{fields}
+use native.Mathlib.Omega.{arith}
+use lib.ListN.{length-take}
+use Rattle.header.proofs.Head.{fields-head}
 use Rattle.header.proofs.fields_of.Statement.{statement}
 use Rattle.header.proofs.fields_of.Tie as tie
 
-shared-slice-read-first : tie.Need-shared-slice-read-first
-shared-slice-read-first c = search needs
+slice-aggregate-fields-in : tie.Need-slice-aggregate-fields-in
+slice-aggregate-fields-in c = omega (arith, length-take 48 (c .before .before .args .p .now), c .before .before .pre)
 
-leap-of-requires : tie.Need-leap-of-requires
-leap-of-requires c κs = search needs
-
-mode-of-requires : tie.Need-mode-of-requires
-mode-of-requires c κs = search needs
-
-shared-slice-read-stratum : tie.Need-shared-slice-read-stratum
-shared-slice-read-stratum c = search needs
-
-shared-slice-read-u8-as-i8 : tie.Need-shared-slice-read-u8-as-i8
-shared-slice-read-u8-as-i8 c = search needs
-
-u8-as-i8-requires : tie.Need-u8-as-i8-requires
-u8-as-i8-requires c κs = search needs
-
-shared-slice-read-u8-as-i8-2 : tie.Need-shared-slice-read-u8-as-i8-2
-shared-slice-read-u8-as-i8-2 c = search needs
-
-u8-as-i8-requires-2 : tie.Need-u8-as-i8-requires-2
-u8-as-i8-requires-2 c κs = search needs
-
-be32-at-requires : tie.Need-be32-at-requires
-be32-at-requires c κs = search needs
-
-be32-at-requires-2 : tie.Need-be32-at-requires-2
-be32-at-requires-2 c κs = search needs
-
-be32-at-requires-3 : tie.Need-be32-at-requires-3
-be32-at-requires-3 c κs = search needs
-
-be64-at-requires : tie.Need-be64-at-requires
-be64-at-requires c κs = search needs
-
-be64-at-requires-2 : tie.Need-be64-at-requires-2
-be64-at-requires-2 c κs = search needs
-
-be64-at-requires-3 : tie.Need-be64-at-requires-3
-be64-at-requires-3 c κs = search needs
-
-be64-at-requires-4 : tie.Need-be64-at-requires-4
-be64-at-requires-4 c κs = search needs
+fields-in-requires : tie.Need-fields-in-requires
+fields-in-requires c κs = omega (arith, length-take 48 (c .before .before .args .p .now), c .before .before .pre)
 
 returns : tie.Need-returns
-unfolding fields
 returns c =
-    let words = c .before .before .before .before .before .before .before in
-    let codes = words .before .before .before .before .before in
-    let poll = words .before .before .u8-as-i8 in
-    let precision = words .u8-as-i82 in
-    let is-poll = toZ-ofZ (record { sfits = poll .ok }) ∙ poll .ensures in
-    let is-precision = toZ-ofZ (record { sfits = precision .ok }) ∙ precision .ensures in
-    λ i. record {
-      version = codes .before .before .before .before .args .version;
-      leap = codes .before .leap-of .ensures i;
-      mode = codes .mode-of .ensures i;
-      stratum = getD (codes .before .before .before .before .args .p .now) 1 0;
-      poll = interval (is-poll i);
-      precision = is-precision i;
-      rootdelay = c .before .before .before .before .before .before .be32-at .ensures i;
-      rootdisp = c .before .before .before .before .before .be32-at2 .ensures i;
-      refid = named (c .before .before .before .before .be32-at3 .ensures i);
-      reftime = timestamp (c .before .before .before .be64-at .ensures i);
-      origin = timestamp (c .before .before .be64-at2 .ensures i);
-      receive = timestamp (c .before .be64-at3 .ensures i);
-      transmit = timestamp (c .be64-at4 .ensures i);
-    }
+    let args = c .before .before .before .args in
+    c .fields-in .ensures ∙ fields-head (args .version) (args .p .now)
 
 pub fields-of-spec : {M : Type 1} → statement M
-fields-of-spec =
-    tie.close
-    (tie.spec
-    shared-slice-read-first
-    leap-of-requires
-    mode-of-requires
-    shared-slice-read-stratum
-    shared-slice-read-u8-as-i8
-    u8-as-i8-requires
-    shared-slice-read-u8-as-i8-2
-    u8-as-i8-requires-2
-    be32-at-requires
-    be32-at-requires-2
-    be32-at-requires-3
-    be64-at-requires
-    be64-at-requires-2
-    be64-at-requires-3
-    be64-at-requires-4
-    returns)
+fields-of-spec = tie.close (tie.spec slice-aggregate-fields-in fields-in-requires returns)

@@ -1,20 +1,19 @@
-use Prim.Native.Nat.{_-_}
 use mathlib.Core.Path.{sym, _∙_}
 use native.Mathlib.Omega.{arith}
-use lib.ListN.{length}
 use Rattle.words.specs.Bytes.{part}
-use Rattle.words.proofs.Bytes.{length-part}
 use Rattle.handover_cut.proofs.Turn.{one-within}
-use Rattle.record_load.proofs.Laid.{Along, begins, known-most, room, reads, holds, goes-on, ends, no-break}
 use borrow.Author.Needs.{needs}
+use Prim.Native.Nat.{_-_}
+use lib.ListN.{length}
+use Rattle.record_load.proofs.Laid.{Along, begins, known-most, goes-on, ends, no-break}
 use Rattle.record_load.proofs.lay_all.Statement.{statement}
 use Rattle.record_load.proofs.lay_all.Tie as tie
 
 abbrev Inv-loop : tie.InvT-loop
-Inv-loop b₀ capacity body cap at₀ b at = Along capacity body b₀ b at
+Inv-loop b₀ capacity body at₀ b at = Along capacity body b₀ b at
 
 abbrev μ-loop : tie.MeasureT-loop
-μ-loop b₀ capacity body cap at₀ b at = length body - at
+μ-loop b₀ capacity body at₀ b at = length body - at
 
 loop-holds : tie.Need-loop-holds Inv-loop μ-loop
 loop-holds c = let a = c .before .before .args in let p = c .before .before .pre in begins (a .capacity) (a .body .now) (a .b .now) (p .0) (p .1) (p .2) (known-most (a .capacity) (a .body .now) (p .2) .1) (p .3)
@@ -35,15 +34,7 @@ part-lay-end : tie.Need-part-lay-end Inv-loop μ-loop
 part-lay-end c = let w = one-within _ _ _ _ _ (sym (c .before .before .before .before .held-at .ensures) ∙ c .before .before .len .given .1) in omega arith
 
 lay-requires : tie.Need-lay-requires Inv-loop μ-loop
-unfolding part
-lay-requires c κs =
-    let e = sym (c .before .before .before .before .before .held-at .ensures) ∙ c .before .before .before .len .given .1 in
-    let w = one-within _ _ _ _ _ e in
-    let a = c .before .before .before .before .before .before .before .before .before .args in
-    let o = c .before .before .before .before .before .before .loop in
-    let g = c .before .before .before .len .given .0 in
-    let r = room (a .capacity) (a .body .now) (a .b .now) (o .b) (o .at) (o .inv) _ _ _ e in
-    (o .inv .kept .sized, omega (arith, o .inv .reading .reads, reads (a .capacity) (o .b)), omega (arith, r, holds (a .capacity) (o .b)), length-part (a .body .now) (g .1 .0) (g .1 .1 .0 - g .1 .0) (omega (arith, w)) ∙ w .2)
+lay-requires c κs = search needs
 
 loop-less : tie.Need-loop-less Inv-loop μ-loop
 loop-less c = let w = one-within _ _ _ _ _ (sym (c .before .before .before .before .before .before .before .before .held-at .ensures) ∙ c .before .before .before .before .before .before .len .given .1) in omega arith
@@ -51,7 +42,8 @@ loop-less c = let w = one-within _ _ _ _ _ (sym (c .before .before .before .befo
 loop-again : tie.Need-loop-again Inv-loop μ-loop
 unfolding part
 loop-again c =
-    let a = c .before .before .before .before .before .before .before .before .before .before .before .before .args in let o = c .before .before .before .before .before .before .before .before .before .loop in
+    let a = c .before .before .before .before .before .before .before .before .before .before .before .before .args in
+    let o = c .before .before .before .before .before .before .before .before .before .loop in
     goes-on (a .capacity) (a .body .now) (a .b .now) (o .b) (o .at) (o .inv) _ _ _ (sym (c .before .before .before .before .before .before .before .before .held-at .ensures) ∙ c .before .before .before .before .before .before .len .given .1) _ (c .before .before .lay .ensures) (c .before .before .lay .kept .0)
 
 enum-told : tie.Need-enum-told Inv-loop μ-loop

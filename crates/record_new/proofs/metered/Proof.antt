@@ -1,10 +1,9 @@
-use mathlib.Core.Path.{_≡_, sym, ap, _∙_}
+-- `metered` meets its contract: refused, of a wrong size, or made, by the law of both calls.
+-- Assumes nothing.
+use mathlib.Core.Path.{sym, _∙_}
 use borrow.Author.Tests.{not-true, not-false}
-use Rattle.metered.specs.Profile as Profile
 use Rattle.record_stash.proofs.With.{sized-of}
-use Rattle.record_new.specs.declared.MeteredInBytes.the-variants as M
-use Rattle.record_new.specs.New.{gave}
-use Rattle.record_new.proofs.Made.{metered-refused, metered-wrong, metered-made}
+use Rattle.record_new.proofs.Made.{metered-calls, told-refused, told-wrong, told-made}
 use borrow.Author.Needs.{needs}
 use Rattle.record_new.proofs.metered.Statement.{statement}
 use Rattle.record_new.proofs.metered.Tie as tie
@@ -26,14 +25,8 @@ same-length c = search needs
 
 returns : tie.Need-returns
 returns c =
-    let args = c .before .before .before .before .before .before .before .before .before .before .args in
-    let profile = c .before .before .before .before .before .before .before .profile in
-    let none = c .before .before .before .before .before .before .none in
-    let number = c .before .before .before .before .before .number in
-    let if1 = c .before .before .before .before .if1 in
-    let said = profile .ensures in
-    (λ i. gave (M.Said (said i)) (none .ensures i) (c .before .before .clear .ensures i))
-    ∙ metered-refused (args .settings) (args .list .now) (args .b .now) (λ e. if1 .taken (number .ensures ∙ ap Profile.numberOf said ∙ e))
+    let call = metered-calls (c .before .before .before .before .before .before .before .before .before .before .args .settings) (c .before .before .before .before .before .before .before .before .before .before .args .list .now) (c .before .before .before .before .before .before .before .before .before .before .args .b .now) in
+    told-refused call _ (c .before .before .before .before .before .before .before .profile .ensures) _ (c .before .before .before .before .before .number .ensures) (c .before .before .before .before .if1 .taken) (c .before .before .before .before .before .before .none .ensures) (c .before .before .clear .ensures)
 
 sized-requires : tie.Need-sized-requires
 sized-requires c κs = search needs
@@ -43,13 +36,8 @@ same-length-2 c = search needs
 
 returns-2 : tie.Need-returns-2
 returns-2 c =
-    let args = c .before .before .before .before .before .before .before .before .before .args in
-    let profile = c .before .before .before .before .before .before .profile in
-    let none = c .before .before .before .before .before .none in
-    let number = c .before .before .before .before .number in
-    let zero = sym (number .ensures ∙ ap Profile.numberOf (profile .ensures)) ∙ c .before .before .before .if1 .left in
-    (λ i. gave M.WrongSize (none .ensures i) (args .b .now))
-    ∙ metered-wrong (args .settings) (args .list .now) (args .b .now) zero (sym (c .before .sized .ensures) ∙ not-true _ (c .if2 .taken))
+    let call = metered-calls (c .before .before .before .before .before .before .before .before .before .args .settings) (c .before .before .before .before .before .before .before .before .before .args .list .now) (c .before .before .before .before .before .before .before .before .before .args .b .now) in
+    told-wrong call _ (c .before .before .before .before .before .before .profile .ensures) _ (c .before .before .before .before .number .ensures) (c .before .before .before .if1 .left) (sym (c .before .sized .ensures) ∙ not-true _ (c .if2 .taken)) (c .before .before .before .before .before .none .ensures)
 
 make-requires : tie.Need-make-requires
 make-requires c κs =
@@ -61,17 +49,8 @@ same-length-3 c = search needs
 
 returns-3 : tie.Need-returns-3
 returns-3 c =
-    let args = c .before .before .before .before .before .before .before .before .before .before .before .before .before .args in
-    let profile = c .before .before .before .before .before .before .before .before .before .before .profile in
-    let number = c .before .before .before .before .before .before .before .before .number in
-    let if1 = c .before .before .before .before .before .before .before .if1 in
-    let sized = c .before .before .before .before .before .sized in
-    let if2 = c .before .before .before .before .if2 in
-    let make = c .before .before .make in
-    let said = profile .ensures in
-    let zero = sym (number .ensures ∙ ap Profile.numberOf said) ∙ if1 .left in
-    (λ i. gave (M.Said (said i)) (make .result) (make .last .0))
-    ∙ metered-made (args .settings) (args .list .now) (args .b .now) (make .result) (make .last .0) (make .ensures) zero (sym (sized .ensures) ∙ not-false _ (if2 .left))
+    let call = metered-calls (c .before .before .before .before .before .before .before .before .before .before .before .before .before .args .settings) (c .before .before .before .before .before .before .before .before .before .before .before .before .before .args .list .now) (c .before .before .before .before .before .before .before .before .before .before .before .before .before .args .b .now) in
+    told-made call _ (c .before .before .before .before .before .before .before .before .before .before .profile .ensures) _ (c .before .before .before .before .before .before .before .before .number .ensures) (c .before .before .before .before .before .before .before .if1 .left) (sym (c .before .before .before .before .before .sized .ensures) ∙ not-false _ (c .before .before .before .before .if2 .left)) (c .before .before .make .ensures)
 
 pub metered-spec : {M : Type 1} → statement M
 metered-spec =

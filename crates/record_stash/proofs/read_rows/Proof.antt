@@ -22,13 +22,10 @@ abbrev μ-loop : tie.MeasureT-loop
 loop-holds : tie.Need-loop-holds Inv-loop μ-loop
 loop-holds c = (omega arith, omega arith, front-none 8 _, padded-start (c .before .args .b .now) (c .before .args .cap))
 
-add-be16-at : tie.Need-add-be16-at Inv-loop μ-loop
-add-be16-at c =
+length-at-requires : tie.Need-length-at-requires Inv-loop μ-loop
+length-at-requires c κs =
     let pre = c .before .before .before .pre in
     omega (arith, pre .long, pre .most)
-
-be16-at-requires : tie.Need-be16-at-requires Inv-loop μ-loop
-be16-at-requires c κs = search needs
 
 mul-lens : tie.Need-mul-lens Inv-loop μ-loop
 mul-lens c = search needs
@@ -39,7 +36,7 @@ array-write-lens c = search needs
 padded-at-requires : tie.Need-padded-at-requires Inv-loop μ-loop
 padded-at-requires c κs =
     let pre = c .before .before .before .before .pre in
-    (omega (arith, pre .long), c .be16-at .ensures)
+    (omega (arith, pre .long), c .length-at .ensures)
 
 both-requires : tie.Need-both-requires Inv-loop μ-loop
 both-requires c κs = search needs
@@ -65,7 +62,7 @@ loop-again c =
     let ahead : Bool → Bool = λ t. t && allPadded (slotsIn b (loop .at + 726) (cap - (loop .i + 1))) in (
       omega arith,
       omega arith,
-      rw (loop .inv .2) (lens-more b cap (loop .i) (loop .at) _ (omega arith) (pre .most) (loop .inv .1) (c .before .before .be16-at .ensures)),
+      rw (loop .inv .2) (lens-more b cap (loop .i) (loop .at) _ (omega arith) (pre .most) (loop .inv .1) (c .before .before .length-at .ensures)),
       loop .inv .3 ∙ padded-more b (loop .at) cap (loop .i) (loop .padded) _ (omega arith) (c .before .padded-at .ensures) ∙ ap ahead (sym (c .both .ensures)),
     )
 
@@ -85,8 +82,7 @@ read-rows-spec =
     Inv-loop
     μ-loop
     loop-holds
-    add-be16-at
-    be16-at-requires
+    length-at-requires
     mul-lens
     array-write-lens
     padded-at-requires

@@ -38,26 +38,26 @@ shared-slice-read-held c =
 cast-held : tie.Need-cast-held
 cast-held c = omega (arith, c .shared-slice-known3 .given 28)
 
-sub-zeros-from : tie.Need-sub-zeros-from
-sub-zeros-from c =
+sub-zero-rows : tie.Need-sub-zero-rows
+sub-zero-rows c =
     let args = c .before .before .before .before .before .before .args in
     let sized = c .before .before .before .before .sized in
     let s = sized-of (args .b .now) (args .capacity) (sym (sized .ensures) ∙ not-false _ (c .before .before .before .if1 .left)) in omega (arith, s .long)
 
-part-zeros-from-start : tie.Need-part-zeros-from-start
-part-zeros-from-start c =
+part-zero-rows-start : tie.Need-part-zero-rows-start
+part-zero-rows-start c =
     let args = c .before .before .before .before .before .before .args in
     let sized = c .before .before .before .before .sized in
     let s = sized-of (args .b .now) (args .capacity) (sym (sized .ensures) ∙ not-false _ (c .before .before .before .if1 .left)) in omega (arith, s .long)
 
-part-zeros-from-end : tie.Need-part-zeros-from-end
-part-zeros-from-end c = search needs
+part-zero-rows-end : tie.Need-part-zero-rows-end
+part-zero-rows-end c = search needs
 
-zeros-from-requires : tie.Need-zeros-from-requires
-zeros-from-requires c κs = search needs
+zero-rows-requires : tie.Need-zero-rows-requires
+zero-rows-requires c κs = search needs
 
-seen-from-requires : tie.Need-seen-from-requires
-seen-from-requires c κs = search needs
+seen-empty-requires : tie.Need-seen-empty-requires
+seen-empty-requires c κs = search needs
 
 returns-2 : tie.Need-returns-2
 returns-2 c =
@@ -68,9 +68,10 @@ returns-2 c =
     let cap = args .capacity in
     let e = sym (sized .ensures) ∙ not-false _ (if1 .left) in
     let s = sized-of b cap e in
-    let z : zeros (drop 92 b) ≡ true = ap zeros (sym (take-all (length b - 92) (drop 92 b) (omega (arith, length-drop 92 b)))) ∙ sym (c .before .before .zeros-from .ensures) ∙ c .before .if3 .taken in
-    c .seen-from .ensures
-    ∙ (λ i. seenFrom cap (getD b 27 0) (getD b 28 0) (sym (empty-padded b cap s z) i) (sym (empty-lens b cap s z) i))
+    let z : zeros (drop 92 b) ≡ true = ap zeros (sym (take-all (length b - 92) (drop 92 b) (omega (arith, length-drop 92 b)))) ∙ sym (c .before .before .zero-rows .ensures) ∙ c .before .if3 .taken in
+    let none : getD b 28 0 ≡ 0 = c .before .before .before .before .if2 .taken in
+    c .seen-empty .ensures
+    ∙ (λ i. seenFrom cap (getD b 27 0) (sym none i) (sym (empty-padded b cap s z) i) (sym (empty-lens b cap s z) i))
     ∙ seen-in b cap
     ∙ sym (seen-is cap b e)
 
@@ -80,8 +81,8 @@ read-rows-requires c κs =
     let sized = c .before .before .before .before .sized in
     sized-of (args .b .now) (args .capacity) (sym (sized .ensures) ∙ not-false _ (c .before .before .before .if1 .left))
 
-seen-from-requires-2 : tie.Need-seen-from-requires-2
-seen-from-requires-2 c κs = search needs
+seen-from-requires : tie.Need-seen-from-requires
+seen-from-requires c κs = search needs
 
 returns-3 : tie.Need-returns-3
 returns-3 c =
@@ -90,7 +91,7 @@ returns-3 c =
     let if1 = c .before .before .before .before .before .before .if1 in
     let read-rows = c .before .before .read-rows in
     let b = args .b .now in
-    c .seen-from2 .ensures
+    c .seen-from .ensures
     ∙ (λ i. seenFrom (args .capacity) (getD b 27 0) (getD b 28 0) (read-rows .ensures i .padded) (read-rows .ensures i .lens))
     ∙ seen-in b (args .capacity)
     ∙ sym (seen-is (args .capacity) b (sym (sized .ensures) ∙ not-false _ (if1 .left)))
@@ -105,12 +106,12 @@ see-spec =
     cast-read
     shared-slice-read-held
     cast-held
-    sub-zeros-from
-    part-zeros-from-start
-    part-zeros-from-end
-    zeros-from-requires
-    seen-from-requires
+    sub-zero-rows
+    part-zero-rows-start
+    part-zero-rows-end
+    zero-rows-requires
+    seen-empty-requires
     returns-2
     read-rows-requires
-    seen-from-requires-2
+    seen-from-requires
     returns-3)

@@ -87,16 +87,13 @@ returns-6 c =
       sym (c .before .answers .ensures) ∙ not-true _ (c .if6 .taken),
     )
 
-stepped-requires : tie.Need-stepped-requires
-stepped-requires c κs = search needs
-
 matched-requires : tie.Need-matched-requires
 matched-requires c κs = search needs
 
 returns-7 : tie.Need-returns-7
 unfolding judgeOf
 returns-7 c =
-    let a = c .before .before in
+    let a = c .before in
     let q = a .before .before in
     let m = q .before .before in
     let n = m .before .before in
@@ -109,8 +106,7 @@ returns-7 c =
       sym (m .before .already-measured .ensures) ∙ m .if4 .left,
       sym (q .before .expired .ensures) ∙ q .if5 .left,
       sym (a .before .answers .ensures) ∙ not-false _ (a .if6 .left),
-      ← c .before .stepped .ensures,
-    ) (c .matched .ensures)
+    ) (c .matched .ensures _)
 
 pub judge-spec : {M : Type 1} → statement M
-judge-spec = tie.close (tie.spec list-broken-requires returns expects-requires returns-2 never-sent-requires returns-3 already-measured-requires returns-4 expired-requires returns-5 answers-requires returns-6 stepped-requires matched-requires returns-7)
+judge-spec = tie.close (tie.spec list-broken-requires returns expects-requires returns-2 never-sent-requires returns-3 already-measured-requires returns-4 expired-requires returns-5 answers-requires returns-6 matched-requires returns-7)

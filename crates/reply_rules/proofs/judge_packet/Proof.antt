@@ -1,9 +1,11 @@
 -- `judge_packet` meets its contract: the record, the packet, and then the judge, each by its function.
 -- Assumes nothing.
-use mathlib.Core.Path.{_≡_, sym, _∙_}
+use mathlib.Core.Path.{_≡_, sym, ap, _∙_}
 use borrow.Author.Needs.{needs}
 use borrow.Author.Tests.{not-true, not-false}
 use Rattle.reply_rules.specs.Judge.{readWith, verdictOf}
+use Rattle.reply_rules.specs.Told.{toldOf}
+use Rattle.reply_rules.proofs.Follows.{judged-told}
 use Rattle.reply_rules.proofs.Unread.{read-awaited}
 use Rattle.reply_rules.proofs.judge_packet.Statement.{statement}
 use Rattle.reply_rules.proofs.judge_packet.Tie as tie
@@ -43,13 +45,19 @@ returns-2 c =
 judge-requires : tie.Need-judge-requires
 judge-requires c κs = search needs
 
+told-requires : tie.Need-told-requires
+told-requires c κs = search needs
+
 returns-3 : tie.Need-returns-3
 unfolding verdictOf
 returns-3 c =
-    let d = c .before .before in
+    let d = c .before .before .before in
     let k = d .before .before in
     let w = k .before .before .before in
-    rw (sym (w .before .whole-seen .ensures) ∙ not-false _ (w .if1 .left), sym (was-read k) ∙ d .reply .given .1) (c .judge .ensures)
+    let a = w .before .before .before .before .before .args in
+    let j = c .before .judge in
+    rw (sym (w .before .whole-seen .ensures) ∙ not-false _ (w .if1 .left), sym (was-read k) ∙ d .reply .given .1)
+    (c .told .ensures ∙ ap (toldOf (a .settings) (a .s) _) (j .ensures) ∙ sym (judged-told (a .settings) (a .s) _ _))
 
 pub judge-packet-spec : {M : Type 1} → statement M
 judge-packet-spec =
@@ -63,4 +71,5 @@ judge-packet-spec =
     enum-told
     returns-2
     judge-requires
+    told-requires
     returns-3)

@@ -131,6 +131,18 @@ impl super::RequestIdentifier {
 }
 
 impl super::NtpPacket<'_> {
+    /// Type and body of each field of a V4 packet, in its order, but for the 0404 fields, which the crate does not keep.
+    pub fn fields(&self) -> Vec<(u16, Vec<u8>)> {
+        let told = |field: &ExtensionField<'_>| match field {
+            ExtensionField::UniqueIdentifier(body) => (0x0104, body.to_vec()),
+            ExtensionField::NtsCookie(body) => (0x0204, body.to_vec()),
+            ExtensionField::NtsCookiePlaceholder { cookie_length } => (0x0304, vec![0; *cookie_length as usize]),
+            ExtensionField::Unknown { type_id, data } => (*type_id, data.to_vec()),
+            _ => panic!("a field that a V4 packet does not have"),
+        };
+        self.efdata.authenticated.iter().chain(&self.efdata.untrusted).map(told).collect()
+    }
+
     /// Authenticated, encrypted, untrusted: none if no uid is there, else whether all agree.
     pub fn uid_groups(&self, uid: &[u8; 32]) -> [Option<bool>; 3] {
         [&self.efdata.authenticated, &self.efdata.encrypted, &self.efdata.untrusted]

@@ -1,0 +1,2 @@
+-- The definitions that the contracts of `handover_read` cite.
+pub mod Reading

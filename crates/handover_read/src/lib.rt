@@ -1,0 +1,177 @@
+// A hand-over file read where it lies: what it is refused for, or its settings, its state, and where the body of its stash is. No stash is made.
+// Promises: of any bytes the answer of loading them; the association of a file that loads has these settings, this state, and the stash that the body is.
+// Rule: RULES, No. 6, No. 12 and No. 14; definitions in specs/Reading.antt, what it has to do with loading in proofs/Within.antt.
+use association::Settings;
+use association::State;
+use cookiestash::Seen;
+use handover_cut::Held;
+use handover_cut::Stop;
+use handover_file::LoadAnswer;
+ghost use mathlib.Core.Path.{_≡_};
+ghost use mathlib.Core.Bool.{true, _&&_};
+ghost use mathlib.Core.List.{[], _∷_};
+ghost use lib.ListN.{length};
+ghost use Rattle.association.specs.Record.{wholeSeen};
+ghost use Rattle.handover_groups.specs.Settings.{settingsKnown};
+ghost use Rattle.handover_groups.specs.State.{versionKnown, sourceKnown};
+ghost use Rattle.handover_file.specs.Cookies.{stashFits, heldIn, stashKnown};
+ghost use Rattle.handover_read.specs.Reading.{countedOf, decidedOf, refusedAs, foundAs, readOf};
+
+// How many bytes a file has behind the stash's body.
+const BEHIND: usize = 28;
+
+// What a file is read as: the answer of loading it; and where it loads the settings, the state, and the stash's body, from start and before end.
+// Of a file that is refused only the answer counts.
+pub struct FileRead {
+    pub answer: LoadAnswer,
+    pub settings: Settings,
+    pub state: State,
+    pub start: usize,
+    pub end: usize,
+}
+
+// What six bodies are: whether an association, and which settings and state it is loaded with.
+struct Decided {
+    loads: bool,
+    retired: bool,
+    settings: Settings,
+    state: State,
+}
+
+// How many cookies the body of a stash's record has.
+fn count_in(body: &[u8]) -> usize
+    requires { ⌜ stashFits (now body) ≡ true ⌝ }
+    ensures { λ r. ⌜ r ≡ length (heldIn (now (body .entry))) ⌝ }
+{
+    let mut at: usize = 1;
+    let mut n: usize = 0;
+    loop {
+        match handover_cut::held_at(body, at) {
+            Held::One {
+                len: _,
+                start: _,
+                end,
+            } => {
+                n = n + 1;
+                at = end;
+            }
+            Held::End => {
+                return n;
+            }
+            Held::Broken => {
+                return n;
+            }
+        }
+    }
+}
+
+// Whether the bodies are an association, of the settings and the state that it would be loaded with.
+fn is_whole(se: &[u8], st: &[u8], ve: &[u8], so: &[u8], settings: Settings, state: State) -> bool
+    requires { ⌜ stashFits (now st) ≡ true ⌝ }
+    ensures { λ r. ⌜ r
+        ≡ ((settingsKnown (now (se .entry))
+        && (stashKnown (settings .capacity) (now (st .entry)) && (versionKnown (now (ve .entry)) && sourceKnown (now (so .entry)))))
+        && wholeSeen settings (countedOf (now (st .entry))) state) ⌝ }
+{
+    if !handover_groups::settings_known(se) {
+        return false;
+    }
+    let held = count_in(st);
+    let read = handover_load::place_of(st) as usize;
+    if !cookiestash::in_range(settings.capacity as usize, read, held) {
+        return false;
+    }
+    if !handover_groups::version_known(ve) {
+        return false;
+    }
+    if !handover_groups::source_known(so) {
+        return false;
+    }
+    let seen = Seen {
+        whole: true,
+        found: false,
+        len: 0,
+        gap: 0,
+        read,
+        held,
+    };
+    association::whole_seen(settings, seen, state)
+}
+
+fn decide(se: &[u8], st: &[u8], re: &[u8], ve: &[u8], po: &[u8], so: &[u8]) -> Decided
+    requires { ⌜ stashFits (now st) ≡ true ⌝ }
+    ensures { λ r. ⌜ r ≡ decidedOf (now (se .entry) ∷ now (st .entry) ∷ now (re .entry) ∷ now (ve .entry) ∷ now (po .entry) ∷ now (so .entry) ∷ []) ⌝ }
+{
+    let given = handover_groups::settings_of(se);
+    let read = handover_load::state_in(re, ve, po, so);
+    let retired = handover_load::is_retired(given, read);
+    let settings = handover_load::settled_settings(given);
+    let state = handover_load::settled_state(read);
+    let loads = is_whole(se, st, ve, so, settings, state);
+    Decided {
+        loads,
+        retired,
+        settings,
+        state,
+    }
+}
+
+// A file that is refused: settings and state are those of no bytes.
+fn refused(answer: LoadAnswer) -> FileRead
+    ensures { λ r. ⌜ r ≡ refusedAs answer ⌝ }
+{
+    let bytes = [0u8; 1];
+    let none = &bytes[1..1];
+    let settings = handover_groups::settings_of(none);
+    let state = handover_load::state_in(none, none, none, none);
+    FileRead {
+        answer,
+        settings,
+        state,
+        start: 0,
+        end: 0,
+    }
+}
+
+// A file whose six records are there.
+fn found(d: Decided, start: usize, end: usize) -> FileRead
+    ensures { λ r. ⌜ r ≡ foundAs d start end ⌝ }
+{
+    if !d.loads {
+        return refused(LoadAnswer::NoAssociation);
+    }
+    let answer = LoadAnswer::Loaded { retired: d.retired };
+    let settings = d.settings;
+    let state = d.state;
+    FileRead {
+        answer,
+        settings,
+        state,
+        start,
+        end,
+    }
+}
+
+// Reads a file: the settings say how long they are.
+pub fn read(file: &[u8]) -> FileRead
+    ensures { λ r. ⌜ r ≡ readOf (now (file .entry)) ⌝ }
+{
+    match handover_cut::cut(file) {
+        Stop::Good => {
+            let k = words::be16_at(file, 2) as usize;
+            let start = 8 + k;
+            let end = file.len() - BEHIND;
+            let d = decide(
+                &file[4..4 + k],
+                &file[start..end],
+                &file[end + 4..end + 6],
+                &file[end + 10..end + 12],
+                &file[end + 16..end + 18],
+                &file[end + 22..end + 28],
+            );
+            found(d, start, end)
+        }
+        Stop::Misplaced => refused(LoadAnswer::WrongMark),
+        Stop::Missized => refused(LoadAnswer::WrongLength),
+    }
+}

@@ -1,5 +1,0 @@
--- What holds along any log.
-pub mod Along
-pub mod Rate
-pub mod Retired
-pub mod Unanswered

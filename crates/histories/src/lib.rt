@@ -1,1 +1,0 @@
-// What holds along any log of timers and replies. Definitions and theorems only, no code.

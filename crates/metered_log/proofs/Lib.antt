@@ -1,3 +1,0 @@
--- What holds of a metered association along any log.
-pub mod Polls
-pub mod Plain

@@ -1,2 +1,0 @@
--- Statements over logs of a metered association.
-pub mod Polls

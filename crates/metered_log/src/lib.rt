@@ -1,1 +1,0 @@
-// A metered association along any log of timers and replies. Definitions and theorems only, no code.

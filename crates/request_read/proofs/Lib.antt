@@ -1,2 +1,0 @@
--- The theorems.
-pub mod Reading
