@@ -433,7 +433,7 @@ struct reckonstile_field reckonstile_field_at(const uint8_t *packet, size_t pack
      - 0, to which the answer is 1, where an authenticator does not hold, where its nonce and ciphertext do not fit into it, where the deciphered bytes are no
        whole fields, and where there is one without NTS.
    `decrypted` are the deciphered bytes of these fields, one behind the other, and `list` the new cookies among them (reckonstile_collect), both empty where
-   there is none; they count only with NTS. docs/CALLERS.md goes through it step by step.
+   there is none; they count only with NTS. docs/EMBEDDING.md goes through it step by step.
    A wrong `end` undoes what NTS is for: fields before it are believed. With an `end` behind the authenticator (the packet's length, say), or any but 0 where
    the authenticator does not hold, whoever sees a request can send a reply that is measured. No call can tell: the keys are the caller's.
    In this order: 32, 1, 33, 2, then 12, 13 or 14, then 4: the record is as it was. 5 to 11: a matching reply that is not measured; what of it counts the

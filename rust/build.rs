@@ -11,6 +11,8 @@ use std::path::{Path, PathBuf};
 use std::process::{exit, Command};
 
 const NAME: &str = "libreckonstile.a";
+/// The crate's face of the library, which has its revision.
+const FACE: &str = include_str!("src/ffi.rs");
 /// What the library is made of in the repository, and so what makes it stale.
 const MADE_OF: [&str; 7] = ["crates", "crates.txt", "boards", "include", "VERSION", "tools/library", "tools/proving.py"];
 
@@ -87,7 +89,7 @@ fn revision(text: &str, mark: &str) -> Option<u32> {
 }
 
 /// Stops unless a library is the one that PROOF names, of this crate's revision, and where `crates` are the sources that are there, proved from them.
-fn hold(file: &Path, crate_: &Path, crates: Option<&Path>) {
+fn hold(file: &Path, crates: Option<&Path>) {
     let folder = file.parent().unwrap_or(Path::new("."));
     let (proof_at, header_at) = (folder.join("PROOF"), folder.join("reckonstile.h"));
     if !proof_at.is_file() {
@@ -104,7 +106,7 @@ fn hold(file: &Path, crate_: &Path, crates: Option<&Path>) {
             file.display()
         ));
     }
-    let Some(ours) = revision(&text(&crate_.join("src/ffi.rs")), "\npub const REVISION: u32 = 0x") else {
+    let Some(ours) = revision(FACE, "\npub const REVISION: u32 = 0x") else {
         stop("src/ffi.rs has no line with REVISION; in the repository `tools/revision --write` writes it")
     };
     let mut theirs = vec![(proof_at, revision(&proof, "\ninterface   0x"))];
@@ -158,33 +160,30 @@ fn sources(root: &Path) -> String {
 fn main() {
     println!("cargo:rerun-if-env-changed=RECKONSTILE_LIB");
     println!("cargo:rerun-if-env-changed=NETTLE_LIB");
-    println!("cargo:rerun-if-changed=build.rs");
-    println!("cargo:rerun-if-changed=src/ffi.rs");
     let variable = |name: &str| std::env::var(name).unwrap_or_default();
     let crate_ = PathBuf::from(variable("CARGO_MANIFEST_DIR"));
-    let root = crate_.parent().unwrap_or(Path::new("/"));
-    let tool = root.join("tools/library");
-    let repository = tool.is_file() && root.join("crates.txt").is_file();
-    if repository {
+    let released = crate_.join("lib");
+    let repository = crate_
+        .ancestors()
+        .find(|at| !released.is_dir() && at.join("tools/library").is_file() && at.join("crates.txt").is_file());
+    if let Some(root) = repository {
         // Without these cargo would not ask again after a change, and would link a stale library without a word.
         MADE_OF.iter().for_each(|name| println!("cargo:rerun-if-changed={}", root.join(name).display()));
     }
-    let found = match std::env::var_os("RECKONSTILE_LIB") {
-        Some(named) => {
+    let (found, crates) = match (std::env::var_os("RECKONSTILE_LIB"), repository) {
+        (Some(named), _) => {
             let file = library(Path::new(&named)).unwrap_or_else(|| {
                 stop(&format!("there is no library at {}, which RECKONSTILE_LIB names", Path::new(&named).display()))
             });
-            hold(&file, &crate_, repository.then_some(root));
-            file
+            (file, repository)
         }
-        None => {
-            let target = variable("TARGET");
-            // What tools/library gives is made of the sources that are there.
-            let file = if repository { made(&tool, &target) } else { beside(&crate_.join("lib"), &target) };
-            hold(&file, &crate_, None);
-            file
-        }
+        (None, Some(root)) => (made(&root.join("tools/library"), &variable("TARGET")), None), // made of the sources that are there
+        (None, None) => (beside(&released, &variable("TARGET")), None),
     };
+    // The oracle is built by this file, too, over libraries of which nothing is proved.
+    if variable("CARGO_PKG_NAME") == "reckonstile" {
+        hold(&found, crates);
+    }
     let file = found.file_name().and_then(|name| name.to_str()).unwrap_or_default();
     let Some(name) = file.strip_prefix("lib").and_then(|name| name.strip_suffix(".a")) else {
         stop(&format!("{} is not named lib*.a", found.display()))

@@ -3,7 +3,7 @@
 
      cc $(pkg-config --cflags reckonstile) measure.c $(pkg-config --libs reckonstile) -o measure && ./measure
 
-   prints `measured: offset 1.250 s, delay 0.500 s, stratum 2`. docs/CALLERS.md has what each argument is. */
+   prints `measured: offset 1.250 s, delay 0.500 s, stratum 2`. docs/EMBEDDING.md has what each argument is. */
 #include <reckonstile.h>
 #include <stdio.h>
 #include <string.h>

@@ -1,4 +1,4 @@
-//! What the calls answer: each answer is an enum, and `number` gives the number that docs/CALLERS.md, the header and the drill have for it.
+//! What the calls answer: each answer is an enum, and `number` gives the number that docs/EMBEDDING.md, the header and the drill have for it.
 use crate::ffi;
 use crate::numbers;
 use crate::time::{NtpDuration, NtpInstant, NtpTimestamp, PollInterval};

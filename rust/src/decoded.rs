@@ -15,7 +15,7 @@ pub enum Uid {
     Disagree,
 }
 
-/// Which kisses a V5 reply is, as docs/CALLERS.md says.
+/// Which kisses a V5 reply is, as docs/EMBEDDING.md says.
 #[derive(Clone, Copy, Debug, Default, PartialEq, Eq, Hash)]
 pub struct Kisses {
     /// Poll more slowly.
@@ -30,7 +30,7 @@ pub struct Kisses {
     pub any: bool,
 }
 
-/// A V5 reply, which the caller decodes (docs/CALLERS.md: what each field is).
+/// A V5 reply, which the caller decodes (docs/EMBEDDING.md: what each field is).
 #[derive(Clone, Copy, Debug, PartialEq, Eq)]
 pub struct DecodedReply {
     /// The leap indicator.

@@ -2,7 +2,7 @@
 
 /// An identifier of a source: of an IPv4 address its four bytes, of an IPv6 address the first four bytes of its MD5 digest (RFC 5905, section 7.3).
 ///
-/// MD5 is the caller's, as every digest and cipher; docs/CALLERS.md has an address worked through, and `examples/connector.rs` a client that does it.
+/// MD5 is the caller's, as every digest and cipher; docs/EMBEDDING.md has an address worked through, and `examples/connector.rs` a client that does it.
 ///
 /// ```
 /// use reckonstile::ReferenceId;

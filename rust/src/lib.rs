@@ -2,8 +2,8 @@
 //! static library.
 //!
 //! The proof ends at the library's calls. This crate is what lies around them, is tested and not proved, and adds no behaviour: it has names and types for the
-//! numbers, and lets nothing be passed that the library's contract does not allow. docs/EMBEDDING.md has the order of calls and what to do on each number,
-//! docs/CALLERS.md what is handed over; `examples/connector.rs` is a whole client.
+//! numbers, and lets nothing be passed that the library's contract does not allow. docs/EMBEDDING.md has the order of calls, what is handed
+//! over and what to do on each number; `examples/connector.rs` is a whole client.
 //!
 //! No dependencies. Without the feature `std` the crate is `no_std` and allocates nothing; `std` (on by default) adds conversions from and to `std::time`, and
 //! associations on the heap. The library is the one that `RECKONSTILE_LIB` names; else in a release the one beside this crate, and in the repository the one that

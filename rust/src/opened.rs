@@ -1,4 +1,4 @@
-//! A reply of V3 or V4 with what the caller's cipher made of it: the authenticated end, the decrypted bytes and the new cookies (docs/CALLERS.md).
+//! A reply of V3 or V4 with what the caller's cipher made of it: the authenticated end, the decrypted bytes and the new cookies (docs/EMBEDDING.md).
 use crate::ffi;
 use core::fmt;
 

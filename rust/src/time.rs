@@ -222,7 +222,7 @@ impl PollInterval {
         self.0
     }
 
-    /// How long to wait for the next poll, before the caller stretches it by a random factor from 1.01 to 1.05 (docs/CALLERS.md): an exponent below 0 is taken as
+    /// How long to wait for the next poll, before the caller stretches it by a random factor from 1.01 to 1.05 (docs/EMBEDDING.md): an exponent below 0 is taken as
     /// 0, one above 31 as 31.
     #[must_use]
     pub const fn as_system_duration(self) -> Duration {

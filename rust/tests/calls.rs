@@ -1,4 +1,4 @@
-//! The crate's own words, held to what docs/CALLERS.md and the cases of RULES say; the behaviour behind them is held to the drill by `tests/embed`.
+//! The crate's own words, held to what docs/EMBEDDING.md and the cases of RULES say; the behaviour behind them is held to the drill by `tests/embed`.
 use reckonstile::{
     check_calendar, cookie_list, plan_calendar, salvage, Action, Association, Bloom, CheckRefused, Dropped, LoadRefused,
     NewRefused, NtpInstant, NtpTimestamp, Opened, PlanRefused, PollInterval, PollIntervalLimits, ProtocolVersion, ReferenceId,

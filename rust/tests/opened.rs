@@ -1,4 +1,4 @@
-//! What is authenticated of a reply, held to docs/CALLERS.md: "end" and "Several 0404 fields". The cipher is a stand-in, whose tag is a sum over all that it is to vouch
+//! What is authenticated of a reply, held to docs/EMBEDDING.md: "end" and "Several 0404 fields". The cipher is a stand-in, whose tag is a sum over all that it is to vouch
 //! for; `tests/live` has a real one.
 use reckonstile::{cookie_list, Association, NtpInstant, NtpTimestamp, Open, OpenFault, Opened, PollInterval, ReplyRefused};
 use reckonstile::{Settings, ShortScratch, Times, COOKIE_BYTES};
@@ -138,7 +138,7 @@ fn several_authenticators() {
     assert_eq!(walked(&both), (first.len(), [one.clone(), two.clone()].concat(), list, None));
     // The second does not open: nothing of the packet counts.
     assert_eq!(walked(&sealed(&first, 8, &[2; 16], &two)), refused(OpenFault::Cipher));
-    // docs/CALLERS.md: two that are broken or whole alone, and one cookie that no server sent when they are joined.
+    // docs/EMBEDDING.md: two that are broken or whole alone, and one cookie that no server sent when they are joined.
     let broken = sealed(&header(), 7, &[1; 16], &[2, 4, 0, 8]);
     assert_eq!(walked(&sealed(&broken, 7, &[2; 16], &[3, 4, 0, 4])), refused(OpenFault::Decrypted));
 }

@@ -72,7 +72,7 @@ def library(target: Optional[targets.Target] = None, make: bool = True) -> str:
     except (tool.Fault, tool.proving.Busy) as fault:
         raise Lacks('%s; or set RECKONSTILE_LIB' % fault)
     if not folder:
-        raise Lacks('the library for %s is not made, or a source has changed; `tools/library %s` proves and makes it' % (target.name, target.name))
+        raise Lacks('the library for %s is not made, or was made from another revision or other sources; `tools/library %s` proves and makes it' % (target.name, target.name))
     return os.path.join(folder, 'libreckonstile.a')
 
 

@@ -1,4 +1,4 @@
-"""What a log alone says that each call must answer. Written from docs/CALLERS.md, docs/PROMISES.md and the RFCs, over the log's own lines: it keeps no record of an
+"""What a log alone says that each call must answer. Written from docs/EMBEDDING.md, docs/PROMISES.md and the RFCs, over the log's own lines: it keeps no record of an
 association, but looks back over what was sent and what came. V3 and V4 only; a packet of another version is handed to `reply5` and is expected by no one here."""
 
 KISSES = {b'RATE': 5, b'DENY': 6, b'RSTR': 6, b'NTSN': 8}

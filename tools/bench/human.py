@@ -58,7 +58,7 @@ def moment(text):
 
 
 def identifier(text):
-    """an address's identifier: an IPv4 address itself, of an IPv6 address the first four bytes of its MD5 (docs/CALLERS.md)"""
+    """an address's identifier: an IPv4 address itself, of an IPv6 address the first four bytes of its MD5 (docs/EMBEDDING.md)"""
     try:
         address = ipaddress.ip_address(text)
     except ValueError:

@@ -5,7 +5,7 @@ from typing import NamedTuple
 
 import human
 
-UNSYNCHRONIZED = '4'  # of `leap` in the answer to a reply; 3, unknown, is said by a server that is synchronized (docs/CALLERS.md)
+UNSYNCHRONIZED = '4'  # of `leap` in the answer to a reply; 3, unknown, is said by a server that is synchronized (docs/EMBEDDING.md)
 
 
 class Instant(NamedTuple):

@@ -65,7 +65,7 @@ mod tests {
         assert_eq!(hex("abcdefghijklmnopqrstuvwxyz"), "c3fcd3d76192e4007dfb496cca67e13b");
     }
 
-    /// docs/CALLERS.md: `openssl dgst -md5` of the address's 16 bytes.
+    /// docs/EMBEDDING.md: `openssl dgst -md5` of the address's 16 bytes.
     #[test]
     fn the_identifier_of_an_address() {
         assert_eq!(identifier("2001:db8::1".parse().unwrap()).to_bits(), 0x39ab_9b37);
