@@ -83,31 +83,31 @@ extern "C" {
 #define RECKONSTILE_OK 0                       /* new, metered: made. profile: met. reply, reply_decoded: measured. accept, check_calendar: accepted.
                                                   collect: collected. write_request, save: written. salvage: salvaged. plan_calendar: planned. load: loaded.
                                                   compare: compared. look: shown. field_at: a field, or the end. blank: cleared */
-#define RECKONSTILE_UNDECODABLE 1              /* reply, reply_decoded: the packet cannot be decoded, end is 0 or no place of a field, or a decoded reply has
-                                                  an unknown code. collect: the decrypted bytes are no whole fields. field_at: a broken field */
-#define RECKONSTILE_UNEXPECTED_VERSION 2       /* reply, reply_decoded: the packet is of a version that is not expected */
+#define RECKONSTILE_UNDECODABLE 1              /* reply, reply_decoded: the packet cannot be decoded, end is 0 or not the place of a field, or a decoded
+                                                  reply has an unknown code. collect: the decrypted bytes are not whole fields. field_at: a broken field */
+#define RECKONSTILE_UNEXPECTED_VERSION 2       /* reply, reply_decoded: the packet has an unexpected version */
 #define RECKONSTILE_NO_MATCH 4                 /* reply, reply_decoded: it answers another request */
-#define RECKONSTILE_RATE 5                     /* reply, reply_decoded: the server asks for slower polls, which the next ones are */
-#define RECKONSTILE_DENIED 6                   /* reply, reply_decoded: service is denied, which is noted */
+#define RECKONSTILE_RATE 5                     /* reply, reply_decoded: the server asks for slower polls, and the next ones are slower */
+#define RECKONSTILE_DENIED 6                   /* reply, reply_decoded: service is denied, and the record notes it */
 #define RECKONSTILE_DENIED_NTS 7               /* reply, reply_decoded: service is denied, and with NTS that is believed: stop talking to this server */
-#define RECKONSTILE_NTSN 8                     /* reply, reply_decoded: the server could not make use of the cookie (NTSN) */
+#define RECKONSTILE_NTSN 8                     /* reply, reply_decoded: the server could not use the cookie (NTSN) */
 #define RECKONSTILE_OTHER_KISS 9               /* reply, reply_decoded: the server declines with some other kiss code */
 #define RECKONSTILE_BAD_STRATUM 10             /* reply, reply_decoded: the reply has a stratum over 16 */
-#define RECKONSTILE_NOT_SERVER 11              /* reply, reply_decoded: the reply does not come from a server (its mode is another) */
+#define RECKONSTILE_NOT_SERVER 11              /* reply, reply_decoded: the reply does not come from a server (by its mode) */
 #define RECKONSTILE_NEVER_SENT 12              /* reply, reply_decoded: nothing was sent yet */
 #define RECKONSTILE_ALREADY_MEASURED 13        /* reply, reply_decoded: the last poll was answered already */
 #define RECKONSTILE_EXPIRED 14                 /* reply, reply_decoded: too late: the deadline of the request has passed */
 #define RECKONSTILE_SENT 20                    /* timer: send the poll, and set the timer again */
-#define RECKONSTILE_RESET 21                   /* timer: no answer to so many polls: look the server up again and begin with a new association */
+#define RECKONSTILE_RESET 21                   /* timer: no answer to that many polls: look the server up again and begin with a new association */
 #define RECKONSTILE_DEMOBILIZE 22              /* timer: no answer, and service was denied: stop talking to this server */
 #define RECKONSTILE_NO_COOKIE 23               /* timer: no cookie is left: exchange keys again and begin with a new association */
 #define RECKONSTILE_COOKIE_TOO_LARGE 24        /* timer: the cookie is too large to send: exchange keys again and begin with a new association */
 #define RECKONSTILE_BAD_SETTINGS 30            /* new, metered, profile: a setting is outside its range, or an unknown code */
-#define RECKONSTILE_WRONG_SIZE 31              /* new, metered: the record has not the bytes of its capacity. timer: with NTS, the buffer for the cookie has
-                                                  fewer than 724 bytes. collect: the list is longer than the buffer. plan_calendar: the buffer has fewer
-                                                  starts than there are entries. load: the record has not the bytes of the file's capacity */
-#define RECKONSTILE_NOT_WHOLE 32               /* timer, reply, reply_decoded, accept, save: the record was not made by a call, or not all of it is lent.
-                                                  look: the bytes are no record: another number of them than the capacity's, or an unknown code */
+#define RECKONSTILE_WRONG_SIZE 31              /* new, metered: the record does not have the size of its capacity. timer: with NTS, the buffer for the cookie
+                                                  has fewer than 724 bytes. collect: the list is longer than the buffer. plan_calendar: the buffer has fewer
+                                                  starts than there are entries. load: the record does not have the size of the file's capacity */
+#define RECKONSTILE_NOT_WHOLE 32               /* timer, reply, reply_decoded, accept, save: the record was not made by a call, or is not lent whole. look:
+                                                  the bytes are not a record: their number is not the capacity's, or a code is unknown */
 #define RECKONSTILE_BROKEN_LIST 33             /* new, metered, profile, reply, reply_decoded: with NTS, the cookie list is broken */
 #define RECKONSTILE_LOW_POLL_MIN 34            /* metered, profile: the lower poll limit is below 8 */
 #define RECKONSTILE_HIGH_STARTUP 35            /* metered, profile: the startup limit is over 3 */
@@ -117,20 +117,20 @@ extern "C" {
 #define RECKONSTILE_HIGH_STRATUM 40            /* accept: the source's stratum is not below our own (16: nothing was measured yet) */
 #define RECKONSTILE_LOOP 41                    /* accept: the source gets its time from us */
 #define RECKONSTILE_UNREACHABLE 42             /* accept: none of the last eight polls was answered */
-#define RECKONSTILE_VERSION_FIVE 50            /* write_request: a request of version 5 is the caller's to write, and one of an unknown kind is none */
+#define RECKONSTILE_VERSION_FIVE 50            /* write_request: the caller writes requests of version 5 itself; or the kind is unknown */
 #define RECKONSTILE_SHORT_REQUEST_BUFFER 51    /* write_request: the packet is longer than the buffer */
 #define RECKONSTILE_COOKIE_OR_COUNT 52         /* write_request: the cookie has over 724 bytes, or the number asked for is not 1 to 8 */
 #define RECKONSTILE_SHORT_FILE_BUFFER 60       /* save: the buffer is shorter than the file */
-#define RECKONSTILE_WRONG_MARK 61              /* load, compare: a record of the file does not have the mark that is due there */
+#define RECKONSTILE_WRONG_MARK 61              /* load, compare: a record of the file has a wrong mark */
 #define RECKONSTILE_WRONG_LENGTH 62            /* load, compare: a record of the file has a wrong length, or bytes are missing or left over */
-#define RECKONSTILE_NO_ASSOCIATION 63          /* load, compare: a code in the file is of no kind, or what it says is no whole association */
+#define RECKONSTILE_NO_ASSOCIATION 63          /* load, compare: the file has an unknown code, or its contents are not a whole association */
 #define RECKONSTILE_SHORT_SALVAGE_BUFFER 70    /* salvage: the buffer is shorter than the damaged list */
 #define RECKONSTILE_SHORT_COMPARE_BUFFER 71    /* compare: the buffer is shorter than the list */
 #define RECKONSTILE_TOO_MANY 80                /* check_calendar, plan_calendar: more than 64 entries */
 #define RECKONSTILE_BAD_REPEAT 81              /* check_calendar, plan_calendar: a repeat that is 0 or does not divide 1440 */
 #define RECKONSTILE_LATE_START 82              /* check_calendar: a start at or past its repeat */
 #define RECKONSTILE_OVER_CAP 83                /* check_calendar: more polls than the cap */
-#define RECKONSTILE_NO_FIT 84                  /* plan_calendar: no start fits behind those placed before */
+#define RECKONSTILE_NO_FIT 84                  /* plan_calendar: no start fits after those placed before */
 
 /* Which call answers which:
    new            0, 30, 31, 33, 38

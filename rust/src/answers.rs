@@ -61,7 +61,7 @@ numbered! {
     NewRefused {
         // tools/numbers: variants NewRefused
         BadSettings = 30, "a setting is outside its range, or an unknown code";
-        WrongSize = 31, "the record has not the bytes of its capacity";
+        WrongSize = 31, "the record does not have the size of its capacity";
         BrokenList = 33, "with NTS, the cookie list is broken";
         RetiredStart = 38, "the start version is upgrading, which is retired";
         // tools/numbers: end
@@ -80,7 +80,7 @@ numbered! {
     MeteredRefused {
         // tools/numbers: variants MeteredRefused
         BadSettings = 30, "a setting is outside its range, or an unknown code";
-        WrongSize = 31, "the record has not the bytes of its capacity";
+        WrongSize = 31, "the record does not have the size of its capacity";
         BrokenList = 33, "with NTS, the cookie list is broken";
         LowPollMin = 34, "the lower poll limit is below 8";
         HighStartup = 35, "the startup limit is over 3";
@@ -100,12 +100,12 @@ numbered! {
     /// ```
     TimerRefused {
         // tools/numbers: variants TimerRefused
-        Reset = 21, "no answer to so many polls: look the server up again and begin with a new association";
+        Reset = 21, "no answer to that many polls: look the server up again and begin with a new association";
         Demobilize = 22, "no answer, and service was denied: stop talking to this server";
         NoCookie = 23, "no cookie is left: exchange keys again and begin with a new association";
         CookieTooLarge = 24, "the cookie is too large to send: exchange keys again and begin with a new association";
         WrongSize = 31, "with NTS, the buffer for the cookie has fewer than 724 bytes";
-        NotWhole = 32, "the record was not made by a call, or not all of it is lent";
+        NotWhole = 32, "the record was not made by a call, or is not lent whole";
         // tools/numbers: end
     }
 }
@@ -126,20 +126,20 @@ numbered! {
     /// ```
     ReplyRefused {
         // tools/numbers: variants ReplyRefused
-        Undecodable = 1, "the packet cannot be decoded, `end` is 0 or no place of a field, or a decoded reply has an unknown code";
-        UnexpectedVersion = 2, "the packet is of a version that is not expected";
+        Undecodable = 1, "the packet cannot be decoded, `end` is 0 or not the place of a field, or a decoded reply has an unknown code";
+        UnexpectedVersion = 2, "the packet has an unexpected version";
         NoMatch = 4, "it answers another request";
-        Rate = 5, "the server asks for slower polls, which the next ones are";
-        Denied = 6, "service is denied, which is noted";
+        Rate = 5, "the server asks for slower polls, and the next ones are slower";
+        Denied = 6, "service is denied, and the record notes it";
         DeniedNts = 7, "service is denied, and with NTS that is believed: stop talking to this server";
-        Ntsn = 8, "the server could not make use of the cookie (NTSN)";
+        Ntsn = 8, "the server could not use the cookie (NTSN)";
         OtherKiss = 9, "the server declines with some other kiss code";
         BadStratum = 10, "the reply has a stratum over 16";
-        NotServer = 11, "the reply does not come from a server (its mode is another)";
+        NotServer = 11, "the reply does not come from a server (by its mode)";
         NeverSent = 12, "nothing was sent yet";
         AlreadyMeasured = 13, "the last poll was answered already";
         Expired = 14, "too late: the deadline of the request has passed";
-        NotWhole = 32, "the record was not made by a call, or not all of it is lent";
+        NotWhole = 32, "the record was not made by a call, or is not lent whole";
         BrokenList = 33, "with NTS, the cookie list is broken";
         // tools/numbers: end
     }
@@ -154,7 +154,7 @@ numbered! {
     /// ```
     AcceptRefused {
         // tools/numbers: variants AcceptRefused
-        NotWhole = 32, "the record was not made by a call, or not all of it is lent";
+        NotWhole = 32, "the record was not made by a call, or is not lent whole";
         HighStratum = 40, "the source's stratum is not below our own (16: nothing was measured yet)";
         Loop = 41, "the source gets its time from us";
         Unreachable = 42, "none of the last eight polls was answered";
@@ -171,7 +171,7 @@ numbered! {
     /// ```
     LookRefused {
         // tools/numbers: variants LookRefused
-        NotWhole = 32, "the bytes are no record: another number of them than the capacity's, or an unknown code";
+        NotWhole = 32, "the bytes are not a record: their number is not the capacity's, or a code is unknown";
         // tools/numbers: end
     }
 }
@@ -185,7 +185,7 @@ numbered! {
     /// ```
     CollectRefused {
         // tools/numbers: variants CollectRefused
-        Undecodable = 1, "the decrypted bytes are no whole fields";
+        Undecodable = 1, "the decrypted bytes are not whole fields";
         WrongSize = 31, "the list is longer than the buffer";
         // tools/numbers: end
     }
@@ -200,7 +200,7 @@ numbered! {
     /// ```
     RequestRefused {
         // tools/numbers: variants RequestRefused
-        VersionFive = 50, "a request of version 5 is the caller's to write, and one of an unknown kind is none";
+        VersionFive = 50, "the caller writes requests of version 5 itself; or the kind is unknown";
         ShortRequestBuffer = 51, "the packet is longer than the buffer";
         CookieOrCount = 52, "the cookie has over 724 bytes, or the number asked for is not 1 to 8";
         // tools/numbers: end
@@ -217,7 +217,7 @@ numbered! {
     /// ```
     SaveRefused {
         // tools/numbers: variants SaveRefused
-        NotWhole = 32, "the record was not made by a call, or not all of it is lent";
+        NotWhole = 32, "the record was not made by a call, or is not lent whole";
         ShortFileBuffer = 60, "the buffer is shorter than the file";
         // tools/numbers: end
     }
@@ -238,10 +238,10 @@ numbered! {
     /// ```
     LoadRefused {
         // tools/numbers: variants LoadRefused
-        WrongSize = 31, "the record has not the bytes of the file's capacity";
-        WrongMark = 61, "a record of the file does not have the mark that is due there";
+        WrongSize = 31, "the record does not have the size of the file's capacity";
+        WrongMark = 61, "a record of the file has a wrong mark";
         WrongLength = 62, "a record of the file has a wrong length, or bytes are missing or left over";
-        NoAssociation = 63, "a code in the file is of no kind, or what it says is no whole association";
+        NoAssociation = 63, "the file has an unknown code, or its contents are not a whole association";
         // tools/numbers: end
     }
 }
@@ -252,7 +252,7 @@ numbered! {
 /// use reckonstile::{compare, CompareRefused, LoadRefused};
 /// let refused = compare(b"no file", b"", &mut []).unwrap_err();
 /// assert_eq!((refused, refused.number()), (CompareRefused::Left(LoadRefused::WrongMark), 61));
-/// assert_eq!(refused.to_string(), "the left file: a record of the file does not have the mark that is due there (61)");
+/// assert_eq!(refused.to_string(), "the left file: a record of the file has a wrong mark (61)");
 /// ```
 #[derive(Clone, Copy, Debug, PartialEq, Eq, Hash)]
 #[non_exhaustive]
@@ -409,7 +409,7 @@ naming! {
         WrongSize = 31, "the buffer has fewer starts than there are entries";
         TooMany = 80, "more than 64 entries";
         BadRepeat { entry } = 81, "a repeat that is 0 or does not divide 1440";
-        NoFit { entry } = 84, "no start fits behind those placed before";
+        NoFit { entry } = 84, "no start fits after those placed before";
         // tools/numbers: end
     }
 }
