@@ -1,10 +1,10 @@
-//! What the calls answer: each answer is an enum, and `number` gives the number that docs/EMBEDDING.md, the header and the drill have for it.
+//! What the calls answer: each answer is an enum, and `number` returns the number that docs/NUMBERS.md, the header and the drill have for it.
 use crate::ffi;
 use crate::numbers;
 use crate::time::{NtpDuration, NtpInstant, NtpTimestamp, PollInterval};
 use core::fmt;
 
-/// Makes an enum of refusals with their numbers, from one table: the number and its words stand beside each variant. The tables are made of numbers.toml.
+/// Makes an enum of refusals from a table of variants with number and words. The tables are made from numbers.toml.
 macro_rules! numbered {
     ($(#[$meta:meta])* $name:ident { $($variant:ident = $number:literal, $words:literal;)* }) => {
         $(#[$meta])*
@@ -69,7 +69,7 @@ numbered! {
 }
 
 numbered! {
-    /// Why there is no metered association: the first rule of the profile for links that are paid by the packet that settings or cookie list break.
+    /// Why there is no metered association: the first rule of the profile, for links that are paid by the packet, that settings or cookie list break.
     ///
     /// ```
     /// use reckonstile::{Association, MeteredRefused, Settings};
@@ -119,7 +119,7 @@ numbered! {
     /// assert_eq!(ReplyRefused::DeniedNts.action(), Action::Demobilize);
     /// assert_eq!(ReplyRefused::NoMatch.action(), Action::Nothing);
     /// assert_eq!(ReplyRefused::NoMatch.to_string(), "it answers another request (4)");
-    /// // Why no request was live, for whoever reads the log; the caller does nothing on any of the three.
+    /// // Why no request was live, for a reader of the log; the caller does nothing on any of the three.
     /// let no_live = [ReplyRefused::NeverSent, ReplyRefused::AlreadyMeasured, ReplyRefused::Expired];
     /// assert_eq!(no_live.map(ReplyRefused::number), [12, 13, 14]);
     /// assert_eq!(no_live.map(ReplyRefused::action), [Action::Nothing; 3]);
@@ -192,7 +192,7 @@ numbered! {
 }
 
 numbered! {
-    /// Why no request is written; the buffer stays as it was.
+    /// Why no request is written; the buffer is unchanged.
     ///
     /// ```
     /// use reckonstile::RequestRefused;
@@ -208,7 +208,7 @@ numbered! {
 }
 
 numbered! {
-    /// Why no hand-over file is written; association and buffer stay as they were.
+    /// Why no hand-over file is written; association and buffer are unchanged.
     ///
     /// ```
     /// use reckonstile::{Association, SaveRefused, Settings};
@@ -224,7 +224,7 @@ numbered! {
 }
 
 numbered! {
-    /// Why a hand-over file is not loaded: the first fault in the file, or else that it is no association.
+    /// Why a hand-over file is not loaded: the first fault in the file, or that its contents are not an association.
     ///
     /// ```
     /// use reckonstile::{Association, LoadRefused, Settings, FILE_BYTES};
@@ -246,7 +246,7 @@ numbered! {
     }
 }
 
-/// Why two hand-over files are not compared; nothing is written. Where both files are refused it is the left one that is told.
+/// Why two hand-over files are not compared; nothing is written. If both files are rejected, it is the left one.
 ///
 /// ```
 /// use reckonstile::{compare, CompareRefused, LoadRefused};
@@ -278,7 +278,7 @@ impl CompareRefused {
         }
     }
 
-    /// The number, as docs/NUMBERS.md has it.
+    /// The number, as in docs/NUMBERS.md.
     #[must_use]
     pub fn number(self) -> u32 {
         match self {
@@ -324,7 +324,7 @@ numbered! {
     }
 }
 
-/// Makes an enum of a calendar's refusals, from one table: of each the number, the entry or minute that it names where it names one, and its words.
+/// Makes an enum of a calendar's refusals from a table: for each its number, the entry or minute that it names, if any, and its words.
 macro_rules! naming {
     ($(#[$meta:meta])* $name:ident { $($variant:ident $({ $place:ident })? = $number:literal, $words:literal;)* }) => {
         $(#[$meta])*
@@ -424,7 +424,7 @@ naming! {
 #[non_exhaustive]
 #[must_use]
 pub enum Action {
-    /// Nothing; the timer that is set stays set.
+    /// Nothing; the timer stays set.
     Nothing,
     /// Look the server up again, with NTS exchange keys again, and begin with a new association.
     Reset,
@@ -434,7 +434,7 @@ pub enum Action {
     Caller,
 }
 
-/// What each refusal of an enum asks for, from one table.
+/// What each refusal of an enum asks the caller to do, from one table.
 macro_rules! acting {
     ($name:ident { $($variant:ident => $action:ident;)* }) => {
         impl $name {
@@ -534,7 +534,7 @@ impl SendKind {
     }
 }
 
-/// A poll to send (20): the timer is to be set again for `poll`, and the source's acceptance asked again, since its reach has changed.
+/// A poll to send (20). Set the timer again for `poll`, and call `accept` again, since the reach has changed.
 ///
 /// ```
 /// use reckonstile::{Association, NtpInstant, PollInterval, SendKind, Settings};
@@ -550,7 +550,7 @@ pub struct Poll<'b> {
     pub kind: SendKind,
     /// Its poll interval, which is also how long to wait for the next timer.
     pub poll: PollInterval,
-    /// With NTS the cookie to send, in the buffer that the timer was lent; else empty.
+    /// With NTS the cookie to send, in the timer's buffer; else empty.
     pub cookie: &'b [u8],
     /// With NTS how many new cookies to ask for, 1 to 8; else 0.
     pub asked: u8,
@@ -614,8 +614,8 @@ impl NtpLeapIndicator {
     }
 }
 
-/// What fell out of the stash while cookies were stored: the oldest, as many as did not fit. With NTS a log is the better for it: cookies are lost where a server
-/// sends more than were asked for. Without NTS nothing does.
+/// Which cookies were dropped from the stash while others were stored: the oldest, as many as did not fit. Log it with NTS: the server sends more than it was
+/// asked for. Without NTS nothing is dropped.
 ///
 /// ```
 /// use reckonstile::{cookie_list, Association, Dropped, Settings};
@@ -629,12 +629,11 @@ impl NtpLeapIndicator {
 pub struct Dropped {
     /// How many cookies.
     pub count: u64,
-    /// Their lengths, summed; one over 724 bytes, of which nothing is kept, counts its length too.
+    /// The sum of their lengths, with the lengths of those over 724 bytes, of which nothing is kept.
     pub bytes: u64,
 }
 
-/// What a measured reply (0) says: the fields, units and names of the crate's `Measurement`, for its clock steering, and what
-/// fell out of the stash.
+/// What a measured reply (0) says: the fields, units and names of `ntp-proto`'s `Measurement`, for its clock steering, and what was dropped from the stash.
 ///
 /// ```
 /// use reckonstile::Measurement;
@@ -646,11 +645,11 @@ pub struct Dropped {
 pub struct Measurement {
     /// The round trip, without the time that the server took.
     pub delay: NtpDuration,
-    /// What our wall clock lacks: positive where it is slow.
+    /// What to add to our wall clock: positive if it is slow.
     pub offset: NtpDuration,
     /// Our wall clock half way between T1 and T4.
     pub localtime: NtpTimestamp,
-    /// The time at which the reply was handed in.
+    /// The `time` at which the reply was handed over.
     pub monotime: NtpInstant,
     /// The source's stratum.
     pub stratum: u8,
@@ -662,7 +661,7 @@ pub struct Measurement {
     pub leap: NtpLeapIndicator,
     /// The precision of the source's clock, as an exponent of two, in seconds.
     pub precision: i8,
-    /// With NTS, what fell out while the reply's cookies were stored.
+    /// With NTS, what was dropped while the reply's cookies were stored.
     pub dropped: Dropped,
 }
 
