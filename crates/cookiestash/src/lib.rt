@@ -364,7 +364,7 @@ impl CookieStash {
     }
 
     // How many more cookies there is room for.
-    // promise: 3.5, 3.9
+    // promise: 3.5
     pub fn gap(self, capacity: u8) -> u8
         ensures { λ r. ⌜ r ≡ gapOf capacity self ⌝ }
     {
