@@ -147,7 +147,6 @@ module _ (a : Association) (read : ReplyRead) (t : Arrival) (w : Inside a) where
 same-reply : (a : Association) (r : ReplyIn) → Inside a → crateReplied a r ≡ replied a r
 same-reply a r w = λ i. (replied a r .0, same-remote a (read-by a r) (arrivalOf r) w (given a (read-by a r) (arrivalOf r)) i)
 
--- from any record with nothing pending
 -- promise: no7.3 (from any record with nothing pending)
 pub unasked-same : (a : Association) → pendingIn (a .state .request) ≡ none → (calls : List (M.Call rule)) → CrateSame a calls
 unasked-same a e calls = same-logs machine Inside inside-kept crateReplied same-reply a (λ t. absurd (not-pending (a .state .request) t e)) calls

@@ -33,7 +33,6 @@ module _ (s : Settings) (list : List ℕ) where
   unfolding meteredOf
   same-answer = refl
 
-  -- on 0 the record is the plain call's, of the same settings and list
   -- promise no11.3: On 0 of `metered` the record is the one that the plain call makes of the same settings and list.
   pub same-record : numberOf (profileOf s list) ≡ 0 → meteredOf s list .association ≡ new.newOf s list .association
   unfolding meteredOf

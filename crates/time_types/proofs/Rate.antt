@@ -60,12 +60,10 @@ one-more a = up-le (omega (arith, sum-law a (pos 1)))
 -- ---- RATE
 
 module _ (remote limit last : ℤ) where
-  -- at least the old one
   -- promise: no7.1 (at least the old one)
   pub rate-keeps : remote ≤ℤ afterRate remote limit last
   rate-keeps = ≤ℤ-trans (larger-left remote (smaller (remote +ℤ pos 1) limit)) (larger-left (larger remote (smaller (remote +ℤ pos 1) limit)) last)
 
-  -- and at least the last poll
   -- promise: no7.1 (at least the last poll)
   pub rate-last : last ≤ℤ afterRate remote limit last
   rate-last = larger-right (larger remote (smaller (remote +ℤ pos 1) limit)) last
