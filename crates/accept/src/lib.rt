@@ -24,6 +24,7 @@ pub enum AcceptAnswer {
 }
 
 impl AcceptAnswer {
+    // promise: 12.1
     pub fn number(self) -> u8
         ensures { λ r. ⌜ r ≡ numberOf self ⌝ }
     {
@@ -128,6 +129,7 @@ pub fn accept_seen(
 }
 
 // The same of an association of one's own.
+// promise: 12.1, 12.2
 pub fn accept(a: Association, stratum: u8, local: &[u32], bloom: Bloom) -> AcceptAnswer
     ensures { λ r. ⌜ r ≡ acceptOf a stratum (now (local .entry)) bloom ⌝ }
 {

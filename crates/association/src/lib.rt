@@ -110,6 +110,7 @@ fn limits_valid(min: i8, max: i8) -> bool
 
 impl Settings {
     // Whether the settings are within their ranges.
+    // promise: whole.1, no12.1
     pub fn valid(self) -> bool
         ensures { λ r. ⌜ r ≡ settingsValid self ⌝ }
     {
@@ -130,6 +131,7 @@ impl Settings {
 
 impl Effort {
     // Whether the unanswered polls are those that the register tells.
+    // promise: whole.2, no8.6
     pub fn valid(self) -> bool
         ensures { λ r. ⌜ r ≡ effortValid self ⌝ }
     {
@@ -161,6 +163,7 @@ fn zero_uid(uid: [u8; 32]) -> bool
 }
 
 // Whether a pending request is unanswered, and an absent one zero. `zero` says whether its identifier is: that is tested once, for this and for `idle_valid`.
+// promise: whole.2, no3.3
 fn pending_valid(request: Pending, zero: bool) -> bool
     requires { ⌜ zero ≡ zeros (request .uid) ⌝ }
     ensures { λ r. ⌜ r ≡ pendingValid request ⌝ }
@@ -215,6 +218,7 @@ pub fn list_broken(nts: bool, list: &[u8]) -> bool
 }
 
 // Whether a record is whole, of its settings, of what is seen of its stash, and of its state.
+// promise: whole.2, no8.6, no14.3 (and by it every call)
 pub fn whole_seen(settings: Settings, seen: Seen, state: State) -> bool
     ensures { λ r. ⌜ r ≡ wholeSeen settings seen state ⌝ }
 {
@@ -242,6 +246,7 @@ pub fn whole_seen(settings: Settings, seen: Seen, state: State) -> bool
 
 impl Association {
     // The blank record: all zero, V4.
+    // promise: whole.4
     pub fn blank() -> Association
         ensures { λ r. ⌜ r ≡ blankOf ⌝ }
     {
@@ -286,6 +291,7 @@ impl Association {
     }
 
     // Whether the record is whole.
+    // promise: whole.2, no12.3
     pub fn whole(self) -> bool
         ensures { λ r. ⌜ r ≡ wholeOf self ⌝ }
     {
@@ -328,6 +334,7 @@ impl Association {
     }
 
     // Makes an association; with NTS it takes a first cookie list, and tells what of it fell out.
+    // promise: whole.4, no5.5, no12.1, no12.2, no14.1
     pub fn new(settings: Settings, list: &[u8]) -> NewOut
         ensures { λ r. ⌜ r ≡ newOf settings (now (list .entry)) ⌝ }
     {
@@ -386,6 +393,7 @@ pub enum NewAnswer {
 }
 
 impl NewAnswer {
+    // promise: whole.4
     pub fn number(self) -> u8
         ensures { λ r. ⌜ r ≡ numberOf self ⌝ }
     {

@@ -70,6 +70,8 @@ abbrev pub timed : Association → TimerIn → (TimerAnswer × List ℕ) × Asso
 timed a t = let o = timerOf a (t .poll) (length (t .buffer)) in ((o .answer, bufferOf a (t .poll) (t .buffer)), o .association)
 
 -- both forms are what is given of what was read: the answer, what fell out of the stash, and the record
+-- promise no5.7: Striking leaves the count and the sum of what fell out.
+-- promise: no5.7 (an answer of the machine is `Replied`)
 abbrev pub replied : Association → ReplyIn → Replied × Association
 replied a r = let o = repliedOf a (readAs (a .settings) (a .state .request) r) (arrivalOf r) in (o .replied, o .association)
 

@@ -12,6 +12,7 @@ named (At k) f other = f k
 named Nothing f other = other
 
 -- below n + 1: the lowest below n, and where there is none, n if it passes
+-- promise: no13.3
 unfoldable pub lowest : (ℕ → Bool) → ℕ → Found
 lowest test zero = Nothing
 lowest test (suc n) = named (lowest test n) At (cond (test n) (At n) Nothing)
@@ -23,12 +24,14 @@ isNothing Nothing = true
 -- ---- what it means
 
 -- a number below the bound that passes, with none below it that does
+-- promise: no13.3
 pub record First (test : ℕ → Bool) (n i : ℕ) : Type 0 where
   pub below : i < n
   pub passes : test i ≡ true
   pub first : (k : ℕ) → k < i → test k ≡ false
 
 -- none below the bound passes
+-- promise: no13.3
 abbrev pub None : (ℕ → Bool) → ℕ → Type 0
 None test n = (k : ℕ) → k < n → test k ≡ false
 

@@ -14,6 +14,7 @@ use Rattle.calendar.specs.declared.PlanAnswer.the-variants.{Planned, Too
 
 module _ (cap : ℕ) (repeats : List ℕ) where
   -- starts placed one by one: each is the earliest below its repeat that fits behind those before
+  -- promise: no13.5
   pub data Placed : List ℕ → Type 0 where
     none : Placed []
     next : (placed : List ℕ) (start : ℕ) → Placed placed → First (fits cap repeats placed) (repeatOf repeats (length placed)) start → Placed (placed ++ start ∷ [])
@@ -25,6 +26,7 @@ module _ (cap : ℕ) (repeats : List ℕ) where
 
   -- ---- the numbers, each with its answer
   module _ (room : ℕ) where
+    -- promise: no13.6
     pub data Given : ℕ → PlanAnswer → Type 0 where
       too-many : ltb 64 (length repeats) ≡ true → Given 80 TooMany
       bad-repeat : (k : ℕ) → ltb 64 (length repeats) ≡ false → First (badRepeat repeats) (length repeats) k → Given 81 (BadRepeat k)

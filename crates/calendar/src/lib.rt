@@ -34,6 +34,7 @@ pub enum CheckAnswer {
 }
 
 impl CheckAnswer {
+    // promise: no13.3
     pub fn number(self) -> u8
         ensures { λ r. ⌜ r ≡ numberOf self ⌝ }
     {
@@ -57,6 +58,7 @@ pub enum PlanAnswer {
 }
 
 impl PlanAnswer {
+    // promise: no13.6
     pub fn number(self) -> u8
         ensures { λ r. ⌜ r ≡ planNumberOf self ⌝ }
     {
@@ -189,6 +191,8 @@ fn over_cap(loads: &[u8], cap: u8) -> Found
 }
 
 // Whether a calendar is accepted: up to 64 entries, each repeat divides 1440, each start is below its repeat, and no minute of the day has more polls than the cap.
+// promise no13.10: No division is needed: no function of `calendar/src` has a `/` or a `%`. Read off the source.
+// promise: no13.1, no13.2 (by loads, minute by minute), no13.3, no13.4, no13.10 (multiples are reached by steps)
 pub fn check(cap: u8, starts: &[u16], repeats: &[u16]) -> CheckAnswer
     ensures { λ r. ⌜ r ≡ checkOf cap (now (starts .entry)) (now (repeats .entry)) ⌝ }
 {
@@ -273,6 +277,7 @@ fn copy(from: &[u16], n: usize, to: &mut [u16])
 }
 
 // Places the entries one by one, each at the earliest start that fits behind those before. The starts are written where all have one, and nothing is where one has none.
+// promise: no13.5, no13.6, no13.8, no13.9, no13.10
 pub fn plan(cap: u8, repeats: &[u16], starts: &mut [u16]) -> PlanAnswer
     ensures { λ r. ⌜ (r ≡ planOf cap (now (repeats .entry)) (length (now (starts .entry)))) × (now (starts .exit) ≡ bufferOf cap (now (repeats .entry)) (now (starts .entry))) ⌝ }
 {

@@ -23,6 +23,7 @@ pub enum Collected {
 }
 
 impl Collected {
+    // promise: 7.9
     pub fn number(self) -> u8
         ensures { λ r. ⌜ r ≡ numberOf self ⌝ }
     {
@@ -75,6 +76,7 @@ fn put_record(out: &mut [u8], to: usize, body: &[u8]) -> usize
 }
 
 // Writes the list of the cookies from the buffer's start on; broken fields are refused first, then a list longer than the buffer.
+// promise: 7.9
 pub fn collect(decrypted: &[u8], out: &mut [u8]) -> Collected
     ensures { λ r. ⌜ (r ≡ collectOf (now (decrypted .entry)) (length (now (out .entry)))) × (now (out .exit) ≡ bufferOf (now (decrypted .entry)) (now (out .entry))) ⌝ }
 {

@@ -153,6 +153,7 @@ fn eight(first: u8, l: [u64; 8], r: [u64; 8]) -> [Field; 8]
 }
 
 // The place of the first differing byte, or the shorter one's end.
+// promise: no10.2
 fn place_of(l: &[u8], r: &[u8]) -> usize
     ensures { λ p. ⌜ p ≡ placeOf (now (l .entry)) (now (r .entry)) ⌝ }
 {
@@ -180,6 +181,7 @@ fn no_cookie() -> Kept
 }
 
 // The cookie of an age, 0 the oldest.
+// promise: no10.2
 fn aged(body: &[u8], age: usize) -> Kept
     ensures { λ r. ⌜ KeptIn (now (body .entry)) age r ⌝ }
 {
@@ -216,6 +218,7 @@ fn alike(left: u64, right: u64, place: usize, end: usize) -> bool
 }
 
 // The cookies of an age, each of its own body.
+// promise: no10.2
 fn cookie_field(l: &[u8], r: &[u8], age: u8) -> Field
     requires { ⌜ age < 8 ⌝ }
     ensures { λ f. ⌜ f ≡ cookieIn (now (l .entry)) (now (r .entry)) age ⌝ }
@@ -253,6 +256,7 @@ fn cookie_fields(l: &[u8], r: &[u8]) -> [Field; 8]
 }
 
 // All fields, those that agree among them.
+// promise: no10.1 (over settings, state and the stash's body on each side; `specs/Steps`: `groupsIn`)
 pub fn fields(l: Settings, p: State, left: &[u8], r: Settings, q: State, right: &[u8]) -> Groups
     ensures { λ g. ⌜ g ≡ groupsIn l p (now (left .entry)) r q (now (right .entry)) ⌝ }
 {

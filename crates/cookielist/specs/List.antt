@@ -18,9 +18,12 @@ unfoldable pub markedOf : ℕ → List ℕ → List ℕ
 markedOf m c = toBe 2 m ++ (toBe 2 (length c) ++ c)
 
 -- a cookie's record
+-- promise 3.12: A cookie list is a run of records: C0 0E, length, bytes. An empty list is valid.
+--     edit: cookielist/the_mark_is_wrong, cookielist/a_length_past_the_end, cookielist/a_broken_list_is_read
 unfoldable pub recordOf : List ℕ → List ℕ
 recordOf c = 0xC0 ∷ 0x0E ∷ toBe 2 (length c) ++ c
 
+-- promise: 3.12
 abbrev pub listOf : List (List ℕ) → List ℕ
 listOf [] = []
 listOf (c ∷ cs) = recordOf c ++ listOf cs
@@ -40,6 +43,7 @@ unfoldable pub lengthAt : List ℕ → ℕ → ℕ
 lengthAt l at = be (part l (at + 2) 2)
 
 -- what stands at an offset: past the bytes is broken, nothing left the end; four bytes of mark and length, the mark C0 0E, and as many bytes as the length says make a cookie
+-- promise: 3.12
 unfoldable pub entryAt : List ℕ → ℕ → Entry
 entryAt l at =
     cond (ltb (length l) at) Broken
@@ -51,6 +55,7 @@ entryAt l at =
     Broken)))
 
 -- the number in RULES: 33 where the list is broken; a cookie and the end are refused by none
+-- promise: 3.12
 abbrev pub refusalOf : Entry → Option ℕ
 refusalOf (Cookie start end) = none
 refusalOf End = none
@@ -62,6 +67,7 @@ pub data Reached (l : List ℕ) : ℕ → ℕ → Type 0 where
   past : {at start end to : ℕ} → entryAt l at ≡ Cookie start end → Reached l end to → Reached l at to
 
 -- the reader comes from an offset to one where what stands there is refused with 33
+-- promise: 3.12
 pub record Refused (l : List ℕ) (at : ℕ) : Type 0 where
   pub place : ℕ
   pub reached : Reached l at place
@@ -72,6 +78,7 @@ pub data Listed : Type 0 where
   whole : List (List ℕ) → Listed
   broken : Listed
 
+-- promise no9.4: A list without damage comes out byte for byte with no gaps.
 abbrev pub isWhole : Listed → Bool
 isWhole (whole cs) = true
 isWhole broken = false
@@ -95,6 +102,7 @@ cookiesN (suc n) l at = onEntry l (λ end. cookiesN n l end) (entryAt l at)
 unfoldable pub cookiesFrom : List ℕ → ℕ → Listed
 cookiesFrom l at = cookiesN (length l - at) l at
 
+-- promise: 3.12, no9.4
 unfoldable pub cookiesIn : List ℕ → Listed
 cookiesIn l = cookiesFrom l 0
 

@@ -21,6 +21,7 @@ pub enum Entry {
 }
 
 // Past the bytes, and where no whole record stands, the list is broken.
+// promise: 3.12
 pub fn entry_at(list: &[u8], at: usize) -> Entry
     ensures { λ r. ⌜ r ≡ entryAt (now (list .entry)) at ⌝ }
 {
@@ -49,6 +50,7 @@ pub fn entry_at(list: &[u8], at: usize) -> Entry
 }
 
 // Whether a list of bytes is a cookie list.
+// promise: 3.12
 pub fn list_whole(list: &[u8]) -> bool
     ensures { λ r. ⌜ r ≡ isWhole (cookiesIn (now (list .entry))) ⌝ }
 {

@@ -7,9 +7,12 @@ use Rattle.cookiestash.specs.declared.Slot.{Slot}
 use Rattle.cookiestash.specs.Stash.{stored}
 
 -- a cookie's bytes from the start of a buffer, the rest of the buffer untouched
+-- promise 3.11: What is handed out of a slot.
+-- promise: 10.8
 abbrev pub wrote : List ℕ → ℕ → List ℕ → List ℕ
 wrote cookie len buffer = take len cookie ++ drop len buffer
 
 -- the stored bytes of a slot, as many as there is room for
+-- promise: 3.11
 unfoldable pub handedOf : Slot → List ℕ → List ℕ
 handedOf x buffer = wrote (x .bytes) (min (stored (x .len)) (length buffer)) buffer

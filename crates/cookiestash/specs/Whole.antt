@@ -30,10 +30,17 @@ unfoldable pub freeSlots : ℕ → CookieStash → List Slot
 freeSlots cap s = walk cap (s .slots) (wrap cap (s .read + s .held)) (cap - s .held) ++ drop cap (s .slots)
 
 -- the test: in range, padded, and free slots have length 0
+-- promise 3.10: A whole stash has read < capacity and held ≤ capacity. Free slots and slots past the capacity have length 0. Bytes past the stored ones are
+--     zero (No. 12).
+--     edit: cookiestash/a_slot_past_the_capacity_is_held
+-- promise: 3.10 (test)
 unfoldable pub wholeOf : ℕ → CookieStash → Bool
 wholeOf cap s = inRange cap s && (allPadded (s .slots) && allFree (freeSlots cap s))
 
 -- what the rules read of a stash: whether it is whole; whether it has a cookie, the length of the oldest, and the gap, counted after the take; the place and the count
+-- promise 3.7: What the rules read of a stash.
+--     edit: cookiestash/the_gap_before_the_take
+-- promise: 10.4, no12.3
 abbrev pub seenOf : ℕ → CookieStash → Seen
 seenOf cap s =
     record {
@@ -80,6 +87,7 @@ pub record WholeSlot (x : Slot) : Type 0 where
   pub padded : drop (stored (x .len)) (x .bytes) ≡ replicate (724 - stored (x .len)) 0
 
 -- and of a stash
+-- promise: 3.10 (statement)
 pub record Whole (cap : ℕ) (s : CookieStash) : Type 0 where
   pub reads : s .read < cap
   pub counts : s .held ≤ cap

@@ -201,6 +201,7 @@ pub fn seen_from(capacity: u8, read: usize, held: usize, padded: bool, lens: [u1
 }
 
 impl Slot {
+    // promise: 3.1
     pub fn empty() -> Slot
         ensures { λ r. ⌜ r ≡ emptySlot ⌝ }
     {
@@ -267,6 +268,7 @@ impl Dropped {
 }
 
 impl CookieStash {
+    // promise: 3.1
     pub fn new() -> CookieStash
         ensures { λ r. ⌜ r ≡ newOf ⌝ }
     {
@@ -314,6 +316,7 @@ impl CookieStash {
     }
 
     // A stash that is out of range, or a cookie whose length no slot can name, changes nothing.
+    // promise: 3.2, 3.3, 3.6, 3.9, no5.1, no5.6
     pub fn store(self, capacity: u8, cookie: &[u8]) -> StoreOut
         ensures { λ r. ⌜ r ≡ storedOf capacity self (now (cookie .entry)) ⌝ }
     {
@@ -334,6 +337,7 @@ impl CookieStash {
     }
 
     // The oldest cookie, whose slot is cleared: a cookie that is used twice would tell who watches that both requests are the same client's.
+    // promise: 3.4, 3.9
     pub fn get(mut self, capacity: u8) -> Taken
         ensures { λ r. ⌜ r ≡ getOf capacity self ⌝ }
     {
@@ -360,6 +364,7 @@ impl CookieStash {
     }
 
     // How many more cookies there is room for.
+    // promise: 3.5
     pub fn gap(self, capacity: u8) -> u8
         ensures { λ r. ⌜ r ≡ gapOf capacity self ⌝ }
     {
@@ -396,6 +401,7 @@ impl CookieStash {
     }
 
     // What the rules read of a stash: also whether it is whole, that is, whether the place and the count are in range, free slots have length 0, and bytes past the stored ones are zero.
+    // promise: 3.7, 3.9, 3.10 (`whole` in what it gives), 10.4, no12.3
     pub fn seen(self, capacity: u8) -> Seen
         ensures { λ r. ⌜ r ≡ seenOf capacity self ⌝ }
     {
@@ -407,6 +413,7 @@ impl CookieStash {
 
 impl CookieStash {
     // Stores the cookies of a list in order; of a broken list it stores nothing. No list is so long that the sums overflow: what falls out was held or is in the list, where each cookie has four bytes before it.
+    // promise: 3.9, 3.13, no5.2, no5.6
     pub fn store_list(mut self, capacity: u8, list: &[u8]) -> StoreListOut
         ensures { λ r. ⌜ r ≡ storedListOf capacity self (now (list .entry)) ⌝ }
     {

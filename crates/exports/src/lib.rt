@@ -47,6 +47,7 @@ ghost use Rattle.exports.specs.Calls.{saved, savedBy, loaded, loadedAs, 
 // What the header that a program was compiled with has to say too.
 const REVISION: u32 = 0xBCF8_1C62;
 
+// promise: exports.7
 #[no_mangle]
 pub extern "C" fn reckonstile_revision() -> u32
     ensures { λ r. ⌜ r ≡ 0xBCF81C62 ⌝ }
@@ -55,6 +56,7 @@ pub extern "C" fn reckonstile_revision() -> u32
 }
 
 // The record becomes blank, every byte zero: 0.
+// promise: exports.7
 #[no_mangle]
 pub extern "C" fn reckonstile_blank(bytes: &mut [u8]) -> u32
     ensures { λ r. ⌜ (r ≡ 0) × (now (bytes .exit) ≡ replicate (length (now (bytes .entry))) 0) ⌝ }
@@ -64,6 +66,7 @@ pub extern "C" fn reckonstile_blank(bytes: &mut [u8]) -> u32
 }
 
 // The bytes become a new association: 0. Blank where it is refused: 30, 33, 38; then 31 where they are not as many as the capacity asks for, and stay.
+// promise: exports.7, exports.8
 #[no_mangle]
 pub extern "C" fn reckonstile_new(bytes: &mut [u8], settings: CSettings, list: &[u8]) -> CNewAnswer
     ensures { λ r. ⌜ made r (now (bytes .exit)) ≡ madeBy settings (now (list .entry)) (now (bytes .entry)) ⌝ }
@@ -81,6 +84,7 @@ pub extern "C" fn reckonstile_new(bytes: &mut [u8], settings: CSettings, list: &
 }
 
 // The bytes become a metered association: 0. Blank where it is refused: 30, 33 to 37; then 31 where they are not as many as the capacity asks for, and stay.
+// promise: exports.7, exports.8
 #[no_mangle]
 pub extern "C" fn reckonstile_metered(
     bytes: &mut [u8],
@@ -102,6 +106,7 @@ pub extern "C" fn reckonstile_metered(
 }
 
 // The number that `reckonstile_metered` gives where the bytes are as many as the capacity asks for; there is no record.
+// promise: exports.7
 #[no_mangle]
 pub extern "C" fn reckonstile_profile(settings: CSettings, list: &[u8]) -> u32
     ensures { λ r. ⌜ r ≡ profiledOf settings (now (list .entry)) ⌝ }
@@ -117,6 +122,7 @@ pub extern "C" fn reckonstile_profile(settings: CSettings, list: &[u8]) -> u32
 }
 
 // The timer: 20 to 24, 31, 32.
+// promise: exports.7
 #[no_mangle]
 pub extern "C" fn reckonstile_timer(
     bytes: &mut [u8],
@@ -144,6 +150,7 @@ fn told(out: Replied) -> CReplied
 }
 
 // A reply of V3 or V4, as bytes: 0 to 14, 32, 33.
+// promise: exports.7, exports.8
 #[no_mangle]
 pub extern "C" fn reckonstile_reply(
     bytes: &mut [u8],
@@ -163,6 +170,7 @@ pub extern "C" fn reckonstile_reply(
 }
 
 // A reply of V5, decoded by the caller: the same numbers. One with a code of no kind cannot be decoded: 1, after the test of the record.
+// promise: exports.8, exports.9
 #[no_mangle]
 pub extern "C" fn reckonstile_reply_decoded(
     bytes: &mut [u8],
@@ -185,6 +193,7 @@ pub extern "C" fn reckonstile_reply_decoded(
 }
 
 // Whether the source may be used: 0, 40, 41, 42, 32. The record is only read.
+// promise: exports.7
 #[no_mangle]
 pub extern "C" fn reckonstile_accept(bytes: &[u8], stratum: u8, local: &[u32], bloom: u32) -> u32
     ensures { λ r. ⌜ r ≡ numberOf (acceptCall (now (bytes .entry)) stratum (now (local .entry)) (bloomIn bloom)) ⌝ }
@@ -196,6 +205,7 @@ pub extern "C" fn reckonstile_accept(bytes: &[u8], stratum: u8, local: &[u32], b
 }
 
 // The record as a hand-over file, from the buffer's start on: 0, 32, 60. Its cookies are the file's then, and it comes back without them.
+// promise: exports.7
 #[no_mangle]
 pub extern "C" fn reckonstile_save(bytes: &mut [u8], out: &mut [u8]) -> CWritten
     ensures { λ r. ⌜ saved r (now (bytes .exit)) (now (out .exit)) ≡ savedBy (saveCall (now (bytes .entry)) (now (out .entry))) ⌝ }
@@ -206,6 +216,7 @@ pub extern "C" fn reckonstile_save(bytes: &mut [u8], out: &mut [u8]) -> CWritten
 
 // The bytes become the association of a hand-over file, with nothing sent yet: 0, and whether a version of it was of the retired kind.
 // Blank where it is refused: 61, 62, 63; then 31 where they are not as many as its capacity asks for, and stay.
+// promise: exports.7
 #[no_mangle]
 pub extern "C" fn reckonstile_load(bytes: &mut [u8], file: &[u8]) -> CLoadAnswer
     ensures { λ r. ⌜ loaded r (now (bytes .exit)) ≡ loadedAs (loadedBy (now (bytes .entry)) (loadOf (now (file .entry)))) ⌝ }
@@ -223,6 +234,7 @@ pub struct CView {
 }
 
 // The settings and the state of a record as numbers; the record is only read.
+// promise: exports.12
 #[no_mangle]
 pub extern "C" fn reckonstile_look(bytes: &[u8]) -> CView
     ensures { λ r. ⌜ r ≡ viewOf (openedOf (now (bytes .entry))) ⌝ }
@@ -247,6 +259,7 @@ pub extern "C" fn reckonstile_look(bytes: &[u8]) -> CView
 }
 
 // The cookies among decrypted fields, as a list from the buffer's start on: 0, 1, 31.
+// promise: exports.10
 #[no_mangle]
 pub extern "C" fn reckonstile_collect(decrypted: &[u8], out: &mut [u8]) -> CWritten
     ensures { λ r. ⌜ (r ≡ collectedAs (collectOf (now (decrypted .entry)) (length (now (out .entry)))))
@@ -257,6 +270,7 @@ pub extern "C" fn reckonstile_collect(decrypted: &[u8], out: &mut [u8]) -> CWrit
 }
 
 // The request that a timer's 20 asks for, from the buffer's start on: 0, 50, 51, 52.
+// promise: exports.10
 #[no_mangle]
 pub extern "C" fn reckonstile_write_request(
     kind: u8,
@@ -278,6 +292,7 @@ pub extern "C" fn reckonstile_write_request(
 }
 
 // What stands at an offset of a packet, so that nobody writes the walk over its fields again: 0, 1.
+// promise: exports.12
 #[no_mangle]
 pub extern "C" fn reckonstile_field_at(packet: &[u8], at: usize) -> CField
     ensures { λ r. ⌜ r ≡ fieldAs (packetStep (now (packet .entry)) at) ⌝ }
@@ -287,6 +302,7 @@ pub extern "C" fn reckonstile_field_at(packet: &[u8], at: usize) -> CField
 }
 
 // The clean list of a damaged one, from the buffer's start on: 0, 70.
+// promise: exports.11
 #[no_mangle]
 pub extern "C" fn reckonstile_salvage(list: &[u8], out: &mut [u8]) -> CSalvaged
     ensures { λ r. ⌜ (r ≡ salvagedAs (salvageOf (now (list .entry)) (length (now (out .entry)))))
@@ -296,6 +312,7 @@ pub extern "C" fn reckonstile_salvage(list: &[u8], out: &mut [u8]) -> CSalvaged
 }
 
 // The fields in which two hand-over files differ, from the buffer's start on: 0, 61 to 63, 71.
+// promise: exports.11
 #[no_mangle]
 pub extern "C" fn reckonstile_compare(left: &[u8], right: &[u8], out: &mut [u8]) -> CCompared
     ensures { λ r. ⌜ (r ≡ comparedAs (compareOf (now (left .entry)) (now (right .entry)) (length (now (out .entry)))))
@@ -305,6 +322,7 @@ pub extern "C" fn reckonstile_compare(left: &[u8], right: &[u8], out: &mut [u8])
 }
 
 // Whether a poll calendar is accepted: 0, 80 to 83.
+// promise: exports.11
 #[no_mangle]
 pub extern "C" fn reckonstile_check_calendar(
     cap: u8,
@@ -317,6 +335,7 @@ pub extern "C" fn reckonstile_check_calendar(
 }
 
 // The starts of a plan, from the buffer's start on: 0, 80, 81, 84, 31.
+// promise: exports.11
 #[no_mangle]
 pub extern "C" fn reckonstile_plan_calendar(
     cap: u8,

@@ -19,6 +19,8 @@ abbrev pub toldOf : ℕ → ℕ
 toldOf gaps = min gaps 32
 
 -- the report of a salvage, field by field
+-- promise exports.11: The tools, which have no record, are the calls that they wrap: the number, all that is reported or named, every lent byte.
+--     edit: exports_tools/the_kept_are_told_as_gaps, exports_tools/a_late_start_is_a_bad_repeat
 abbrev pub salvagedAs : Salvaged → CSalvaged
 salvagedAs s =
     record { number = s .number; told = toldOf (s .gaps); kept = s .kept; skipped = s .skipped; gaps = s .gaps; length = s .len; places = s .places }
@@ -30,6 +32,7 @@ named number place = record { number = number; named = 1; place = place }
 abbrev pub unnamed : ℕ → CCalendarAnswer
 unnamed number = record { number = number; named = 0; place = 0 }
 
+-- promise: exports.11
 abbrev pub checkedAs : CheckAnswer → CCalendarAnswer
 checkedAs C.Accepted = unnamed 0
 checkedAs C.TooMany = unnamed 80
@@ -38,6 +41,7 @@ checkedAs (C.LateStart k) = named 82 k
 checkedAs (C.OverCap m) = named 83 m
 
 -- 31: there is a plan, and the lent buffer has no room for it
+-- promise: exports.11
 abbrev pub plannedAs : PlanAnswer → CCalendarAnswer
 plannedAs P.Planned = unnamed 0
 plannedAs P.TooMany = unnamed 80
@@ -53,6 +57,7 @@ sideCode Right = 2
 abbrev pub refused : ℕ → Side → CCompared
 refused number side = record { number = number; side = sideCode side; entries = 0 }
 
+-- promise: exports.11
 abbrev pub comparedAs : CompareAnswer → CCompared
 comparedAs (Listed n) = record { number = 0; side = 0; entries = n }
 comparedAs (WrongMark s) = refused 61 s

@@ -197,6 +197,7 @@ fn compared(answer: CompareAnswer) -> CCompared
 }
 
 // The fields in which two hand-over files differ, from the buffer's start on: 0, 61 to 63, 71.
+// promise: exports.11
 pub fn compare(left: &[u8], right: &[u8], out: &mut [u8]) -> CCompared
     ensures { λ r. ⌜ (r ≡ comparedAs (compareOf (now (left .entry)) (now (right .entry)) (length (now (out .entry)))))
         × (now (out .exit) ≡ outOf (now (left .entry)) (now (right .entry)) (now (out .entry))) ⌝ }

@@ -45,6 +45,10 @@ sendCode S.NtsV5 = 5
 abbrev pub unsent : ℕ → CTimerAnswer
 unsent number = record { number = number; kind = 0; poll = interval (pos 0); asked = 0; length = 0 }
 
+-- promise exports.7: The exported calls `reckonstile_*` have their answers as numbers, and the number is that of RULES. `exports/proofs/Determined` has a
+--     theorem for each.
+--     edit: exports_values/a_measured_truth_is_two, exports_values/a_field_is_told_with_another_kind, exports/a_refused_setting_is_a_wrong_size,
+--     exports/the_revision_is_another
 abbrev pub timerAnswer : TimerAnswer → CTimerAnswer
 timerAnswer (T.Sent kind poll len asked) = record { number = 20; kind = sendCode kind; poll = poll; asked = asked; length = len }
 timerAnswer T.Reset = unsent 21
@@ -89,6 +93,7 @@ measuredAs m =
       rootdisp = m .rootdisp;
     }
 
+-- promise: exports.7
 abbrev pub replyAnswer : ReplyAnswer → CReplyAnswer
 replyAnswer (R.Measured m) = measuredAs m
 replyAnswer R.Undecodable = unmeasured 1
@@ -110,6 +115,7 @@ replyAnswer R.BrokenList = unmeasured 33
 -- ---- new
 
 -- 0: the association is made; with what fell out of its first list (RULES, No. 5)
+-- promise exports.8: The answers of `new`, `metered` and both replies have the two sums of No. 5.
 abbrev pub newAnswer : ℕ → Dropped → CNewAnswer
 newAnswer number dropped = record { number = number; made = cond (eqb number 0) 1 0; dropped = dropped }
 
@@ -128,16 +134,19 @@ wrote length = record { number = 0; written = 1; length = length }
 abbrev pub unwritten : ℕ → CWritten
 unwritten number = record { number = number; written = 0; length = 0 }
 
+-- promise: exports.7
 abbrev pub savedAs : SaveAnswer → CWritten
 savedAs (H.Saved length) = wrote length
 savedAs H.NotWhole = unwritten 32
 savedAs H.ShortBuffer = unwritten 60
 
+-- promise exports.10: `collect` and `write_request` give number, length and every byte of the buffer. On every number but 0 the buffer stays.
 abbrev pub collectedAs : Collected → CWritten
 collectedAs (C.Done length) = wrote length
 collectedAs C.Broken = unwritten 1
 collectedAs C.TooLong = unwritten 31
 
+-- promise: exports.10
 abbrev pub requestedAs : Requested → CWritten
 requestedAs (W.Written length) = wrote length
 requestedAs W.VersionFive = unwritten 50
@@ -147,6 +156,7 @@ requestedAs W.CookieOrCount = unwritten 52
 -- ---- what is read from a file
 
 -- the number, and 1 where a version of the file was of the retired kind (RULES, No. 14)
+-- promise: exports.7
 abbrev pub loadAnswer : ℕ → Bool → CLoadAnswer
 loadAnswer number retired = record { number = number; retired = cond retired 1 0 }
 
@@ -156,6 +166,7 @@ abbrev pub noField : ℕ → CField
 noField number = record { number = number; found = 0; kind = 0; spare = 0; body = 0; length = 0; next = 0 }
 
 -- 0 a field, or the end of the walk; 1 neither
+-- promise: exports.12
 abbrev pub fieldAs : Step → CField
 fieldAs (F.Field kind start len next) = record { number = 0; found = 1; kind = kind; spare = 0; body = start; length = len; next = next }
 fieldAs F.End = noField 0

@@ -16,6 +16,7 @@ isKind kind left = cond (eqb kind 1) true (leb kind 3 && eqb left 0)
 abbrev pub kindIn : ℕ → ℕ → ProtocolVersion
 kindIn kind left = cond (eqb kind 1) (Upgrading left) (cond (eqb kind 2) Upgraded (cond (eqb kind 3) V5 V4))
 
+-- promise: exports.7
 abbrev pub versionIn : ℕ → ℕ → Version
 versionIn kind left = record { kind = kindIn kind left }
 
@@ -41,5 +42,6 @@ abbrev pub bitOf : Bool → ℕ
 bitOf b = cond b 1 0
 
 -- what a request is written as: 1 V4, 2 V4 with the upgrade mark, 4 NTS V4; V5 is not written, and neither is any other code
+-- promise: exports.10
 abbrev pub sendIn : ℕ → SendKind
 sendIn code = cond (eqb code 1) S.V4 (cond (eqb code 2) S.V4Upgrade (cond (eqb code 4) S.NtsV4 S.V5))

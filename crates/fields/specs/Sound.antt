@@ -50,6 +50,7 @@ pub data Reached (p : List ℕ) (least tail : ℕ) : ℕ → ℕ → Type 0 wher
   past : {at kind start len next to : ℕ} → stepAt p at least tail ≡ Field kind start len next → Reached p least tail next to → Reached p least tail at to
 
 -- the walk from an offset on comes to one where what stands there is refused with a number
+-- promise: 7.5
 pub record Refused (p : List ℕ) (least tail at n : ℕ) : Type 0 where
   pub place : ℕ
   pub reached : Reached p least tail at place

@@ -38,6 +38,7 @@ walkN zero p at least tail = onStep (λ next. broken) at (stepAt p at least tail
 walkN (suc n) p at least tail = onStep (λ next. walkN n p next least tail) at (stepAt p at least tail)
 
 -- the walk: there are no more fields than bytes, so that the number above does not show (`walk-turn` in proofs/Walks.antt)
+-- promise 7.5: The walk stops at the first answer that is not a field. A broken one makes the packet undecodable.
 unfoldable pub walkOf : List ℕ → ℕ → ℕ → ℕ → Walk
 walkOf p at least tail = walkN (length p - at) p at least tail
 
@@ -50,12 +51,14 @@ abbrev pub decryptedWalk : List ℕ → Walk
 decryptedWalk p = walkOf p 0 4 0
 
 -- where a walk ends, or that it is broken
+-- promise: 7.5
 abbrev pub walkedOf : Walk → Walked
 walkedOf (field f w) = walkedOf w
 walkedOf (ends at) = W.Ends at
 walkedOf broken = W.Broken
 
 -- the number in RULES: 1 for a broken walk; one that ends is refused by none
+-- promise: 7.5
 abbrev pub refusalOf : Walked → Option ℕ
 refusalOf (W.Ends at) = none
 refusalOf W.Broken = some 1
@@ -73,6 +76,8 @@ placeIn n (ends at) = eqb at n
 placeIn n broken = false
 
 -- the places that the authenticated end may be; a broken walk makes the packet undecodable
+-- promise 7.6: The authenticated end is 48, or a place where a field starts, or the end of the walk.
+--     edit: fields/place_of_a_broken_walk, incoming/v4_end_is_not_looked_at
 unfoldable pub isPlace : List ℕ → ℕ → Bool
 isPlace p n = whole (packetWalk p) && placeIn n (packetWalk p)
 

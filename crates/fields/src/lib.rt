@@ -64,6 +64,7 @@ fn field_at(p: &[u8], at: usize, least: usize, tail: usize) -> Step
 }
 
 // What stands at an offset of a V4 packet.
+// promise: 7.1, 7.2, 7.4
 pub fn packet_field_at(p: &[u8], at: usize) -> Step
     ensures { λ r. ⌜ r ≡ packetStep (now (p .entry)) at ⌝ }
 {
@@ -71,6 +72,7 @@ pub fn packet_field_at(p: &[u8], at: usize) -> Step
 }
 
 // What stands at an offset of decrypted fields.
+// promise: 7.3, 7.4
 pub fn decrypted_field_at(p: &[u8], at: usize) -> Step
     ensures { λ r. ⌜ r ≡ decryptedStep (now (p .entry)) at ⌝ }
 {
@@ -121,6 +123,7 @@ fn walk_from(p: &[u8], first: usize, least: usize, tail: usize) -> Walked
 }
 
 // The walk over the fields of a V4 packet.
+// promise: 7.5
 pub fn packet_walk(p: &[u8]) -> Walked
     ensures { λ r. ⌜ r ≡ walkedOf (packetWalk (now (p .entry))) ⌝ }
 {
@@ -128,6 +131,7 @@ pub fn packet_walk(p: &[u8]) -> Walked
 }
 
 // The walk over decrypted fields.
+// promise: 7.5
 pub fn decrypted_walk(p: &[u8]) -> Walked
     ensures { λ r. ⌜ r ≡ walkedOf (decryptedWalk (now (p .entry))) ⌝ }
 {
@@ -135,6 +139,7 @@ pub fn decrypted_walk(p: &[u8]) -> Walked
 }
 
 // Whether `end` is the packet's first place, a place where a field starts, or the place where the walk ends; a broken walk has none.
+// promise: 7.6
 pub fn is_place(p: &[u8], end: usize) -> bool
     ensures { λ r. ⌜ r ≡ isPlace (now (p .entry)) end ⌝ }
 {

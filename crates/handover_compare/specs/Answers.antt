@@ -49,8 +49,11 @@ unfoldable pub rightOut : Association → List ℕ → List ℕ → List ℕ
 rightOut a g out = ifLoaded (loadOf g .answer) (writtenIn a (loadOf g .association) out) out
 
 -- the left file first
+-- promise no10.5: The comparison rejects with the numbers of No. 6, left file first, then with 71. It then writes nothing.
+--     edit: handover_compare/the_right_file_is_read_first, handover_compare/a_short_buffer_is_filled, handover_compare/the_left_settings_stand_on_both_sides
 unfoldable pub compareOf : List ℕ → List ℕ → ℕ → CompareAnswer
 compareOf f g room = onLoad Left (loadOf f .answer) (rightOf (loadOf f .association) g room)
 
+-- promise: no10.5
 unfoldable pub outOf : List ℕ → List ℕ → List ℕ → List ℕ
 outOf f g out = ifLoaded (loadOf f .answer) (rightOut (loadOf f .association) g out) out

@@ -17,6 +17,7 @@ module _ (f g : List ℕ) (out : List ℕ) where
   list = listOf (loadOf f .association) (loadOf g .association)
 
   -- the numbers of reading are given of the left file, and of the right one where the left is loaded
+  -- promise: no10.5
   pub data CompareGiven : ℕ → CompareAnswer → List ℕ → Type 0 where
     left-mark : loadNumber (loadOf f .answer) ≡ 61 → CompareGiven 61 (WrongMark Left) out
     left-length : loadNumber (loadOf f .answer) ≡ 62 → CompareGiven 62 (WrongLength Left) out

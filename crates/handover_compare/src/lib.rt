@@ -42,6 +42,7 @@ pub enum CompareAnswer {
 
 impl CompareAnswer {
     // The number of the answer, in RULES.
+    // promise: no10.5
     pub fn number(self) -> u8
         ensures { λ r. ⌜ r ≡ compareNumber self ⌝ }
     {
@@ -212,6 +213,7 @@ fn compare_right(l: Settings, p: State, left: &[u8], right: &[u8], out: &mut [u8
 }
 
 // Compares two files. The left one is read first.
+// promise: no10.1, no10.5
 pub fn compare(left: &[u8], right: &[u8], out: &mut [u8]) -> CompareAnswer
     ensures { λ x. ⌜ (x ≡ compareOf (now (left .entry)) (now (right .entry)) (length (now (out .entry)))) × (now (out .exit) ≡ outOf (now (left .entry)) (now (right .entry)) (now (out .entry))) ⌝ }
 {

@@ -185,6 +185,7 @@ fn fits(i: usize, b: &[u8]) -> bool
 }
 
 // The records one by one, in their order, and nothing behind them.
+// promise: no6.7, no12.5
 pub fn cut(f: &[u8]) -> Stop
     ensures { λ r. ⌜ r ≡ stopOf (cutAs shapes (now (f .entry))) ⌝ }
 {

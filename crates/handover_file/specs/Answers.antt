@@ -28,6 +28,8 @@ abbrev pub saved : SaveAnswer → Association → SaveOut
 saved x a = record { answer = x; association = a }
 
 -- in order 32, 60; a refusal leaves the record as it was
+-- promise no6.6: Writing a file answers 32, then 60, and on these writes nothing. Bytes past the file stay.
+--     edit: handover_save/a_piece_that_ends_with_the_buffer_is_left_out
 unfoldable pub saveOf : Association → ℕ → SaveOut
 saveOf a room =
     cond (wholeOf a)
@@ -39,6 +41,7 @@ abbrev pub over : List ℕ → List ℕ → List ℕ
 over bytes buffer = bytes ++ drop (length bytes) buffer
 
 -- after a refusal nothing is written
+-- promise: no6.6
 unfoldable pub bufferOf : Association → List ℕ → List ℕ
 bufferOf a buffer = cond (wholeOf a) (cond (ltb (length buffer) (length (fileOf a))) buffer (over (fileOf a) buffer)) buffer
 
@@ -63,6 +66,7 @@ loadNumber WrongLength = 62
 loadNumber NoAssociation = 63
 
 -- whether it says that the retired kind was there
+-- promise: no14.4
 abbrev pub saysRetired : LoadAnswer → Bool
 saysRetired (Loaded said) = said
 saysRetired WrongMark = false
@@ -77,6 +81,7 @@ abbrev pub refused : LoadAnswer → LoadOut
 refused x = loaded x blankOf
 
 -- what a record that was read is loaded as: V4 stands in place of the retired kind, and the answer says whether that was there (RULES, No. 14)
+-- promise: no14.4
 abbrev pub loadAs : Association → LoadOut
 loadAs a = cond (wholeOf (settled a)) (loaded (Loaded (retired (a .settings) (a .state))) (settled a)) (refused NoAssociation)
 
@@ -89,5 +94,6 @@ onCut misplaced = refused WrongMark
 onCut missized = refused WrongLength
 
 -- in order: the first of 61 and 62 in the file, then 63
+-- promise: no6.7, no14.4
 unfoldable pub loadOf : List ℕ → LoadOut
 loadOf f = onCut (cutAs shapes f)

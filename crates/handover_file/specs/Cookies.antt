@@ -20,6 +20,7 @@ abbrev pub cookiesBytes : List Cookie → List ℕ
 cookiesBytes [] = []
 cookiesBytes (c ∷ cs) = cookieBytes c ++ cookiesBytes cs
 
+-- promise: no6.1, no12.5
 unfoldable pub stashBytes : ℕ → CookieStash → List ℕ
 stashBytes cap s = s .read ∷ cookiesBytes (cookies cap s)
 
@@ -68,6 +69,7 @@ cookiesOf (whole cs) = cs
 cookiesOf broken = []
 
 -- a body has the reading place, and its cookies end with it
+-- promise: no6.7
 unfoldable pub stashFits : List ℕ → Bool
 stashFits b = cond (eqb (length b) 0) false (isRun (runOf (drop 1 b)))
 
@@ -75,6 +77,7 @@ unfoldable pub heldIn : List ℕ → List Cookie
 heldIn b = cookiesOf (runOf (drop 1 b))
 
 -- a reading place that is not below the capacity, more cookies than it, and a capacity over eight are those of no stash
+-- promise: no6.7, no12.5
 unfoldable pub stashKnown : ℕ → List ℕ → Bool
 stashKnown cap b = rangeOf cap (getD b 0 0) (length (heldIn b))
 
@@ -91,5 +94,6 @@ abbrev pub laidIn : ℕ → CookieStash → List Cookie → CookieStash
 laidIn cap s [] = s
 laidIn cap s (c ∷ cs) = laidIn cap (putOf cap s (slotFor c)) cs
 
+-- promise: no12.5
 unfoldable pub stashOf : ℕ → List ℕ → CookieStash
 stashOf cap b = laidIn cap (emptyAt (getD b 0 0)) (heldIn b)

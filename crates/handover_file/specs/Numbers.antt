@@ -19,6 +19,7 @@ use Rattle.handover_file.specs.Answers.{saved, loaded, refused}
 -- ---- writing
 
 module _ (a : Association) (room : ℕ) where
+  -- promise: no6.6
   pub data SaveGiven : ℕ → SaveOut → Type 0 where
     not-whole : wholeOf a ≡ false → SaveGiven 32 (saved NotWhole a)
     short-buffer : wholeOf a ≡ true → room < length (fileOf a) → SaveGiven 60 (saved ShortBuffer a)
@@ -27,6 +28,7 @@ module _ (a : Association) (room : ℕ) where
 -- ---- reading
 
 -- the record s is due at the start of l, and has the wrong length: where mark, length or body are not there, or the body is not one of s
+-- promise: no6.7
 pub data Faulty (s : Shape) (l : List ℕ) : Type 0 where
   no-mark : length l < 2 → Faulty s l
   no-length : 2 ≤ length l → be (part l 0 2) ≡ s .mark → length l < 4 → Faulty s l
@@ -34,12 +36,14 @@ pub data Faulty (s : Shape) (l : List ℕ) : Type 0 where
   unfit : 4 ≤ length l → be (part l 0 2) ≡ s .mark → bodyLength l ≤ length l - 4 → s .fits (part l 4 (bodyLength l)) ≡ false → Faulty s l
 
 -- the records ss are as they should be, with these bodies, and l is what follows them
+-- promise: no6.7
 pub record Begins (f : List ℕ) (ss : List Shape) (bs : List (List ℕ)) (l : List ℕ) : Type 0 where
   pub fitting : Fitting ss bs
   pub file : f ≡ joined ss bs ++ l
 
 module _ (f : List ℕ) where
   -- the first fault of the file decides between 61 and 62: all records before it are as they should be
+  -- promise: no6.7
   pub data LoadGiven : ℕ → LoadOut → Type 0 where
     wrong-mark : (ss ts : List Shape) (s : Shape) (bs : List (List ℕ)) (l : List ℕ) → shapes ≡ ss ++ (s ∷ ts) → Begins f ss bs l →
         2 ≤ length l → (be (part l 0 2) ≡ s .mark → ⊥) → LoadGiven 61 (refused WrongMark)

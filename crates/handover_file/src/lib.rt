@@ -14,6 +14,7 @@ pub enum SaveAnswer {
 
 impl SaveAnswer {
     // The number of the answer, in RULES.
+    // promise: no6.6
     pub fn number(self) -> u8
         ensures { λ r. ⌜ r ≡ saveNumber self ⌝ }
     {
@@ -42,6 +43,7 @@ pub enum LoadAnswer {
 
 impl LoadAnswer {
     // Whether it says that a version of the file was of the retired kind.
+    // promise: no14.4
     pub fn says_retired(self) -> bool
         ensures { λ r. ⌜ r ≡ saysRetired self ⌝ }
     {
@@ -53,6 +55,7 @@ impl LoadAnswer {
         }
     }
 
+    // promise: no6.7, no14.4
     pub fn number(self) -> u8
         ensures { λ r. ⌜ r ≡ loadNumber self ⌝ }
     {

@@ -180,6 +180,7 @@ pub fn effort_bytes(e: Effort) -> [u8; 2]
     [reach.0, e.tries]
 }
 
+// promise: no8.8
 pub fn effort_of(b: &[u8]) -> Effort
     ensures { λ r. ⌜ r ≡ effortOf (now (b .entry)) ⌝ }
 {

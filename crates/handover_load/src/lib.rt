@@ -212,6 +212,7 @@ fn association_in(
 }
 
 // Reads a file: the settings say how long they are. A loaded association has sent nothing yet.
+// promise: no6.7, no12.5, no14.4
 pub fn load(file: &[u8]) -> LoadOut
     ensures { λ r. ⌜ r ≡ loadOf (now (file .entry)) ⌝ }
 {

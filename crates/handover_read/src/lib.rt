@@ -153,6 +153,7 @@ fn found(d: Decided, start: usize, end: usize) -> FileRead
 }
 
 // Reads a file: the settings say how long they are.
+// promise: no6.8
 pub fn read(file: &[u8]) -> FileRead
     ensures { λ r. ⌜ r ≡ readOf (now (file .entry)) ⌝ }
 {

@@ -202,6 +202,7 @@ fn emptied(read: usize) -> CookieStash
 }
 
 // Writes the file of an association, and hands the association back without its cookies: a cookie has one owner.
+// promise: no6.1, no6.2, no6.6, no12.5
 pub fn save(a: Association, buffer: &mut [u8]) -> SaveOut
     ensures { λ r. ⌜ handed r (now (buffer .exit)) ≡ handedOf a (now (buffer .entry)) ⌝ }
 {

@@ -123,6 +123,7 @@ fn mode_code(m: Mode) -> u8
 
 impl HeaderVersion {
     // The version as the header's number.
+    // promise: 6.2
     pub fn number(self) -> u8
         ensures { λ r. ⌜ r ≡ versionCode self ⌝ }
     {
@@ -187,6 +188,7 @@ fn fields_of(version: HeaderVersion, p: &[u8]) -> Header
 }
 
 // The header at the start of a packet. What is shorter, or of another version, is refused.
+// promise: 6.1, 6.2, 6.4
 pub fn read_header(p: &[u8]) -> HeaderRead
     ensures { λ r. ⌜ r ≡ headerOf (now (p .entry)) ⌝ }
 {
@@ -235,6 +237,7 @@ fn first_byte(leap: Leap, version: HeaderVersion, mode: Mode) -> u8
 }
 
 // The 48 bytes of a header.
+// promise: 6.3
 pub fn write_header(h: Header) -> [u8; 48]
     ensures { λ r. ⌜ r ≡ bytesOf h ⌝ }
 {
@@ -256,6 +259,7 @@ pub fn write_header(h: Header) -> [u8; 48]
 }
 
 impl Header {
+    // promise: 9.1
     pub fn kisses(self) -> Kisses
         ensures { λ r. ⌜ r ≡ kissesOf self ⌝ }
     {

@@ -209,6 +209,7 @@ fn value(h: Header, authenticated: Uid, encrypted: Uid, untrusted: Uid) -> Reply
 }
 
 // The byte form of a reply: the packet, its authenticated end, and the decrypted fields.
+// promise: 7.7, 8.3
 pub fn read_reply(
     nts: bool,
     uid: [u8; 32],
@@ -245,6 +246,7 @@ fn is_response(mode: DecodedMode) -> bool
 
 impl DecodedReply {
     // The value of a decoded reply, which is V5's.
+    // promise: 9.2
     pub fn value(self) -> Reply
         ensures { λ r. ⌜ r ≡ decodedOf self ⌝ }
     {

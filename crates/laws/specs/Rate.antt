@@ -14,6 +14,8 @@ use Rattle.log.specs.Machine.{Machine, Call, after, logOf}
 use Rattle.association_log.specs.Association.{ReplyIn, rule, replied, machine}
 use Rattle.laws.specs.Along.{withReply}
 
+-- promise no7.2: Over any log the remote minimum never falls.
+--     edit: reply_clauses/a_v5_reply_lowers_the_minimum, laws/the_last_poll_never_falls
 abbrev pub remoteOf : Association → ℤ
 remoteOf a = a .state .polls .remote .0
 
@@ -41,9 +43,11 @@ crateRemote a = interval (crateRate (a .state .polls .remote .0) (a .settings .m
 abbrev pub crateReplied : Association → ReplyIn → Replied × Association
 crateReplied a r = let o = replied a r in (o .0, cond (eqb (numberOf (o .0 .answer)) 5) (withRemote (o .1) (crateRemote a)) (o .1))
 
+-- promise: no7.3 (the association with the crate's rule in RATE's place)
 abbrev pub crateMachine : Machine rule
 crateMachine = withReply machine crateReplied
 
 -- the crate's rule leads to the same record, remote minimum and all, and to the same log. Every beginning of a log is a log, so it is the same all along
+-- promise: no7.3
 abbrev pub CrateSame : Association → List (Call rule) → Type 0
 CrateSame a calls = (after crateMachine a calls ≡ after machine a calls) × (logOf crateMachine a calls ≡ logOf machine a calls)

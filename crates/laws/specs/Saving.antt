@@ -53,6 +53,8 @@ savingRule = record {
   unexpired = rule .unexpired;
 }
 
+-- promise no6.11: Logs that contain saves: demand 3 and the laws of No. 3, No. 7, No. 11 and No. 14 hold of them too, and a save changes the stash alone.
+--     edit: laws/a_save_sends_a_poll
 abbrev pub savingMachine : Machine savingRule
 savingMachine = record {
   Record = Association;
@@ -75,6 +77,7 @@ unsavedBy (ofTimer (poll t) (saved x)) = []
 unsavedBy (ofTimer (save b) x) = []
 unsavedBy (ofReply r x) = ofReply r x ∷ []
 
+-- promise: no6.11
 abbrev pub unsaved : List (Done savingMachine) → List (Done machine)
 unsaved [] = []
 unsaved (d ∷ ds) = unsavedBy d ++ unsaved ds

@@ -13,6 +13,7 @@ abbrev pub unansweredIn : Association → ℕ
 unansweredIn a = a .state .effort .unanswered
 
 -- a timer answering 20, 23 or 24 adds one up to 8, a measured reply makes it 0, and all else leaves it
+-- promise no8.5: The numbers of a log determine the unanswered polls: over any log from any record, starting at 8 for a new association.
 abbrev pub countAfter : ℕ → List (Entry rule) → ℕ
 countAfter n [] = n
 countAfter n (timed t k ∷ later) = countAfter (cond (triesPoll k) (min (n + 1) 8) n) later

@@ -29,6 +29,7 @@ abbrev pub accepted : {D : Rule} → Entry D → Bool
 accepted (timed t n) = not (eqb n 31 || eqb n 32)
 accepted (replied r n) = wellFormed n
 
+-- promise no3.6: Demand 3 has 12, 13 and 14 in place of 3, in all its parts.
 abbrev pub refusal : ℕ → Bool
 refusal n = eqb n 2 || eqb n 4 || eqb n 12 || eqb n 13 || eqb n 14
 
@@ -62,10 +63,12 @@ askedFrom D s q [] = q
 askedFrom D s q (e ∷ es) = askedFrom D s (next D s q e) es
 
 -- The last poll sent, unmeasured, as a log from a new association says it.
+-- promise: demand.3 (by the log alone)
 abbrev pub asked : (D : Rule) → D .Settings → List (Entry D) → Option (D .Request)
 asked D s log = askedFrom D s none log
 
 -- Whether a reply has been measured since the last sent poll (RULES, No. 3): a sent poll makes it no, a measured reply yes, all else leaves it.
+-- promise: no3.5
 abbrev pub nextAnswered : {D : Rule} → Bool → Entry D → Bool
 nextAnswered w (timed t n) = cond (eqb n 20) false w
 nextAnswered w (replied r n) = cond (eqb n 0) true w
@@ -75,6 +78,9 @@ answeredFrom w [] = w
 answeredFrom w (e ∷ es) = answeredFrom (nextAnswered w e) es
 
 -- Why a reply has no live request: 12 never sent, 13 already measured, 14 deadline before now; 0 where what is asked for is unexpired.
+-- promise no3.5: By the log alone, from a new association: 12 exactly if no poll was sent; 13 if one was sent and measured since; 14 if the last one sent is
+--     unmeasured and its deadline < now. This holds of each reply that was read, with an unbroken list and an expected version.
+--     edit: log/a_measured_poll_was_never_sent
 abbrev pub reason : (D : Rule) → Option (D .Request) → Bool → D .Reply → ℕ
 reason D none false r = 12
 reason D none true r = 13
@@ -84,6 +90,7 @@ reason D (some q) w r = cond (D .unexpired q r) 0 14
 abbrev pub says : ℕ → ℕ
 says n = cond (eqb n 12 || eqb n 13 || eqb n 14) n 0
 
+-- promise: no3.5
 abbrev pub considered : ℕ → Bool
 considered n = wellFormed n && not (eqb n 2)
 
@@ -97,6 +104,7 @@ strikes D s q (timed t n) = false
 strikes D s q (replied r n) = not (live D s q r)
 
 -- An entry is struck, by the log before it: it is a reply, and does not answer the last poll sent, unmeasured and unexpired.
+-- promise: demand.3
 abbrev pub struck : (D : Rule) → D .Settings → List (Entry D) → Entry D → Bool
 struck D s before e = strikes D s (asked D s before) e
 
@@ -114,5 +122,6 @@ strike (m ∷ ms) [] = []
 strike (true ∷ ms) (x ∷ xs) = strike ms xs
 strike (false ∷ ms) (x ∷ xs) = x ∷ strike ms xs
 
+-- promise: demand.3
 abbrev pub shorter : (D : Rule) → D .Settings → List (Entry D) → List (Entry D)
 shorter D s log = strike (marks D s log) log

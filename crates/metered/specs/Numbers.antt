@@ -36,6 +36,7 @@ module _ (s : Settings) (list : List ℕ) where
     pub start : upgrading (s .start .kind) ≡ false
 
   -- ---- the numbers, each with its answer
+  -- promise: no11.1
   pub data Given : ℕ → ProfileAnswer → Type 0 where
     bad-settings : settingsValid s ≡ false → Given 30 BadSettings
     broken-list : settingsValid s ≡ true → listBroken (s .nts) list ≡ true → Given 33 BrokenList

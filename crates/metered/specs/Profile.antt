@@ -29,10 +29,14 @@ numberOf UpgradingStart = 36
 numberOf LongCookie = 37
 
 -- 34: poll min is not at least 8
+-- promise no11.1: The check answers 30, 33, 34, 35, 36, 37 or 0, each exactly under its rule, in that order.
+--     edit: metered/a_poll_min_of_7_passes, metered/a_startup_limit_of_4_passes, metered/a_cookie_of_101_bytes_passes,
+--     metered/the_startup_limit_is_tried_before_poll_min
 abbrev pub lowPollMin : Settings → Bool
 lowPollMin s = ltZ (s .min .0) (pos 8)
 
 -- 35: the startup limit is not at most 3
+-- promise: no11.1
 abbrev pub highStartup : Settings → Bool
 highStartup s = ltb 3 (s .startup)
 
@@ -46,14 +50,18 @@ longerIn most (whole cs) = anyLonger most cs
 longerIn most broken = false
 
 -- 37: with NTS, a cookie of the first list is over 100 bytes
+-- promise: no11.1 (over the list's own reader)
 abbrev pub longCookie : Bool → List ℕ → Bool
 longCookie nts list = nts && longerIn 100 (cookiesIn list)
 
 -- the first of the four rules that is broken
+-- promise: no11.1
 abbrev pub firstBroken : (low high retired long : Bool) → ProfileAnswer
 firstBroken low high retired long = cond low LowPollMin (cond high HighStartup (cond retired UpgradingStart (cond long LongCookie Met)))
 
 -- the check: 30 and 33 as `new` has them, then the four rules. 36 is an upgrading start version, so nothing is left for the 38 that `new` gives it (RULES, No. 14)
+-- promise no14.2: `metered` and its check give 36 for the upgrading version, before 38, and never 38: the profile has no such answer.
+-- promise: no11.1
 unfoldable pub profileOf : Settings → List ℕ → ProfileAnswer
 profileOf s list =
     cond (settingsValid s)
@@ -62,6 +70,8 @@ profileOf s list =
     BadSettings
 
 -- the call: the check's answer; on 0 the record is the one that `new` makes, with what it says fell out (RULES, No. 5); on any other number it is the blank one
+-- promise no11.2: `metered` gives the check's number. A rejection leaves the blank record.
+-- promise: no5.5
 unfoldable pub meteredOf : Settings → List ℕ → MeteredOut
 meteredOf s list =
     record {

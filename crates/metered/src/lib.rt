@@ -81,6 +81,7 @@ fn has_long_cookie(nts: bool, list: &[u8]) -> bool
 }
 
 // Whether settings and first cookie list meet the profile, and if not, which rule is the first that they break. The list counts with NTS only.
+// promise: no11.1, no12.1, no14.2
 pub fn profile(settings: Settings, list: &[u8]) -> ProfileAnswer
     ensures { λ r. ⌜ r ≡ profileOf settings (now (list .entry)) ⌝ }
 {
@@ -115,6 +116,7 @@ pub struct MeteredOut {
 }
 
 // Makes an association that meets the profile: the one that `Association::new` makes, which tells what of the list fell out.
+// promise: no5.5, no11.2, no12.1
 pub fn metered(settings: Settings, list: &[u8]) -> MeteredOut
     ensures { λ r. ⌜ r ≡ meteredOf settings (now (list .entry)) ⌝ }
 {

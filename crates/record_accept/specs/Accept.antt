@@ -9,5 +9,6 @@ use Rattle.accept.specs.declared.AcceptAnswer.the-variants.{NotWhole}
 use Rattle.accept.specs.Accept.{acceptOf}
 use Rattle.record_bytes.specs.Record.{ok, unpacked}
 
+-- promise: exports.3
 unfoldable pub acceptCall : List ℕ → ℕ → List ℕ → Bloom → AcceptAnswer
 acceptCall b stratum local bloom = cond (ok b) (acceptOf (unpacked b) stratum local bloom) NotWhole

@@ -7,6 +7,7 @@ ghost use mathlib.Core.Path.{_≡_};
 ghost use Rattle.record_accept.specs.Accept.{acceptCall};
 
 // What is read of the record are its settings, its state and what is seen of its stash; nothing changes.
+// promise: exports.3
 pub fn accept(b: &[u8], stratum: u8, local: &[u32], bloom: Bloom) -> AcceptAnswer
     ensures { λ r. ⌜ r ≡ acceptCall (now (b .entry)) stratum (now (local .entry)) bloom ⌝ }
 {

@@ -29,10 +29,12 @@ settingsIn b = settingsOf (part b 0 27)
 abbrev pub stateIn : List ℕ → State
 stateIn b = stateOf (part b 29 63)
 
+-- promise: exports.1
 unfoldable pub unpacked : List ℕ → Association
 unpacked b = record { settings = settingsIn b; stash = stashIn b (settingsIn b .capacity); state = stateIn b }
 
 -- of the slots only those of the capacity
+-- promise: exports.1
 unfoldable pub packed : Association → List ℕ
 packed a =
     settingsBytes (a .settings)
@@ -44,6 +46,8 @@ packed a =
 unfoldable pub okIn : List ℕ → ℕ → Bool
 okIn b cap = sizedIn b cap && (settingsKnown (part b 0 27) && stateKnown (part b 29 63))
 
+-- promise exports.1: Packing loses nothing: the bytes of a record are what it unpacks to, packed. What is packed is a record and unpacks to what it was.
+--     edit: record_bytes/the_deadline_is_read_at_the_id, record_bytes/the_state_goes_a_byte_before_its_place
 unfoldable pub ok : List ℕ → Bool
 ok b = okIn b (settingsIn b .capacity)
 

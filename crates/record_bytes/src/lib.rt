@@ -126,6 +126,7 @@ fn none() -> Opened
 }
 
 // Every call on a record begins here: any bytes are answered.
+// promise: exports.1
 pub fn open_record(b: &[u8]) -> Opened
     ensures { λ r. ⌜ r ≡ openedOf (now (b .entry)) ⌝ }
 {
@@ -233,6 +234,7 @@ fn state_bytes(s: State) -> [u8; 63]
 }
 
 // The state goes where it is to lie; that it fits is what its types say. Bytes with no head stay.
+// promise: exports.1
 pub fn store_state(b: &mut [u8], s: State)
     ensures { λ _. ⌜ (now (b .exit) ≡ storedState (now (b .entry)) s) × StateFit s ⌝ }
 {
@@ -244,6 +246,7 @@ pub fn store_state(b: &mut [u8], s: State)
 }
 
 // The head of a record whose stash holds nothing, with a reading place. Bytes with no head stay.
+// promise: exports.1
 pub fn store_head(b: &mut [u8], settings: Settings, read: u8, state: State)
     ensures { λ _. ⌜ (now (b .exit) ≡ headed (now (b .entry)) settings read state) × SettingsFit settings × StateFit state ⌝ }
 {

@@ -69,6 +69,7 @@ fn refused(b: &mut [u8], number: u8) -> LoadTold
 }
 
 // Reads a file into lent bytes.
+// promise: exports.3, exports.4
 pub fn load(b: &mut [u8], file: &[u8]) -> LoadTold
     ensures { λ r. ⌜ gave r (now (b .exit)) ≡ loadedBy (now (b .entry)) (loadOf (now (file .entry))) ⌝ }
 {

@@ -122,6 +122,7 @@ fn make(b: &mut [u8], settings: Settings, list: &[u8]) -> Dropped
 }
 
 // Makes an association; with NTS it takes a first cookie list, and tells what of it fell out.
+// promise: exports.3, exports.4
 pub fn new(b: &mut [u8], settings: Settings, list: &[u8]) -> NewMade
     ensures { λ r. ⌜ gave (r .answer) (r .dropped) (now (b .exit)) ≡ newCall settings (now (list .entry)) (now (b .entry)) ⌝ }
 {
@@ -148,6 +149,7 @@ pub fn new(b: &mut [u8], settings: Settings, list: &[u8]) -> NewMade
 }
 
 // Makes an association that meets the profile for metered links.
+// promise: exports.3, exports.4
 pub fn metered(b: &mut [u8], settings: Settings, list: &[u8]) -> MeteredMade
     ensures { λ r. ⌜ gave (r .answer) (r .dropped) (now (b .exit)) ≡ meteredCall settings (now (list .entry)) (now (b .entry)) ⌝ }
 {
@@ -174,6 +176,7 @@ pub fn metered(b: &mut [u8], settings: Settings, list: &[u8]) -> MeteredMade
 }
 
 // The blank record: every byte is zero.
+// promise: exports.3
 pub fn blank(b: &mut [u8])
     ensures { λ _. ⌜ now (b .exit) ≡ blanked (now (b .entry)) ⌝ }
 {

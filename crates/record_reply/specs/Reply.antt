@@ -35,6 +35,7 @@ abbrev pub noRecord : Replied
 noRecord = record { answer = NotWhole; dropped = noneDropped }
 
 -- of what was read, by either form
+-- promise: exports.3
 unfoldable pub repliedCall : List ℕ → ReplyRead → Arrival → ReplyCall
 repliedCall b read t = cond (ok b) (replyPacked (repliedOf (unpacked b) read t)) (gave noRecord b)
 

@@ -34,6 +34,7 @@ fn settle(b: &mut [u8], capacity: u8, verdict: Verdict, list: &[u8]) -> Replied
 }
 
 // The byte form (V3, V4).
+// promise: exports.3
 pub fn reply(
     b: &mut [u8],
     packet: &[u8],
@@ -69,6 +70,7 @@ pub fn reply(
 }
 
 // The decoded form (V5 only).
+// promise: exports.3
 pub fn reply_decoded(
     b: &mut [u8],
     d: DecodedReply,
@@ -91,6 +93,7 @@ pub fn reply_decoded(
 }
 
 // The decoded form of a reply with an unknown code: nothing is stored.
+// promise: exports.9
 pub fn undecodable(b: &[u8]) -> Replied
     ensures { λ r. ⌜ UndecodableIn (now (b .entry)) r ⌝ }
 {

@@ -108,6 +108,7 @@ fn empty(b: &mut [u8], capacity: u8)
 }
 
 // Writes the file of the record, which is left without its cookies: a cookie has one owner.
+// promise: exports.3
 pub fn save(b: &mut [u8], out: &mut [u8]) -> SaveAnswer
     ensures { λ r. ⌜ gave r (now (b .exit)) (now (out .exit)) ≡ saveCall (now (b .entry)) (now (out .entry)) ⌝ }
 {

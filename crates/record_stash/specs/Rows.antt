@@ -22,6 +22,7 @@ slotsIn b at zero = []
 slotsIn b at (suc n) = slotIn b at ∷ slotsIn b (at + 726) n
 
 -- the stash of a capacity: there are no rows past the capacity, and the slots there are empty
+-- promise: exports.2
 unfoldable pub stashIn : List ℕ → ℕ → CookieStash
 stashIn b cap = record { slots = slotsIn b 92 cap ++ replicate (8 - cap) emptySlot; read = getD b 27 0; held = getD b 28 0 }
 
@@ -41,6 +42,7 @@ lensIn b cap = map (λ (x : Slot). x .len) (slotsIn b 92 cap) ++ replicate (8 - 
 abbrev pub rowOf : Slot → List ℕ
 rowOf x = x .bytes ++ toBe 2 (x .len)
 
+-- promise: exports.2
 abbrev pub rowsOf : List Slot → List ℕ
 rowsOf [] = []
 rowsOf (x ∷ xs) = rowOf x ++ rowsOf xs

@@ -21,6 +21,7 @@ use Rattle.cookiestash.specs.Handed.{handedOf}
 use Rattle.record_stash.specs.Rows.{stashIn, sizedIn, Sized, rowsOf}
 
 -- the bytes b with the stash s in place of theirs: the rest of the head stays
+-- promise: exports.2
 unfoldable pub withStash : ℕ → List ℕ → CookieStash → List ℕ
 withStash cap b s = part b 0 27 ++ (s .read ∷ s .held ∷ (part b 29 63 ++ rowsOf (take cap (s .slots))))
 
@@ -30,6 +31,10 @@ withStash cap b s = part b 0 27 ++ (s .read ∷ s .held ∷ (part b 29 63 ++ row
 abbrev pub unseen : Seen
 unseen = record { whole = false; found = false; len = 0; gap = 0; read = 0; held = 0 }
 
+-- promise exports.2: The stash is read, a cookie taken, cookies stored and laid within the bytes. Every other byte stays.
+--     edit: record_stash/the_count_is_the_reading_place, record_stash/a_cookie_goes_to_another_row, record_stash/the_last_byte_of_a_row_stays,
+--     record_stash/a_length_goes_into_the_bytes, record_stash/a_length_is_read_from_the_bytes, record_stash/a_stash_with_no_cookie_has_no_room,
+--     record_stash/the_last_row_is_not_looked_at
 unfoldable pub seenIn : List ℕ → ℕ → Seen
 seenIn b cap = cond (sizedIn b cap) (seenOf cap (stashIn b cap)) unseen
 
@@ -44,6 +49,7 @@ abbrev pub took : List ℕ → List ℕ → Took
 took b buffer = record { bytes = b; left = buffer }
 
 -- the oldest, where one is to be taken: its stored bytes go to the start of the buffer
+-- promise: exports.2
 unfoldable pub takenIn : ℕ → Bool → List ℕ → List ℕ → Took
 takenIn cap takes b buffer =
     cond (takes && sizedIn b cap)
@@ -61,6 +67,7 @@ abbrev pub refilled : Dropped → List ℕ → Refilled
 refilled d b = record { dropped = d; bytes = b }
 
 -- the cookies of a list, where they are to be stored
+-- promise: exports.2
 unfoldable pub refilledIn : ℕ → Bool → List ℕ → List ℕ → Refilled
 refilledIn cap stores list b =
     cond (stores && sizedIn b cap)
@@ -72,6 +79,7 @@ unfoldable pub keptSlot : ℕ → List ℕ → Slot
 keptSlot len kept = record { bytes = kept ++ replicate (724 - length kept) 0; len = len }
 
 -- a cookie as it was kept, behind the newest; a stash out of range and bytes that are not the stored ones of the length change nothing
+-- promise: exports.2
 unfoldable pub laidIn : ℕ → ℕ → List ℕ → List ℕ → List ℕ
 laidIn cap len kept b =
     cond (sizedIn b cap && (rangeOf cap (getD b 27 0) (getD b 28 0) && eqb (length kept) (stored len)))

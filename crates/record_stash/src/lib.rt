@@ -27,6 +27,7 @@ pub const ROW: usize = 726;
 const PAIR: usize = 1452;
 
 // Whether the bytes are as many as a record of the capacity has.
+// promise: exports.2
 pub fn sized(b: &[u8], capacity: u8) -> bool
     ensures { λ r. ⌜ r ≡ sizedIn (now (b .entry)) capacity ⌝ }
 {
@@ -129,6 +130,7 @@ fn seen_empty(capacity: u8, read: usize) -> Seen
 }
 
 // What the rules read of the stash. Where no cookie is held all rows are tested at once: zeros are slots that hold nothing.
+// promise: exports.2
 pub fn see(b: &[u8], capacity: u8) -> Seen
     ensures { λ r. ⌜ r ≡ seenIn (now (b .entry)) capacity ⌝ }
 {
@@ -155,6 +157,7 @@ pub fn see(b: &[u8], capacity: u8) -> Seen
 }
 
 // Every byte becomes zero.
+// promise: exports.2
 pub fn clear(out: &mut [u8])
     ensures { λ _. ⌜ now (out .exit) ≡ replicate (length (now (out .entry))) 0 ⌝ }
 {
@@ -233,6 +236,7 @@ fn take_oldest(b: &mut [u8], capacity: u8, buffer: &mut [u8])
 }
 
 // The oldest cookie is taken, or nothing is: its stored bytes go to the start of the buffer.
+// promise: exports.2
 pub fn take(b: &mut [u8], capacity: u8, takes: bool, buffer: &mut [u8])
     ensures { λ _. ⌜ took (now (b .exit)) (now (buffer .exit)) ≡ takenIn capacity takes (now (b .entry)) (now (buffer .entry)) ⌝ }
 {
@@ -262,6 +266,7 @@ fn put(b: &mut [u8], cap: usize, len: u16, kept: &[u8])
 }
 
 // A cookie as it was kept goes behind the newest.
+// promise: exports.2
 pub fn lay(b: &mut [u8], capacity: u8, len: u16, kept: &[u8])
     ensures { λ _. ⌜ LaidIn capacity len (now (kept .entry)) (now (b .entry)) (now (b .exit)) ⌝ }
 {
@@ -354,6 +359,7 @@ fn store_list(b: &mut [u8], capacity: u8, list: &[u8]) -> Dropped
 }
 
 // The cookies of a list are stored, or nothing is; what fell out comes back.
+// promise: exports.2
 pub fn refill(b: &mut [u8], capacity: u8, stores: bool, list: &[u8]) -> Dropped
     ensures { λ r. ⌜ refilled r (now (b .exit)) ≡ refilledIn capacity stores (now (list .entry)) (now (b .entry)) ⌝ }
 {

@@ -9,6 +9,7 @@ ghost use Rattle.timer_rules.specs.Poll.{timerInput};
 ghost use Rattle.record_timer.specs.Timer.{gave, timerCall};
 
 // What changes of the record is stored where it lies. Copied are its settings, its state, and the bytes of a cookie that is handed out.
+// promise: exports.3
 pub fn timer(
     b: &mut [u8],
     time: u64,

@@ -20,6 +20,7 @@ use Rattle.cookielist.specs.List.{listBroken}
 use Rattle.reply.specs.Reply.{told, out}
 
 -- the three numbers in 3's place (RULES, No. 3)
+-- promise: no3.4
 abbrev pub forThree : ℕ → Bool
 forThree n = eqb n 12 || eqb n 13 || eqb n 14
 
@@ -42,6 +43,7 @@ module _ (a : Association) (read : ReplyRead) (t : Arrival) where
     pub version : expectsOf (a .state .version) (r .version) ≡ true
 
   -- there 3 was given before No. 3: no pending request, or its deadline < now
+  -- promise: no3.4
   pub record WasThree (r : Reply) : Type 0 where
     pub expected : Expected r
     pub no-live : noLive (a .state .request) (t .time) ≡ true
@@ -82,6 +84,7 @@ module _ (a : Association) (read : ReplyRead) (t : Arrival) where
     pub stratum : ltb 16 (r .stratum) ≡ false
 
   -- ---- the numbers, each with its answer and the record after it
+  -- promise: 11.1, no5.5
   pub data Given : ℕ → ReplyOut → Type 0 where
     not-whole : wholeOf a ≡ false → Given 32 (out NotWhole a)
     undecodable : wholeOf a ≡ true → read ≡ R.Undecodable → Given 1 (out Undecodable a)

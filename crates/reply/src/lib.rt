@@ -51,6 +51,7 @@ fn judged(a: Association, verdict: Verdict, list: &[u8]) -> ReplyOut
 }
 
 // The byte form (V3, V4), on a record by value.
+// promise: 11.1, no5.5
 pub fn reply_core(
     a: Association,
     packet: &[u8],
@@ -83,6 +84,7 @@ pub fn reply_core(
 }
 
 // The decoded form (V5 only), on a record by value.
+// promise: 11.1, no5.5
 pub fn reply_decoded_core(
     a: Association,
     d: DecodedReply,
@@ -102,6 +104,7 @@ pub fn reply_decoded_core(
 }
 
 // The byte form: the association that the caller lends is updated.
+// promise: 11.1, 11.10, no5.5, no12.2
 pub fn reply(
     a: &mut Association,
     packet: &[u8],
@@ -121,6 +124,7 @@ pub fn reply(
 }
 
 // The decoded form: the association that the caller lends is updated.
+// promise: 11.1, 11.10, no5.5, no12.2
 pub fn reply_decoded(
     a: &mut Association,
     d: DecodedReply,

@@ -34,6 +34,7 @@ pub struct Measurement {
 }
 
 // Nothing is pending, and nothing was: no poll has been sent.
+// promise: 11.2
 pub fn never_sent(request: Pending) -> bool
     ensures { λ r. ⌜ r ≡ neverSent request ⌝ }
 {
@@ -45,6 +46,7 @@ pub fn never_sent(request: Pending) -> bool
 }
 
 // Nothing is pending any more: a reply to the last poll has been measured.
+// promise: 11.2
 pub fn already_measured(request: Pending) -> bool
     ensures { λ r. ⌜ r ≡ alreadyMeasured request ⌝ }
 {
@@ -56,6 +58,7 @@ pub fn already_measured(request: Pending) -> bool
 }
 
 // A request is pending, and its deadline is passed.
+// promise: 11.2
 pub fn expired(request: Pending, time: u64) -> bool
     ensures { λ r. ⌜ r ≡ expired request time ⌝ }
 {
@@ -67,6 +70,7 @@ pub fn expired(request: Pending, time: u64) -> bool
 }
 
 // Whether a reply answers the request of an identifier; with NTS also by its unique identifier. This is what keeps out replies that are old, doubled or forged.
+// promise: 11.3
 pub fn answers(nts: bool, id: u64, reply: Reply) -> bool
     ensures { λ r. ⌜ r ≡ answers nts id reply ⌝ }
 {
@@ -83,6 +87,7 @@ pub fn answers(nts: bool, id: u64, reply: Reply) -> bool
     uid_groups::uid_matches(authenticated, encrypted, untrusted, kisses.ntsn)
 }
 
+// promise: 11.5
 pub fn denies(kisses: Kisses) -> bool
     ensures { λ r. ⌜ r ≡ (kisses .deny || kisses .rstr) ⌝ }
 {
@@ -90,6 +95,7 @@ pub fn denies(kisses: Kisses) -> bool
 }
 
 // The upgrade step, on a matching reply. Each steps as a plain one does: only the retired kind of version told two kinds of reply apart.
+// promise: 4.3
 pub fn stepped(s: State) -> State
     ensures { λ r. ⌜ r ≡ stepped s ⌝ }
 {
@@ -101,6 +107,7 @@ pub fn stepped(s: State) -> State
 }
 
 // A RATE kiss raises the remote minimum.
+// promise: 11.4
 pub fn after_rate_kiss(settings: Settings, s: State) -> State
     ensures { λ r. ⌜ r ≡ afterRateKiss settings s ⌝ }
 {
@@ -116,6 +123,7 @@ pub fn after_rate_kiss(settings: Settings, s: State) -> State
 }
 
 // A denial is noted, until a reply is measured: when the timer gives up it then demobilizes instead of beginning again.
+// promise: 11.5
 pub fn after_denial(s: State) -> State
     ensures { λ r. ⌜ r ≡ afterDenial s ⌝ }
 {
@@ -139,6 +147,7 @@ fn raised(remote: PollInterval, reply: Reply) -> PollInterval
 }
 
 // What a measured reply leaves.
+// promise: 11.8, no3.1, no8.4
 pub fn after_measured(s: State, reply: Reply) -> State
     ensures { λ r. ⌜ r ≡ afterMeasured s reply ⌝ }
 {
@@ -174,6 +183,7 @@ pub fn after_measured(s: State, reply: Reply) -> State
 }
 
 // The measurement of a reply to a request that left at t1, and which came at t4.
+// promise: 11.8
 pub fn measured(reply: Reply, t1: NtpTimestamp, t4: NtpTimestamp, time: u64) -> Measurement
     ensures { λ r. ⌜ r ≡ measurementOf reply t1 t4 time ⌝ }
 {

@@ -25,6 +25,9 @@ abbrev pub leaves : ReplyAnswer → State → Verdict
 leaves r s = record { answer = r; state = s; stores = false }
 
 -- a matching reply, after the upgrade step: 5 to 11 in order, else 0; measured, with NTS the cookies are stored
+-- promise 11.7: Number 10: stratum over 16.
+--     edit: reply_rules/stratum_16_is_refused
+-- promise: 11.1
 unfoldable pub matchedOf : Settings → State → Reply → NtpTimestamp → NtpTimestamp → ℕ → Verdict
 matchedOf g s r t1 t4 time =
     cond (r .kisses .rate) (leaves Rate (afterRateKiss g s))
@@ -37,6 +40,7 @@ matchedOf g s r t1 t4 time =
     (record { answer = Measured (measurementOf r t1 t4 time); state = afterMeasured s r; stores = g .nts }))))))
 
 -- a reply that was read: 33, 2, 12, 13, 14, 4, then the upgrade step and what follows it
+-- promise: 11.1
 unfoldable pub judgeOf : Settings → State → Reply → Arrival → Verdict
 judgeOf g s r t =
     cond (listBroken (g .nts) (t .list)) (leaves BrokenList s)
@@ -52,6 +56,9 @@ onRead g s t (R.Decoded r) = judgeOf g s r t
 onRead g s t R.Undecodable = leaves Undecodable s
 
 -- either form, of what was read
+-- promise 11.1: The order of a reply is 32, 1 (byte form), 33, 2, then 12, 13 or 14, then 4, the upgrade step, 5 to 11, 0. Each number is given exactly under
+--     its rule.
+--     edit: reply_rules/all_replies_are_refused, reply_rules/one_number_always, reply_rules/no_upgrade_step_at_11
 unfoldable pub verdictOf : Settings → State → Seen → ReplyRead → Arrival → Verdict
 verdictOf g s v read t = cond (wholeSeen g v s) (onRead g s t read) (leaves NotWhole s)
 

@@ -199,6 +199,7 @@ fn awaited(nts: bool, request: Pending) -> [u8; 32]
 }
 
 // The verdict on the byte form (V3, V4): 32, 1, and then the judge.
+// promise: 11.1, 11.7
 pub fn judge_packet(
     settings: Settings,
     s: State,
@@ -235,6 +236,7 @@ pub fn judge_packet(
 }
 
 // The verdict on the decoded form (V5 only): 32, and then the judge.
+// promise: 11.1, 11.7
 pub fn judge_decoded(
     settings: Settings,
     s: State,

@@ -15,14 +15,18 @@ abbrev pub extension : ℕ → ℕ → List ℕ → Extension
 extension kind len body = record { kind = kind; len = len; body = body }
 
 -- bytes, filled with zeros to n
+-- promise: no1.3
 unfoldable pub filled : ℕ → List ℕ → List ℕ
 filled n bytes = bytes ++ replicate (n - length bytes) 0
 
 -- how long the field of a body of n bytes is: a multiple of four, and the least length, 16
+-- promise no1.3: Bodies are filled with zeros to a multiple of four and to the least length.
+--     edit: request/padding_not_zero
 unfoldable pub fieldLength : ℕ → ℕ
 fieldLength n = max 16 ((n + 4 + 3) / 4 * 4)
 
 -- type and length, two bytes each, and the body, filled with zeros to the length
+-- promise: no1.3
 unfoldable pub extensionBytes : Extension → List ℕ
 extensionBytes e = toBe 2 (e .kind) ++ toBe 2 (e .len) ++ filled (e .len - 4) (e .body)
 

@@ -46,6 +46,7 @@ pub enum Requested {
 
 impl Requested {
     // The number of the answer, in RULES.
+    // promise: no1.5
     pub fn number(self) -> u8
         ensures { λ r. ⌜ r ≡ numberOf self ⌝ }
     {
@@ -226,6 +227,7 @@ fn write_nts(front: [u8; 48], uid: [u8; 32], cookie: &[u8], asked: u8, out: &mut
 }
 
 // Writes the request from the buffer's start on. In order: 50, with NTS 52, 51, the packet.
+// promise: no1.1, no1.2, no1.3, no1.4, no1.5
 pub fn write_request(
     kind: SendKind,
     poll: PollInterval,

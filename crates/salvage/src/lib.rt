@@ -60,6 +60,7 @@ fn followed(list: &[u8], end: usize) -> bool
 }
 
 // Tries an offset: the list's own reader says whether a record fits there.
+// promise: no9.1
 fn record_at(list: &[u8], at: usize) -> Found
     ensures { λ r. ⌜ r ≡ recordAt (now (list .entry)) at ⌝ }
 {
@@ -103,6 +104,7 @@ fn refused() -> Salvaged
 }
 
 // Writes the records that are kept from the buffer's start on. Each place is tried once, and each record copied once, so that time grows with the length.
+// promise: no9.1, no9.2, no9.3, no9.7
 pub fn salvage(list: &[u8], out: &mut [u8]) -> Salvaged
     ensures { λ r. ⌜ (r ≡ salvageOf (now (list .entry)) (length (now (out .entry)))) × (now (out .exit) ≡ bufferOf (now (list .entry)) (now (out .entry))) ⌝ }
 {

@@ -63,6 +63,7 @@ fn decided(a: Association, decision: Decision, buffer: &mut [u8]) -> TimerOut
 }
 
 // The timer, on a record by value.
+// promise: 3.11, 10.1, 10.8
 pub fn timer_core(
     a: Association,
     time: u64,
@@ -88,6 +89,7 @@ pub fn timer_core(
 }
 
 // The timer: the association that the caller lends is updated.
+// promise: 10.1, 10.8, 10.9 (proved by a walk, over `timer_core`), no12.2
 pub fn timer(
     a: &mut Association,
     time: u64,

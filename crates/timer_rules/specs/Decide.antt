@@ -24,10 +24,19 @@ sendOf g s i len asked takes =
     record { answer = Sent (kindOf (s .version .kind) (g .nts)) (pollOf (i .desired) (s .polls .remote)) len asked; state = sentOf g s i; takes = takes }
 
 -- how many new cookies are asked for with the oldest; gap counted after the take; no stash has a gap over 8, and one would count as 8 (No. 4)
+-- promise no4.2: For a larger gap, which no stash has, the number is that for 8.
+-- promise: 10.4
 abbrev pub askedWith : Seen → ℕ
 askedWith v = askedOf (min (v .gap) 8) (v .len)
 
 -- with NTS: take a cookie or 23; zero asked for is 24, cookie gone
+-- promise 10.4: The timer takes a cookie, or answers 23. It asks for min(gap, 724 div max(length, 1), 255) cookies, with the gap counted after the take; zero
+--     is 24.
+--     edit: timer_rules/the_cookie_count_is_invented, cookiestash/the_gap_before_the_take
+-- promise 10.5: On 23 and 24 the pending request and the last poll stay.
+--     edit: timer_rules/the_request_is_replaced_on_a_large_cookie, timer_rules/the_request_is_forgotten_without_a_cookie
+-- promise no3.2: A timer that answers 23 or 24 leaves `answered`.
+--     edit: timer_rules/the_fact_is_cleared_without_a_cookie
 unfoldable pub decideNts : Settings → State → Seen → TimerInput → Decision
 decideNts g s v i =
     cond (v .found)
@@ -37,6 +46,8 @@ decideNts g s v i =
     (leaves NoCookie s)
 
 -- room is how many bytes of buffer the caller lends
+-- promise 10.1: The timer's order is 32, 31, the rest. Each number is given exactly under its rule.
+--     edit: timer_rules/a_short_buffer_is_told_first
 unfoldable pub decideOf : Settings → State → Seen → TimerInput → ℕ → Decision
 decideOf g s v i room =
     cond (wholeSeen g v s)

@@ -108,6 +108,9 @@ fn tried(s: State) -> State
 }
 
 // How many cookies of a length fit into 724 bytes, eight at most: by four comparisons, since the small board has no divider.
+// promise no4.3: At most eight comparisons, read off the source, and no division: tested, not proved, by `tests/opcodes`, which reads the library's object
+//     code.
+// promise: no4.1, no4.3 (at most four comparisons of the length)
 fn fit(len: u16) -> u8
     ensures { λ r. ⌜ r ≡ min (724 / max len 1) 8 ⌝ }
 {
@@ -139,6 +142,7 @@ fn fit(len: u16) -> u8
 }
 
 // How many new cookies are asked for: no more than there is room for in the stash, and than fit into a packet whose placeholders are each as long as the cookie.
+// promise: no4.1, no4.2, no4.3 (one with the gap)
 fn asked(gap: u8, len: u16) -> u8
     ensures { λ r. ⌜ r ≡ askedOf (min gap 8) len ⌝ }
 {
@@ -240,6 +244,7 @@ fn decide_nts(settings: Settings, s: State, seen: Seen, input: TimerInput) -> De
 }
 
 // What the timer decides. In order: 32, 31, 22 and 21, the poll.
+// promise: 10.1, 10.2, 10.3, 10.4, 10.5, 10.6, no3.1, no4.2, no8.3, no8.7
 pub fn decide(settings: Settings, s: State, seen: Seen, input: TimerInput, room: usize) -> Decision
     ensures { λ r. ⌜ r ≡ decideOf settings s seen input room ⌝ }
 {

@@ -31,15 +31,21 @@ allStartWith [] u = true
 allStartWith (b ∷ bs) u = startsWith b u && allStartWith bs u
 
 -- of the bodies of a group's uid fields: absent; agree, where each starts with u; or disagree
+-- promise 8.1: Each group is absent, agrees (every field of type 0104 starts with the 32 bytes) or disagrees.
+--     edit: uid_groups/uid_not_noted
 abbrev pub uidOf : List ℕ → List (List ℕ) → Uid
 uidOf u [] = Absent
 uidOf u (b ∷ bs) = cond (allStartWith (b ∷ bs) u) Agree Disagree
 
 -- the packet's fields that start at `from` or later and before `to`
+-- promise 7.8: Fields before the authenticated end are authenticated, fields after it untrusted.
+--     edit: incoming/untrusted_taken_as_authenticated
+-- promise: 8.1
 unfoldable pub packetUid : List ℕ → ℕ → ℕ → List ℕ → Uid
 packetUid p from to u = uidOf u (bodiesOf uidKind p (between from to (fieldsOf (packetWalk p))))
 
 -- all decrypted fields
+-- promise: 8.1
 unfoldable pub decryptedUid : List ℕ → List ℕ → Uid
 decryptedUid p u = uidOf u (bodiesOf uidKind p (fieldsOf (decryptedWalk p)))
 
@@ -66,6 +72,8 @@ abbrev pub groupsMatch : List Uid → Bool
 groupsMatch gs = noneDisagrees gs && oneAgrees gs
 
 -- part 8: the authenticated and the encrypted group; the untrusted one joins for an NTSN kiss only, and else is as good as absent
+-- promise 8.2: The authenticated and the encrypted group must not disagree, and one must agree. The untrusted group counts only for NTSN.
+--     edit: uid_groups/untrusted_believed
 unfoldable pub uidMatches : Uid → Uid → Uid → Bool → Bool
 uidMatches authenticated encrypted untrusted ntsn = groupsMatch (authenticated ∷ encrypted ∷ cond ntsn untrusted Absent ∷ [])
 

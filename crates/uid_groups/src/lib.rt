@@ -88,6 +88,7 @@ fn uid_among(p: &[u8], decrypted: bool, first: usize, from: usize, to: usize, ui
 }
 
 // What the packet's fields say that start at `from` or later and before `to`.
+// promise: 7.8, 8.1
 pub fn packet_uid(p: &[u8], from: usize, to: usize, uid: [u8; 32]) -> Uid
     ensures { λ r. ⌜ r ≡ packetUid (now (p .entry)) from to uid ⌝ }
 {
@@ -95,6 +96,7 @@ pub fn packet_uid(p: &[u8], from: usize, to: usize, uid: [u8; 32]) -> Uid
 }
 
 // What decrypted fields say, all of them.
+// promise: 8.1
 pub fn decrypted_uid(p: &[u8], uid: [u8; 32]) -> Uid
     ensures { λ r. ⌜ r ≡ decryptedUid (now (p .entry)) uid ⌝ }
 {
@@ -134,6 +136,7 @@ fn looked_at(untrusted: Uid, ntsn: bool) -> Uid
 }
 
 // Whether the groups of a reply match: none disagrees, and one agrees.
+// promise: 8.2
 pub fn uid_matches(authenticated: Uid, encrypted: Uid, untrusted: Uid, ntsn: bool) -> bool
     ensures { λ r. ⌜ r ≡ uidMatches authenticated encrypted untrusted ntsn ⌝ }
 {
