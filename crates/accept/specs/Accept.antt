@@ -38,14 +38,13 @@ isPresent Present = true
 -- stratum ≠ 1 and the source's own identifier is among the local ones
 -- promise 12.2: Number 41, as amended by No. 2: stratum ≠ 1 and the source's own identifier is among ours; or stratum ≥ 2 and the identifier that it reports
 --     is; or the Bloom filter says present.
---     edit: accept/the_own_identifier_is_compared_no_more, accept/the_reported_identifier_is_not_compared, accept/a_report_at_stratum_1_is_compared,
---     accept/a_bloom_filter_is_not_believed
+--     edit: accept/the_own_identifier_is_compared_no_more, accept/the_reported_identifier_is_not_compared, accept/a_bloom_filter_is_not_believed
 abbrev pub isOurs : ℕ → ℕ → List ℕ → Bool
 isOurs stratum id local = not (eqb stratum 1) && among id local
 
 -- stratum ≥ 2 and the reference identifier that the source reports is among the local ones (No. 2)
 -- promise no2.1: The answer differs from the crate's rule only where the new test hits, and then it is 41.
---     edit: accept/a_report_at_stratum_1_is_compared, accept/the_own_identifier_is_compared_no_more
+--     edit: accept/the_own_identifier_is_compared_no_more
 -- promise: 12.2
 abbrev pub servedByUs : ℕ → ℕ → List ℕ → Bool
 servedByUs stratum refid local = leb 2 stratum && among refid local
@@ -57,7 +56,7 @@ loops stratum id refid local bloom = (isOurs stratum id local || servedByUs stra
 
 -- 40 if stratum ≥ local stratum; 41 for a loop; 42 if reach is 0
 -- promise 12.1: The order of acceptance is 32, 40, 41, 42, 0. Each number is given exactly under its rule.
---     edit: accept/the_same_stratum_is_accepted, accept/unreachable_is_accepted
+--     edit: accept/unreachable_is_accepted
 abbrev pub acceptBy : Bool → Settings → State → Seen → ℕ → AcceptAnswer
 acceptBy loop g s v stratum =
     cond (wholeSeen g v s)

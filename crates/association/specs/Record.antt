@@ -27,7 +27,7 @@ use Rattle.association.specs.Settings.{settingsValid}
 -- nothing is pending: absent things are zero; what stays is whether a reply has been measured since the last sent poll (RULES, No. 3)
 -- promise no3.1: The record keeps in `answered` of the request whether a reply was measured since the last sent poll. A 20 makes it no, a 0 yes. A new record
 --     and the blank one have no.
---     edit: timer_rules/a_sent_poll_keeps_the_fact, reply_clauses/a_measured_reply_is_forgotten
+--     edit: reply_clauses/a_measured_reply_is_forgotten
 unfoldable pub noPending : Bool → Pending
 noPending answered = record { present = false; id = 0; uid = replicate 32 0; deadline = 0; answered = answered }
 
@@ -61,7 +61,7 @@ blankOf =
 
 -- a new association has reach 0, tries 0, 8 unanswered polls (RULES, No. 8), stratum 16, reference identifier XNON, both poll values at min, nothing pending, no reply measured, no denial noted
 -- promise whole.4: `new` answers 30, 33 and 38 in this order. A rejection leaves the blank record.
---     edit: association/a_new_source_has_stratum_0, association/a_broken_list_is_refused_as_settings
+--     edit: association/a_new_source_has_stratum_0
 -- promise no8.2: The unanswered polls are 8 when new.
 -- promise: no3.1
 unfoldable pub freshOf : Settings → Association
@@ -88,13 +88,11 @@ withState a s = record { settings = a .settings; stash = a .stash; state = s }
 
 -- the unanswered polls are those of reach, the trailing zeros (RULES, No. 8)
 -- promise no8.6: A record whose unanswered polls disagree with reach is not whole: 32.
---     edit: association/a_count_that_disagrees_is_whole
 unfoldable pub effortValid : Effort → Bool
 effortValid e = eqb (e .unanswered) (unansweredOf (e .reach))
 
 -- beside a pending request no reply has been measured (RULES, No. 3); absent things are zero
 -- promise no3.3: A record with `answered` beside a pending request is not whole.
---     edit: association/an_answered_request_is_pending
 unfoldable pub pendingValid : Pending → Bool
 pendingValid r = cond (r .present) (not (r .answered)) (eqb (r .id) 0 && (eqb (r .deadline) 0 && zeros (r .uid)))
 
@@ -113,8 +111,6 @@ versionsValid start spoken = not (upgrading (start .kind)) && not (upgrading (sp
 -- its unanswered polls are those of reach, its versions are not of the retired kind, a pending request is unanswered, absent things are zero, and without NTS read, held and uid are zero
 -- promise whole.2: When a record is whole. Run: `drills/broken-record.drill`, `drills/poke.drill`, `drills/whole-record.drill`,
 --     `drills/no-live-request.drill`, `drills/unanswered.drill`.
---     edit: association/an_absent_deadline_is_not_looked_at, association/an_answered_request_is_pending, association/a_count_that_disagrees_is_whole,
---     association/an_identifier_without_nts_is_not_looked_at
 -- promise: no8.6, no14.3
 unfoldable pub wholeSeen : Settings → Seen → State → Bool
 wholeSeen s v q =

@@ -31,7 +31,7 @@ dividesDay repeat = not (eqb repeat 0) && eqb (1440 % repeat) 0
 -- 81: the repeat is 0 or does not divide 1440
 -- promise no13.3: Number 80: more than 64 entries. 81: a repeat that is 0 or does not divide 1440. 82: a start at or past its repeat. 83: a minute over the
 --     cap. Each names the lowest, in that order.
---     edit: calendar/one_more_than_the_cap_passes, calendar/late_starts_before_bad_repeats, calendar/minute_1439_is_not_looked_at
+--     edit: calendar/one_more_than_the_cap_passes, calendar/late_starts_before_bad_repeats
 abbrev pub badRepeat : List ℕ → ℕ → Bool
 badRepeat repeats k = not (dividesDay (repeatOf repeats k))
 

@@ -14,7 +14,6 @@ use Rattle.calendar.specs.declared.PlanAnswer.the-variants.{Planned, Too
 
 -- a start fits the next entry if, behind those placed before, no minute of the day gets more polls than the cap
 -- promise no13.5: The planner places the entries one by one, each at the earliest start that fits with those before.
---     edit: calendar/a_later_start_is_taken
 abbrev pub fits : ℕ → List ℕ → List ℕ → ℕ → Bool
 fits cap repeats placed start = isNothing (lowest (over cap (placed ++ start ∷ []) repeats (suc (length placed))) 1440)
 

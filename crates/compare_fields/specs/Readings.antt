@@ -74,8 +74,7 @@ heldOf cap s = cond (inRange cap s) (cookies cap s) []
 
 -- the cookie of an age, 0 the oldest
 -- promise no10.2: Cookies are compared by age, and shown only by length and the place of the first differing stored byte, or of the shorter one's end.
---     edit: compare_fields/the_place_is_off_by_one, compare_fields/cookies_past_the_shorter_stash_are_left_out,
---     compare_fields/a_missing_cookie_reads_as_an_empty_one, compare_fields/the_next_cookie_is_taken_for_this_one
+--     edit: compare_fields/cookies_past_the_shorter_stash_are_left_out, compare_fields/a_missing_cookie_reads_as_an_empty_one
 -- promise: no10.1
 unfoldable pub agedOf : List Cookie → ℕ → Reading
 agedOf cs age = getD (map cookieReading cs) age noCookie

@@ -23,7 +23,6 @@ noneFallen = record { fell = false; len = 0 }
 
 -- the oldest, where all slots are held
 -- promise no5.1: Storing a cookie answers whether an older one fell out, and its length.
---     edit: cookiestash/an_oldest_falls_out_of_a_stash_with_room
 unfoldable pub oldestOf : ℕ → CookieStash → Fallen
 oldestOf cap s = cond (full cap s) (record { fell = true; len = slotAt (s .slots) (s .read) .len }) noneFallen
 
@@ -41,7 +40,7 @@ storedOf cap s c = record { stash = storeOf cap s c; fallen = fallenOf cap s c }
 
 -- the cookies that fall out where these are stored in order: of those held before and those stored, oldest first, as many as do not fit
 -- promise no5.2: What fell out is the beginning of what was held and what is stored, as many as do not fit. Count and sum are of exactly those.
---     edit: cookiestash/the_newest_falls_out, cookiestash/a_cookie_over_724_bytes_counts_as_none
+--     edit: cookiestash/the_newest_falls_out
 unfoldable pub fallenAll : ℕ → CookieStash → List (List ℕ) → List Cookie
 fallenAll cap s cs = take (s .held + length cs - cap) (cookies cap s ++ map cookieOf cs)
 

@@ -20,7 +20,7 @@ toldOf gaps = min gaps 32
 
 -- the report of a salvage, field by field
 -- promise exports.11: The tools, which have no record, are the calls that they wrap: the number, all that is reported or named, every lent byte.
---     edit: exports_tools/the_kept_are_told_as_gaps, exports_tools/a_late_start_is_a_bad_repeat
+--     edit: exports_tools/the_kept_are_told_as_gaps
 abbrev pub salvagedAs : Salvaged → CSalvaged
 salvagedAs s =
     record { number = s .number; told = toldOf (s .gaps); kept = s .kept; skipped = s .skipped; gaps = s .gaps; length = s .len; places = s .places }

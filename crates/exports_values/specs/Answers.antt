@@ -47,8 +47,7 @@ unsent number = record { number = number; kind = 0; poll = interval (pos 0); ask
 
 -- promise exports.7: The exported calls `reckonstile_*` have their answers as numbers, and the number is that of RULES. `exports/proofs/Determined` has a
 --     theorem for each.
---     edit: exports_values/a_measured_truth_is_two, exports_values/a_field_is_told_with_another_kind, exports/a_refused_setting_is_a_wrong_size,
---     exports/the_revision_is_another
+--     edit: exports_values/a_field_is_told_with_another_kind, exports/a_refused_setting_is_a_wrong_size
 abbrev pub timerAnswer : TimerAnswer → CTimerAnswer
 timerAnswer (T.Sent kind poll len asked) = record { number = 20; kind = sendCode kind; poll = poll; asked = asked; length = len }
 timerAnswer T.Reset = unsent 21

@@ -27,7 +27,6 @@ fieldIs p at least =
 
 -- an offset past the bytes is broken; a tail is not walked; a field, with its type, its body's start and length, and its end; else broken
 -- promise 7.2: A tail of at most 24 bytes is not walked.
---     edit: fields/tail_of_28
 -- promise 7.4: An offset past the bytes is broken.
 --     edit: fields/past_the_bytes_is_the_end
 -- promise: 7.1, 7.2 (at 24)

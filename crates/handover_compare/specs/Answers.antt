@@ -50,7 +50,7 @@ rightOut a g out = ifLoaded (loadOf g .answer) (writtenIn a (loadOf g .associati
 
 -- the left file first
 -- promise no10.5: The comparison rejects with the numbers of No. 6, left file first, then with 71. It then writes nothing.
---     edit: handover_compare/the_right_file_is_read_first, handover_compare/a_short_buffer_is_filled, handover_compare/the_left_settings_stand_on_both_sides
+--     edit: handover_compare/a_short_buffer_is_filled
 unfoldable pub compareOf : List ℕ → List ℕ → ℕ → CompareAnswer
 compareOf f g room = onLoad Left (loadOf f .answer) (rightOf (loadOf f .association) g room)
 

@@ -16,10 +16,8 @@ use Rattle.handover_groups.specs.Codes.{yesCode, yesOf, yesKnown, kindCo
 -- min 1, max 1, startup 1, window 8, upgrade mark 8, start version 2 (kind, tries), nts 1, source identifier 4, capacity 1
 -- promise no6.1: A hand-over file has six records in one fixed order, each a mark, a length and a body. The stash's body has the reading place, then the
 --     cookies, oldest first.
---     edit: handover_groups/the_tries_byte_is_ignored, handover_groups/a_fifth_kind_is_known, handover_save/a_cookie_over_724_writes_bytes,
---     handover_save/a_settings_record_has_the_stash_mark
+--     edit: handover_groups/the_tries_byte_is_ignored, handover_groups/a_fifth_kind_is_known
 -- promise no12.5: The settings of the hand-over file have one byte more, and an old file reads as 8.
---     edit: handover_groups/an_old_file_has_capacity_1
 unfoldable pub settingsBytes : Settings → List ℕ
 settingsBytes s =
     unsigned (2 ^ 7) (s .min .0)

@@ -46,6 +46,6 @@ onCut f misplaced = refusedAs WrongMark
 onCut f missized = refusedAs WrongLength
 
 -- promise no6.8: A file that is read in place has the answer of loading it. Its association is the settings, the state and the stash's body that are found.
---     edit: handover_read/the_version_is_read_at_the_polls, handover_read/the_stash_is_found_at_its_length
+--     edit: handover_read/the_stash_is_found_at_its_length
 unfoldable pub readOf : List ℕ → FileRead
 readOf f = onCut f (cutAs shapes f)

@@ -66,7 +66,6 @@ abbrev pub firstByte : Leap → HeaderVersion → Mode → ℕ
 firstByte l v m = leapCode l * 64 + versionCode v * 8 + modeCode m
 
 -- promise 6.2: The version is in bits 3 to 5 of byte 0. Versions 3 and 4 are read.
---     edit: header/version_five_is_read
 abbrev pub versionBits : List ℕ → ℕ
 versionBits p = getD p 0 0 / 8 % 8
 
@@ -74,7 +73,7 @@ versionBits p = getD p 0 0 / 8 % 8
 
 -- the fields at their offsets; poll and precision are signed
 -- promise 6.1: A header has 48 bytes, with fields at 0, 1, 2, 3, 4, 8, 12, 16, 24, 32 and 40. Poll and precision are signed.
---     edit: header/forty_seven_bytes_are_read, header/the_halves_of_a_word_change_places
+--     edit: header/forty_seven_bytes_are_read
 unfoldable pub fields : HeaderVersion → List ℕ → Header
 fields v p =
     record {

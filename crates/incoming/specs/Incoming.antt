@@ -59,14 +59,12 @@ isServer M.Private = false
 
 -- the authenticated end: V3 has only tail, so that 48 is its walk's only place; V4's is a place of a walk that is not broken
 -- promise 7.7: V3 has only a tail, of any length.
---     edit: incoming/v3_end_at_52
 abbrev pub endValid : HeaderVersion → List ℕ → ℕ → Bool
 endValid V3 p end = eqb end 48
 endValid V4 p end = isPlace p end
 
 -- decrypted field bytes are read only with NTS; broken: 1
 -- promise 8.3: Without NTS neither groups nor decrypted bytes are read.
---     edit: incoming/decrypted_identifier_without_nts
 abbrev pub decryptedValid : Bool → List ℕ → Bool
 decryptedValid nts decrypted = not nts || whole (decryptedWalk decrypted)
 

@@ -37,7 +37,7 @@ storedIn nts (d ∷ ds) = storedBy nts d ++ storedIn nts ds
 -- the order of storing: the first list, then those of the replies
 -- promise no14.8: Cookies in order: over any log from a new association the cookies handed out are, in order, some of the cookies stored, each place used at
 --     most once.
---     edit: laws/a_cookie_is_handed_out_twice, cookiestash/get_gives_the_newest
+--     edit: laws/a_cookie_is_handed_out_twice
 abbrev pub storedFrom : Settings → List ℕ → List (Done machine) → List (List ℕ)
 storedFrom s list done = storedOn (new.numberOf (new.newOf s list .answer)) (s .nts) list ++ storedIn (s .nts) done
 

@@ -15,7 +15,7 @@ use Rattle.association_log.specs.Association.{ReplyIn, rule, replied, machine}
 use Rattle.laws.specs.Along.{withReply}
 
 -- promise no7.2: Over any log the remote minimum never falls.
---     edit: reply_clauses/a_v5_reply_lowers_the_minimum, laws/the_last_poll_never_falls
+--     edit: laws/the_last_poll_never_falls
 abbrev pub remoteOf : Association → ℤ
 remoteOf a = a .state .polls .remote .0
 

@@ -30,8 +30,7 @@ numberOf LongCookie = 37
 
 -- 34: poll min is not at least 8
 -- promise no11.1: The check answers 30, 33, 34, 35, 36, 37 or 0, each exactly under its rule, in that order.
---     edit: metered/a_poll_min_of_7_passes, metered/a_startup_limit_of_4_passes, metered/a_cookie_of_101_bytes_passes,
---     metered/the_startup_limit_is_tried_before_poll_min
+--     edit: metered/a_poll_min_of_7_passes
 abbrev pub lowPollMin : Settings → Bool
 lowPollMin s = ltZ (s .min .0) (pos 8)
 

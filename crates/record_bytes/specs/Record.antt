@@ -47,7 +47,7 @@ unfoldable pub okIn : List ℕ → ℕ → Bool
 okIn b cap = sizedIn b cap && (settingsKnown (part b 0 27) && stateKnown (part b 29 63))
 
 -- promise exports.1: Packing loses nothing: the bytes of a record are what it unpacks to, packed. What is packed is a record and unpacks to what it was.
---     edit: record_bytes/the_deadline_is_read_at_the_id, record_bytes/the_state_goes_a_byte_before_its_place
+--     edit: record_bytes/the_state_goes_a_byte_before_its_place
 unfoldable pub ok : List ℕ → Bool
 ok b = okIn b (settingsIn b .capacity)
 

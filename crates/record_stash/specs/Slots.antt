@@ -32,9 +32,8 @@ abbrev pub unseen : Seen
 unseen = record { whole = false; found = false; len = 0; gap = 0; read = 0; held = 0 }
 
 -- promise exports.2: The stash is read, a cookie taken, cookies stored and laid within the bytes. Every other byte stays.
---     edit: record_stash/the_count_is_the_reading_place, record_stash/a_cookie_goes_to_another_row, record_stash/the_last_byte_of_a_row_stays,
---     record_stash/a_length_goes_into_the_bytes, record_stash/a_length_is_read_from_the_bytes, record_stash/a_stash_with_no_cookie_has_no_room,
---     record_stash/the_last_row_is_not_looked_at
+--     edit: record_stash/a_cookie_goes_to_another_row, record_stash/the_last_byte_of_a_row_stays, record_stash/a_length_is_read_from_the_bytes,
+--       record_stash/the_last_row_is_not_looked_at
 unfoldable pub seenIn : List ℕ → ℕ → Seen
 seenIn b cap = cond (sizedIn b cap) (seenOf cap (stashIn b cap)) unseen
 

@@ -38,15 +38,13 @@ live q time = q .present && unexpired (q .deadline) time
 
 -- RULES, No. 3, tells apart what was 3: no pending request, or its deadline < now
 -- promise no3.4: Each old 3 is exactly one of 12, 13 and 14, and each of these was a 3.
---     edit: reply_rules/measured_says_12
 -- promise: no3.4 (the old 3)
 abbrev pub noLive : Pending → ℕ → Bool
 noLive q time = not (q .present) || ltb (q .deadline) time
 
 -- 12: never sent: nothing is pending, and no reply has been measured since the last sent poll
 -- promise 11.2: Number 12: never sent. 13: already measured. 14: the deadline of the pending request < now.
---     edit: reply_rules/expiry_clears_the_request, reply_clauses/an_expired_reply_is_believed, reply_rules/measured_says_12,
---     edge_cases/a_request_lives_a_moment_longer
+--     edit: reply_rules/expiry_clears_the_request, reply_clauses/an_expired_reply_is_believed, edge_cases/a_request_lives_a_moment_longer
 abbrev pub neverSent : Pending → Bool
 neverSent q = not (q .present) && not (q .answered)
 
@@ -68,7 +66,6 @@ answers nts id r = eqb (r .origin) id && (not nts || uidMatches (r .authenticate
 
 -- DENY or RSTR
 -- promise 11.5: Numbers 6 and 7: DENY or RSTR.
---     edit: reply_rules/a_denial_without_nts_demobilizes
 abbrev pub denies : Reply → Bool
 denies r = r .kisses .deny || r .kisses .rstr
 
@@ -87,7 +84,6 @@ stepped s =
 
 -- 5: RATE: remote minimum becomes the largest of the old one, min(old + 1, max) and the last poll (RULES, No. 7)
 -- promise 11.4: Number 5: RATE.
---     edit: time_types/rate_forgets_the_last_poll
 unfoldable pub afterRateKiss : Settings → State → State
 afterRateKiss g s =
     record {
@@ -118,9 +114,8 @@ raised remote r = cond (eqb (r .version) 5) (interval (larger (remote .0) (r .po
 -- 0: reach bit, no unanswered poll (No. 8), denial cleared, pending cleared, a reply measured since the last sent poll (No. 3), stratum and reference identifier taken
 -- promise 11.8: A measured reply sets the reach bit, makes the unanswered polls 0, clears denial and pending request, and takes stratum and reference
 --     identifier. V5 raises the remote minimum. The cookies are stored in order. The measurement is that of part 5.
---     edit: reply_clauses/a_v5_reply_lowers_the_minimum, reply/the_new_cookies_are_not_stored, reply_rules/cookies_are_stored_without_nts
+--     edit: reply/the_new_cookies_are_not_stored, reply_rules/cookies_are_stored_without_nts
 -- promise no8.4: A measured reply makes the unanswered polls 0. Any other reply leaves them.
---     edit: reply_clauses/a_measured_reply_leaves_the_count
 -- promise: no3.1
 unfoldable pub afterMeasured : State → Reply → State
 afterMeasured s r =

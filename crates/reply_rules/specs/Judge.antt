@@ -26,7 +26,6 @@ leaves r s = record { answer = r; state = s; stores = false }
 
 -- a matching reply, after the upgrade step: 5 to 11 in order, else 0; measured, with NTS the cookies are stored
 -- promise 11.7: Number 10: stratum over 16.
---     edit: reply_rules/stratum_16_is_refused
 -- promise: 11.1
 unfoldable pub matchedOf : Settings → State → Reply → NtpTimestamp → NtpTimestamp → ℕ → Verdict
 matchedOf g s r t1 t4 time =
@@ -58,7 +57,7 @@ onRead g s t R.Undecodable = leaves Undecodable s
 -- either form, of what was read
 -- promise 11.1: The order of a reply is 32, 1 (byte form), 33, 2, then 12, 13 or 14, then 4, the upgrade step, 5 to 11, 0. Each number is given exactly under
 --     its rule.
---     edit: reply_rules/all_replies_are_refused, reply_rules/one_number_always, reply_rules/no_upgrade_step_at_11
+--     edit: reply_rules/all_replies_are_refused, reply_rules/one_number_always
 unfoldable pub verdictOf : Settings → State → Seen → ReplyRead → Arrival → Verdict
 verdictOf g s v read t = cond (wholeSeen g v s) (onRead g s t read) (leaves NotWhole s)
 

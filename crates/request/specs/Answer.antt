@@ -27,7 +27,7 @@ fitted long room = cond (ltb room long) ShortBuffer (Written long)
 -- 50, then with NTS 52, then 51; else the length up to the authenticator's place
 -- promise no1.4: On 0 the writer gives the length up to the authenticator's place. Bytes past it stay.
 -- promise no1.5: The writer answers 50, then with NTS 52, then 51; on these nothing is written.
---     edit: request/a_refusal_writes, request/nine_asked_for
+--     edit: request/a_refusal_writes
 unfoldable pub requestOf : SendKind → PollInterval → ℕ → ℕ → List ℕ → List ℕ → ℕ → ℕ → Requested
 requestOf kind poll id upgrademark uid cookie asked room =
     cond (isV5 kind) VersionFive

@@ -55,7 +55,6 @@ reftimeOf NtsV5 upgrademark = 0
 -- leap 0, version 4, mode 3, the last poll, the pending 64 bits as transmit timestamp; all else is zero
 -- promise no1.1: A request has leap 0, version 4, mode 3, the last poll and the pending 64 bits as transmit timestamp. The upgrade request has the mark as
 --     reference timestamp. All else is zero.
---     edit: request/mark_in_a_plain_request
 unfoldable pub headerFor : SendKind → PollInterval → ℕ → ℕ → Header
 headerFor kind poll id upgrademark =
     record {

@@ -14,7 +14,7 @@ use Rattle.salvage.specs.declared.Found.the-variants.{Record, Nothing}
 -- a mark: its two bytes are there, and are C0 0E
 -- promise no9.1: Salvage tries each position in turn. If a mark, a length and that many bytes fit, followed by the end or another mark, the record is kept
 --     and reading continues after it. Otherwise one byte is skipped.
---     edit: salvage/what_follows_is_not_looked_at, salvage/two_bytes_are_skipped, salvage/a_cut_mark_is_a_mark
+--     edit: salvage/two_bytes_are_skipped
 -- promise: no9.1 (both bytes of a mark)
 unfoldable pub markAt : List ℕ → ℕ → Bool
 markAt l at = leb (at + 2) (length l) && eqb (recordMarkAt l at) 0xC00E

@@ -36,7 +36,6 @@ askedWith v = askedOf (min (v .gap) 8) (v .len)
 -- promise 10.5: On 23 and 24 the pending request and the last poll stay.
 --     edit: timer_rules/the_request_is_replaced_on_a_large_cookie, timer_rules/the_request_is_forgotten_without_a_cookie
 -- promise no3.2: A timer that answers 23 or 24 leaves `answered`.
---     edit: timer_rules/the_fact_is_cleared_without_a_cookie
 unfoldable pub decideNts : Settings → State → Seen → TimerInput → Decision
 decideNts g s v i =
     cond (v .found)
@@ -47,7 +46,6 @@ decideNts g s v i =
 
 -- room is how many bytes of buffer the caller lends
 -- promise 10.1: The timer's order is 32, 31, the rest. Each number is given exactly under its rule.
---     edit: timer_rules/a_short_buffer_is_told_first
 unfoldable pub decideOf : Settings → State → Seen → TimerInput → ℕ → Decision
 decideOf g s v i room =
     cond (wholeSeen g v s)

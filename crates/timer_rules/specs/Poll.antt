@@ -25,13 +25,11 @@ shortBuffer g room = g .nts && ltb room 724
 
 -- reach is 0 and tries ≥ startup limit
 -- promise 10.2: Reach 0 and tries ≥ startup limit give 22 if a denial is noted, else 21.
---     edit: timer_rules/reset_and_demobilize_are_exchanged
 unfoldable pub startupOver : Settings → State → Bool
 startupOver g s = eqb (s .effort .reach .0) 0 && leb (g .startup) (s .effort .tries)
 
 -- reach polls; tries grow by one, held at 255; the unanswered polls grow by one, held at 8 (RULES, No. 8)
 -- promise no8.3: A timer that answers 20, 23 or 24 adds one unanswered poll, up to 8. Any other number leaves them.
---     edit: timer_rules/a_cookie_that_is_too_large_does_not_count
 -- promise: 10.3
 unfoldable pub polled : Effort → Effort
 polled e = record { reach = polledOf (e .reach); tries = min (e .tries + 1) 255; unanswered = min (e .unanswered + 1) 8 }
@@ -52,7 +50,6 @@ triedOf s =
 
 -- how many new cookies are asked for: min(gap, 724 div max(length, 1), 255)
 -- promise no4.1: The timer asks for min(gap, 724 div max(length, 1), 255) cookies, for every length and every gap from 0 to 8.
---     edit: timer_rules/eight_cookies_of_91_bytes_are_asked, timer_rules/cookies_of_725_bytes_are_sent, timer_rules/the_gap_is_no_limit
 -- promise: 10.4
 abbrev pub askedOf : ℕ → ℕ → ℕ
 askedOf gap len = min (min gap (724 / max len 1)) 255
@@ -64,7 +61,7 @@ deadlineOf time window = min (time + window) (2 ^ 64 - 1)
 
 -- pending is the given identifier (uid only with NTS) with its deadline; no reply has been measured since (RULES, No. 3)
 -- promise 10.6: On 20 the given identifier is pending, with the deadline now + window, at most 2^64 − 1. The last poll is max(desired, remote minimum).
---     edit: timer_rules/the_deadline_forgets_the_window, timer_rules/the_remote_minimum_is_forgotten
+--     edit: timer_rules/the_remote_minimum_is_forgotten
 -- promise: no3.1
 unfoldable pub pendingOf : Bool → ℕ → TimerInput → Pending
 pendingOf nts window i = record { present = true; id = i .id; uid = cond nts (i .uid) (replicate 32 0); deadline = deadlineOf (i .time) window; answered = false }

@@ -7,7 +7,6 @@ use Rattle.version.specs.declared.SendKind.{SendKind}
 use Rattle.version.specs.declared.SendKind.the-variants as send
 
 -- promise 10.7: There are five kinds of send. Run: `drills/upgrade-falls-back.drill`.
---     edit: version/with_nts_upgrading_sends_v4
 abbrev pub kindOf : ProtocolVersion → Bool → SendKind
 kindOf V4 nts = cond nts send.NtsV4 send.V4
 kindOf (Upgrading tries) nts = cond nts send.NtsV5 send.V4Upgrade
