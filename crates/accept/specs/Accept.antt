@@ -24,7 +24,7 @@ numberOf Loop = 41
 numberOf Unreachable = 42
 numberOf NotWhole = 32
 
--- an identifier is among those of a list
+-- an identifier is in a list
 abbrev pub among : ℕ → List ℕ → Bool
 among id [] = false
 among id (x ∷ xs) = eqb x id || among id xs

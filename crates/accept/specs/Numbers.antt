@@ -1,4 +1,4 @@
--- RULES, "The numbers": when acceptance gives each number, and with which answer, in the order of the tests. The record stays.
+-- RULES, "The numbers": when acceptance returns each number, and with which answer, in the order of the tests. The record does not change.
 -- Assumes nothing.
 use mathlib.Core.Path.{_≡_}
 use mathlib.Core.Bool.{true, false}

@@ -1,4 +1,4 @@
--- RULES, "The numbers": when `new` gives each number, and which answer and record come with it, in the order of the tests.
+-- RULES, "The numbers": when `new` returns each number, and with which answer and record, in the order of the tests.
 -- Assumes nothing.
 use mathlib.Core.Path.{_≡_}
 use mathlib.Core.Bool.{true, false}

@@ -24,7 +24,7 @@ use Rattle.association.specs.declared.State.{State}
 use Rattle.association.specs.declared.Association.{Association}
 use Rattle.association.specs.Settings.{settingsValid}
 
--- nothing is pending: absent things are zero; what stays is whether a reply has been measured since the last sent poll (RULES, No. 3)
+-- nothing is pending: absent things are zero, but it keeps whether a reply has been measured since the last sent poll (RULES, No. 3)
 -- promise no3.1: The record keeps in `answered` of the request whether a reply was measured since the last sent poll. A 20 makes it no, a 0 yes. A new record
 --     and the blank one have no.
 --     edit: reply_clauses/a_measured_reply_is_forgotten
@@ -59,7 +59,8 @@ blankOf =
           };
     }
 
--- a new association has reach 0, tries 0, 8 unanswered polls (RULES, No. 8), stratum 16, reference identifier XNON, both poll values at min, nothing pending, no reply measured, no denial noted
+-- a new association has reach 0, tries 0, 8 unanswered polls (RULES, No. 8), stratum 16, reference identifier XNON, both poll values at min, nothing pending,
+-- no reply measured, no denial noted
 -- promise whole.4: `new` answers 30, 33 and 38 in this order. A rejection leaves the blank record.
 --     edit: association/a_new_source_has_stratum_0
 -- promise no8.2: The unanswered polls are 8 when new.
@@ -91,7 +92,7 @@ withState a s = record { settings = a .settings; stash = a .stash; state = s }
 unfoldable pub effortValid : Effort → Bool
 effortValid e = eqb (e .unanswered) (unansweredOf (e .reach))
 
--- beside a pending request no reply has been measured (RULES, No. 3); absent things are zero
+-- while a request is pending no reply has been measured (RULES, No. 3); absent things are zero
 -- promise no3.3: A record with `answered` beside a pending request is not whole.
 unfoldable pub pendingValid : Pending → Bool
 pendingValid r = cond (r .present) (not (r .answered)) (eqb (r .id) 0 && (eqb (r .deadline) 0 && zeros (r .uid)))
@@ -107,8 +108,9 @@ idleValid nts read held uid = nts || (eqb read 0 && (eqb held 0 && zeros uid))
 unfoldable pub versionsValid : Version → Version → Bool
 versionsValid start spoken = not (upgrading (start .kind)) && not (upgrading (spoken .kind))
 
--- a record is whole if its settings hold, its stash is whole (read < capacity, held ≤ capacity, free slots have length 0, those past the capacity too, bytes past a slot's stored bytes are zero),
--- its unanswered polls are those of reach, its versions are not of the retired kind, a pending request is unanswered, absent things are zero, and without NTS read, held and uid are zero
+-- a record is whole if its settings are valid, its stash is whole (read < capacity, held ≤ capacity, free slots have length 0, those past the capacity too,
+-- bytes past a slot's stored bytes are zero), its unanswered polls are those of reach, its versions are not of the retired kind, a pending request is
+-- unanswered, absent things are zero, and without NTS read, held and uid are zero
 -- promise whole.2: When a record is whole. Run: `drills/broken-record.drill`, `drills/poke.drill`, `drills/whole-record.drill`,
 --     `drills/no-live-request.drill`, `drills/unanswered.drill`.
 -- promise: no8.6, no14.3

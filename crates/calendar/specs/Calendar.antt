@@ -11,7 +11,7 @@ use Rattle.calendar.specs.declared.CheckAnswer.the-variants.{Accepted, T
 
 -- ---- the entries
 
--- as many as the longer list has; a repeat that is missing counts as 0 and a start as 1440, so that 81 or 82 refuses the entry
+-- as many as the longer list has; a missing repeat counts as 0 and a missing start as 1440, so that 81 or 82 rejects the entry
 -- promise no13.1: An entry is a start and a repeat. There are as many as the longer list has; a missing value counts as a repeat of 0 or a start of 1440.
 abbrev pub entriesOf : List ℕ → List ℕ → ℕ
 entriesOf starts repeats = max (length starts) (length repeats)
@@ -42,7 +42,7 @@ lateStart starts repeats k = leb (repeatOf repeats k) (startOf starts k)
 
 -- ---- the polls of a minute
 
--- a poll of an entry stands at minute m exactly if m modulo repeat is its start
+-- an entry has a poll at minute m exactly if m modulo repeat is its start
 -- promise no13.2: An entry polls at minute m exactly if m modulo its repeat is its start. The load of a minute is the number of entries that poll then.
 abbrev pub polls : ℕ → ℕ → ℕ → Bool
 polls start repeat m = eqb (m % repeat) start
@@ -60,7 +60,7 @@ over cap starts repeats n m = ltb cap (load starts repeats n m)
 
 -- ---- the check
 
--- 80 more than 64 entries; 81, 82, 83, each with the lowest entry or minute; else accepted
+-- 80 more than 64 entries; 81, 82, 83, each with the lowest entry or minute; otherwise accepted
 -- promise no13.8: The check accepts what the planner returns.
 -- promise: no13.3, no13.7
 unfoldable pub checkOf : ℕ → List ℕ → List ℕ → CheckAnswer

@@ -6,12 +6,12 @@ use Prim.Native.Nat.{ℕ, zero, suc, _<_}
 use Rattle.calendar.specs.declared.Found.{Found}
 use Rattle.calendar.specs.declared.Found.the-variants.{At, Nothing}
 
--- what is made of a number that was found, or else
+-- a function of the number that was found, or `other` if none was
 abbrev pub named : {A : Type 0} → Found → (ℕ → A) → A → A
 named (At k) f other = f k
 named Nothing f other = other
 
--- below n + 1: the lowest below n, and where there is none, n if it passes
+-- below n + 1: the lowest below n or, if there is none, n if it passes
 -- promise: no13.3
 unfoldable pub lowest : (ℕ → Bool) → ℕ → Found
 lowest test zero = Nothing

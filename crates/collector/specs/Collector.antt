@@ -14,7 +14,7 @@ use Rattle.collector.specs.declared.Collected.the-variants.{Done, Broken
 abbrev pub cookieKind : ℕ
 cookieKind = 0x0204
 
--- the cookies: whole bodies, padding counted
+-- the cookies: whole bodies, padding included
 abbrev pub cookiesOf : List ℕ → List (List ℕ)
 cookiesOf p = bodiesOf cookieKind p (fieldsOf (decryptedWalk p))
 
@@ -23,12 +23,12 @@ cookiesOf p = bodiesOf cookieKind p (fieldsOf (decryptedWalk p))
 unfoldable pub listIn : List ℕ → List ℕ
 listIn p = listOf (cookiesOf p)
 
--- refused for broken fields, then for a list longer than the buffer; else the list's length
+-- broken fields are rejected first, then a list longer than the buffer; otherwise the list's length
 -- promise: 7.9
 unfoldable pub collectOf : List ℕ → ℕ → Collected
 collectOf p room = cond (whole (decryptedWalk p)) (cond (leb (length (listIn p)) room) (Done (length (listIn p))) TooLong) Broken
 
--- the list from the start on and the bytes past it untouched, or nothing written
+-- the list at the start and the bytes past it unchanged, or nothing written
 abbrev pub leftIn : List ℕ → List ℕ → Collected → List ℕ
 leftIn list out (Done n) = list ++ drop n out
 leftIn list out Broken = out

@@ -9,7 +9,8 @@ use Rattle.association.specs.declared.Association.{Association}
 use Rattle.compare_fields.specs.declared.Field.{Field}
 use Rattle.compare_fields.specs.Readings.{Reading, readingsOf}
 
--- min, max, startup, window, upgrade mark, start version, nts, source; capacity; the reading place; the cookies by age; reach, tries, version, last, remote minimum, stratum, reference identifier, denial
+-- min, max, startup, window, upgrade mark, start version, nts, source; capacity; the reading place; the cookies by age; reach, tries, version, last, remote
+-- minimum, stratum, reference identifier, denial
 -- promise: no10.1
 abbrev pub codes : List ℕ
 codes =
@@ -20,7 +21,7 @@ codes =
     ∷ 48 ∷ 49 ∷ 50 ∷ 51 ∷ 52 ∷ 53 ∷ 54 ∷ 55
     ∷ []
 
--- the place of the first differing byte; where the one are all of the other's beginning, the shorter one's end
+-- the place of the first byte that differs; if one list is the beginning of the other, the end of the shorter one
 -- promise: no10.2
 abbrev pub placeOf : List ℕ → List ℕ → ℕ
 placeOf [] r = 0
@@ -71,7 +72,7 @@ abbrev pub listBytes : List Field → List ℕ
 listBytes [] = []
 listBytes (f ∷ fs) = entryBytes f ++ listBytes fs
 
--- with the records exchanged: the same field, its readings exchanged
+-- with the records swapped: the same field, with its readings swapped
 -- promise no10.4: With the files exchanged, the same fields are listed with the readings exchanged.
 abbrev pub swapped : Field → Field
 swapped f = record { code = f .code; left = f .right; right = f .left; place = f .place; same = f .same }

@@ -1,5 +1,5 @@
--- RULES, "Either side of each edge": the starred cases as one table of the definitions. A case is a call of a definition and what it is to give,
--- and `Right` says what the case claims. proofs/Holds.antt has the one theorem: every claim of the table holds.
+-- RULES, "Either side of each edge": the starred cases as one table over the definitions. A case is a call of a definition with its expected result, and
+-- `Right` says what the case claims. proofs/Holds.antt has the one theorem: every claim of the table holds.
 -- Assumes nothing.
 use mathlib.Core.Path.{_≡_}
 use mathlib.Core.Bool.{Bool, true, false}
@@ -51,9 +51,9 @@ pub data Case : Type 0 where
   -- when a poll was sent and its window, and a time at which it is live
   -- promise: 11.2
   live-at : (sent window time : ℕ) → Case
-  -- when a poll was sent and its window, and the number that a reply gives at a time
+  -- when a poll was sent and its window, and the number that a reply gets at a time
   late-at : (sent window time number : ℕ) → Case
-  -- nothing is pending, a reply has been measured since the last sent poll or not, and the number that a reply gives (RULES, No. 3)
+  -- nothing is pending, a reply has been measured since the last sent poll or not, and the number that a reply gets (RULES, No. 3)
   unasked : (answered : Bool) (number : ℕ) → Case
   -- a version and a plain reply
   -- promise: 4.2 (with 2, 1, 0)

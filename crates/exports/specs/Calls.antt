@@ -1,4 +1,4 @@
--- What each exported call gives: the call behind it, its answer in numbers, and the lent bytes as that call leaves them.
+-- What each exported call returns: the answer of the call that it makes, as numbers, and the lent bytes as that call leaves them.
 -- Assumes nothing.
 use mathlib.Core.Bool.{cond}
 use mathlib.Core.List.{List}
@@ -39,7 +39,7 @@ madeAs t = made (newAnswer (newNumber (t .answer)) (t .dropped)) (t .bytes)
 abbrev pub meteredAs : Call MeteredInBytes → Made
 meteredAs t = made (newAnswer (meteredNumber (t .answer)) (t .dropped)) (t .bytes)
 
--- settings whose codes are of no kind: 30, and every byte zero
+-- settings with an unknown code: 30, and every byte zero
 abbrev pub unmade : List ℕ → Made
 unmade b = made (newAnswer 30 noneDropped) (blanked b)
 
@@ -51,7 +51,7 @@ madeBy s list b = cond (settingsOk s) (madeAs (newCall (settingsIn s) list b)) (
 unfoldable pub meteredBy : CSettings → List ℕ → List ℕ → Made
 meteredBy s list b = cond (settingsOk s) (meteredAs (meteredCall (settingsIn s) list b)) (unmade b)
 
--- settings whose codes are of no kind: 30
+-- settings with an unknown code: 30
 -- promise: exports.7
 unfoldable pub profiledOf : CSettings → List ℕ → ℕ
 profiledOf s list = cond (settingsOk s) (metered.numberOf (metered.profileOf (settingsIn s) list)) 30
@@ -117,7 +117,7 @@ loadedAs t = loaded (loadAnswer (t .told .number) (t .told .retired)) (t .bytes)
 
 -- ---- look
 
--- 0, or 32 where the bytes are no record: settings and state are those of zeros then
+-- 0, or 32 if the bytes are no record: then settings and state are those of an all-zero record
 -- promise exports.12: `look` shows the settings and the state of a record, and 32 with those of 92 zeros if the bytes are no record. `field_at` is the walk
 --     of part 7.
 abbrev pub viewOf : Opened → CView

@@ -1,5 +1,5 @@
-// What a caller from C or Rust links: the calls of the association, over a record in bytes that the caller lends, and the tools beside it.
-// Promises: each is the call behind it, its answer told in numbers and every lent byte as that call leaves it; any bytes at all are answered.
+// What a C or Rust program links: the association's calls, over a record in bytes that the caller lends, and the tools beside it.
+// Promises: each returns as numbers the answer of the call that it makes, and leaves every lent byte as that call does; any bytes get an answer.
 // Rule: RULES, parts 7 and 10 to 12, and No. 1, No. 5, No. 6, No. 9 to No. 11 and No. 13; definitions in specs/Calls.antt, of the tools in exports_tools.
 use cookiestash::Dropped;
 use exports_tools::CCalendarAnswer;
@@ -44,7 +44,7 @@ ghost use Rattle.exports_values.specs.Answers.{bloomIn, collectedAs, requestedA
 ghost use Rattle.exports.specs.Calls.{made, madeBy, meteredBy, profiledOf, timed, timedAs, toldAs, replied, repliedAs};
 ghost use Rattle.exports.specs.Calls.{saved, savedBy, loaded, loadedAs, viewOf};
 
-// What the header that a program was compiled with has to say too.
+// The header that a program was compiled with has to have the same revision.
 const REVISION: u32 = 0xBCF8_1C62;
 
 // promise: exports.7
@@ -55,7 +55,7 @@ pub extern "C" fn reckonstile_revision() -> u32
     REVISION
 }
 
-// The record becomes blank, every byte zero: 0.
+// Makes the record blank, every byte zero: 0.
 // promise: exports.7
 #[no_mangle]
 pub extern "C" fn reckonstile_blank(bytes: &mut [u8]) -> u32
@@ -65,7 +65,7 @@ pub extern "C" fn reckonstile_blank(bytes: &mut [u8]) -> u32
     0
 }
 
-// The bytes become a new association: 0. Blank where it is refused: 30, 33, 38; then 31 where they are not as many as the capacity asks for, and stay.
+// Makes a new association in the bytes: 0. A rejected one leaves them blank: 30, 33, 38. Then 31 if their number does not fit the capacity, with no change.
 // promise: exports.7, exports.8
 #[no_mangle]
 pub extern "C" fn reckonstile_new(bytes: &mut [u8], settings: CSettings, list: &[u8]) -> CNewAnswer
@@ -83,7 +83,7 @@ pub extern "C" fn reckonstile_new(bytes: &mut [u8], settings: CSettings, list: &
     exports_values::new_answer(told.number(), dropped)
 }
 
-// The bytes become a metered association: 0. Blank where it is refused: 30, 33 to 37; then 31 where they are not as many as the capacity asks for, and stay.
+// Makes a metered association in the bytes: 0. A rejected one leaves them blank: 30, 33 to 37. Then 31 if their number does not fit the capacity: no change.
 // promise: exports.7, exports.8
 #[no_mangle]
 pub extern "C" fn reckonstile_metered(
@@ -105,7 +105,7 @@ pub extern "C" fn reckonstile_metered(
     exports_values::new_answer(told.number(), dropped)
 }
 
-// The number that `reckonstile_metered` gives where the bytes are as many as the capacity asks for; there is no record.
+// The number that `reckonstile_metered` returns if the number of bytes fits the capacity; there is no record.
 // promise: exports.7
 #[no_mangle]
 pub extern "C" fn reckonstile_profile(settings: CSettings, list: &[u8]) -> u32
@@ -169,7 +169,7 @@ pub extern "C" fn reckonstile_reply(
     told(out)
 }
 
-// A reply of V5, decoded by the caller: the same numbers. One with a code of no kind cannot be decoded: 1, after the test of the record.
+// A V5 reply, decoded by the caller: the same numbers. One with an unknown code cannot be decoded: 1, after the test of the record.
 // promise: exports.8, exports.9
 #[no_mangle]
 pub extern "C" fn reckonstile_reply_decoded(
@@ -204,7 +204,7 @@ pub extern "C" fn reckonstile_accept(bytes: &[u8], stratum: u8, local: &[u32], b
     number as u32
 }
 
-// The record as a hand-over file, from the buffer's start on: 0, 32, 60. Its cookies are the file's then, and it comes back without them.
+// Writes the record as a hand-over file to the start of the buffer: 0, 32, 60. The cookies then belong to the file, and the record no longer has them.
 // promise: exports.7
 #[no_mangle]
 pub extern "C" fn reckonstile_save(bytes: &mut [u8], out: &mut [u8]) -> CWritten
@@ -214,8 +214,8 @@ pub extern "C" fn reckonstile_save(bytes: &mut [u8], out: &mut [u8]) -> CWritten
     exports_values::saved(answer)
 }
 
-// The bytes become the association of a hand-over file, with nothing sent yet: 0, and whether a version of it was of the retired kind.
-// Blank where it is refused: 61, 62, 63; then 31 where they are not as many as its capacity asks for, and stay.
+// Loads a hand-over file into the bytes, with nothing sent yet: 0, and whether a version in it was of the retired kind. A rejected file leaves them blank: 61,
+// 62, 63. Then 31 if their number does not fit its capacity, with no change.
 // promise: exports.7
 #[no_mangle]
 pub extern "C" fn reckonstile_load(bytes: &mut [u8], file: &[u8]) -> CLoadAnswer
@@ -225,7 +225,7 @@ pub extern "C" fn reckonstile_load(bytes: &mut [u8], file: &[u8]) -> CLoadAnswer
     exports_values::load_answer(told.number, told.retired)
 }
 
-// What a display or a log shows: 0, the settings and the state; or 32, and those of zeros.
+// What a display or a log shows: 0 with the settings and the state, or 32 with those of an all-zero record.
 #[repr(C)]
 pub struct CView {
     pub settings: CSettings,
@@ -258,7 +258,7 @@ pub extern "C" fn reckonstile_look(bytes: &[u8]) -> CView
     }
 }
 
-// The cookies among decrypted fields, as a list from the buffer's start on: 0, 1, 31.
+// Writes the cookies among decrypted fields, as a list, to the start of the buffer: 0, 1, 31.
 // promise: exports.10
 #[no_mangle]
 pub extern "C" fn reckonstile_collect(decrypted: &[u8], out: &mut [u8]) -> CWritten
@@ -269,7 +269,7 @@ pub extern "C" fn reckonstile_collect(decrypted: &[u8], out: &mut [u8]) -> CWrit
     exports_values::collected(answer)
 }
 
-// The request that a timer's 20 asks for, from the buffer's start on: 0, 50, 51, 52.
+// Writes the request for a timer's 20 to the start of the buffer: 0, 50, 51, 52.
 // promise: exports.10
 #[no_mangle]
 pub extern "C" fn reckonstile_write_request(
@@ -291,7 +291,7 @@ pub extern "C" fn reckonstile_write_request(
     exports_values::requested(answer)
 }
 
-// What stands at an offset of a packet, so that nobody writes the walk over its fields again: 0, 1.
+// What is at an offset of a packet, so that no caller has to write the walk over the fields: 0, 1.
 // promise: exports.12
 #[no_mangle]
 pub extern "C" fn reckonstile_field_at(packet: &[u8], at: usize) -> CField
@@ -301,7 +301,7 @@ pub extern "C" fn reckonstile_field_at(packet: &[u8], at: usize) -> CField
     exports_values::field(step)
 }
 
-// The clean list of a damaged one, from the buffer's start on: 0, 70.
+// Writes the clean list of a damaged one to the start of the buffer: 0, 70.
 // promise: exports.11
 #[no_mangle]
 pub extern "C" fn reckonstile_salvage(list: &[u8], out: &mut [u8]) -> CSalvaged
@@ -311,7 +311,7 @@ pub extern "C" fn reckonstile_salvage(list: &[u8], out: &mut [u8]) -> CSalvaged
     exports_tools::salvage(list, out)
 }
 
-// The fields in which two hand-over files differ, from the buffer's start on: 0, 61 to 63, 71.
+// Writes the fields in which two hand-over files differ to the start of the buffer: 0, 61 to 63, 71.
 // promise: exports.11
 #[no_mangle]
 pub extern "C" fn reckonstile_compare(left: &[u8], right: &[u8], out: &mut [u8]) -> CCompared
@@ -334,7 +334,7 @@ pub extern "C" fn reckonstile_check_calendar(
     exports_tools::check(cap, starts, repeats)
 }
 
-// The starts of a plan, from the buffer's start on: 0, 80, 81, 84, 31.
+// Writes the starts of a plan to the start of the buffer: 0, 80, 81, 84, 31.
 // promise: exports.11
 #[no_mangle]
 pub extern "C" fn reckonstile_plan_calendar(

@@ -1,4 +1,4 @@
--- How the answers of the tools (RULES, No. 9, No. 10 and No. 13) are told in numbers.
+-- The answers of the tools (RULES, No. 9, No. 10 and No. 13) as numbers.
 -- Assumes nothing.
 use Prim.Native.Nat.{ℕ, min}
 use Rattle.salvage.specs.declared.Salvaged.{Salvaged}
@@ -14,7 +14,7 @@ use Rattle.exports_tools.specs.declared.CSalvaged.{CSalvaged}
 use Rattle.exports_tools.specs.declared.CCalendarAnswer.{CCalendarAnswer}
 use Rattle.exports_tools.specs.declared.CCompared.{CCompared}
 
--- how many gaps have their places told: up to 32
+-- how many gaps have their places reported: up to 32
 abbrev pub toldOf : ℕ → ℕ
 toldOf gaps = min gaps 32
 

@@ -120,13 +120,13 @@ newAnswer number dropped = record { number = number; made = cond (eqb number 0) 
 
 -- ---- accept
 
--- 0 no filter, 1 absent; any other code is taken for present, so that what cannot be read accepts nothing
+-- 0 is no filter, 1 is absent; any other code counts as present, so that an unknown code accepts nothing
 abbrev pub bloomIn : ℕ → Bloom
 bloomIn code = cond (eqb code 0) B.NoFilter (cond (eqb code 1) B.Absent B.Present)
 
 -- ---- what is written to a buffer
 
--- so many bytes are written; or none are, for a reason
+-- so many bytes are written; or none, and the number says why
 abbrev pub wrote : ℕ → CWritten
 wrote length = record { number = 0; written = 1; length = length }
 
@@ -154,7 +154,7 @@ requestedAs W.CookieOrCount = unwritten 52
 
 -- ---- what is read from a file
 
--- the number, and 1 where a version of the file was of the retired kind (RULES, No. 14)
+-- the number, and 1 if a version in the file was of the retired kind (RULES, No. 14)
 -- promise: exports.7
 abbrev pub loadAnswer : ℕ → Bool → CLoadAnswer
 loadAnswer number retired = record { number = number; retired = cond retired 1 0 }
@@ -164,7 +164,7 @@ loadAnswer number retired = record { number = number; retired = cond retired 1 0
 abbrev pub noField : ℕ → CField
 noField number = record { number = number; found = 0; kind = 0; spare = 0; body = 0; length = 0; next = 0 }
 
--- 0 a field, or the end of the walk; 1 neither
+-- 0 a field, or the end of the walk; 1 something broken
 -- promise: exports.12
 abbrev pub fieldAs : Step → CField
 fieldAs (F.Field kind start len next) = record { number = 0; found = 1; kind = kind; spare = 0; body = start; length = len; next = next }

@@ -38,7 +38,7 @@ kissesIn rate deny rstr ntsn any = record { rate = truth rate; deny = truth deny
 abbrev pub uidsOk : ℕ → ℕ → ℕ → Bool
 uidsOk authenticated encrypted untrusted = (leb authenticated 2 && leb encrypted 2) && leb untrusted 2
 
--- whether every code is of a kind
+-- whether every code is known
 -- promise exports.9: A decoded reply with an unknown code is undecodable: 1, after 32.
 unfoldable pub decodedOk : CDecoded → Bool
 decodedOk d =
@@ -64,7 +64,7 @@ decodedIn d =
       untrusted = uidIn (d .untrusted);
     }
 
--- a reply with a code of no kind is one that cannot be decoded
+-- a reply with an unknown code cannot be decoded
 -- promise: exports.9
 abbrev pub decodedRead : CDecoded → ReplyRead
 decodedRead d = cond (decodedOk d) (Decoded (decodedOf (decodedIn d))) Undecodable

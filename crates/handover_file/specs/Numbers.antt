@@ -1,4 +1,4 @@
--- RULES, No. 6: when the writer and the reader of the hand-over file give each number, and which answer and record come with it.
+-- RULES, No. 6: when the writer and the reader of the hand-over file return each number, and with which answer and record.
 -- Assumes nothing.
 use mathlib.Core.Path.{_≡_}
 use mathlib.Core.Bool.{true, false, _&&_}
@@ -27,7 +27,7 @@ module _ (a : Association) (room : ℕ) where
 
 -- ---- reading
 
--- the record s is due at the start of l, and has the wrong length: where mark, length or body are not there, or the body is not one of s
+-- the record s is expected at the start of l, and has the wrong length: mark, length or body is missing, or the body does not fit s
 -- promise: no6.7
 pub data Faulty (s : Shape) (l : List ℕ) : Type 0 where
   no-mark : length l < 2 → Faulty s l
@@ -50,6 +50,6 @@ module _ (f : List ℕ) where
     wrong-length : (ss ts : List Shape) (s : Shape) (bs : List (List ℕ)) (l : List ℕ) → shapes ≡ ss ++ (s ∷ ts) → Begins f ss bs l → Faulty s l → LoadGiven 62 (refused WrongLength)
     left-over : (bs : List (List ℕ)) (l : List ℕ) → Begins f shapes bs l → 0 < length l → LoadGiven 62 (refused WrongLength)
     no-association : (bs : List (List ℕ)) → Fitting shapes bs → f ≡ joined shapes bs → known bs && wholeOf (settled (recordIn bs)) ≡ false → LoadGiven 63 (refused NoAssociation)
-    -- V4 stands in place of the retired kind, and the answer says whether that was there (RULES, No. 14)
+    -- V4 replaces the retired kind, and the answer says whether that was there (RULES, No. 14)
     association : (bs : List (List ℕ)) → Fitting shapes bs → f ≡ joined shapes bs → known bs && wholeOf (settled (recordIn bs)) ≡ true →
         LoadGiven 0 (loaded (Loaded (retired (recordIn bs .settings) (recordIn bs .state))) (settled (recordIn bs)))

@@ -1,4 +1,5 @@
--- A file of records in one fixed order (RULES, No. 6), each a mark (two bytes), the length of its body (two bytes) and the body. It is read record by record: what is left of the file is the argument, so that no offset is needed.
+-- A file of records in one fixed order (RULES, No. 6), each a mark (two bytes), the length of its body (two bytes) and the body. It is read record by record:
+-- the argument is the rest of the file, so that no offset is needed.
 -- Assumes nothing.
 use Prim.Native.Nat.{ℕ, _+_, _-_, _≤_, _<_}
 use mathlib.Core.Path.{_≡_}
@@ -8,7 +9,7 @@ use lib.Dec.{ltb, eqb}
 use lib.ListN.{length, drop}
 use Rattle.words.specs.Bytes.{be, part, toBe}
 
--- what a record of the file is: its mark, and the test of its body (62 where it fails)
+-- a record of the file: its mark, and the test of its body (62 if it fails)
 pub record Shape : Type 0 where
   pub mark : ℕ
   pub fits : List ℕ → Bool
@@ -25,7 +26,7 @@ joined [] bs = []
 joined (s ∷ ss) [] = []
 joined (s ∷ ss) (b ∷ bs) = recordOf (s .mark) b ++ joined ss bs
 
--- each body is one of its record: a length that two bytes can name, and the record's test
+-- each body fits its record: its length fits two bytes, and it passes the record's test
 abbrev pub Fitting : List Shape → List (List ℕ) → Type 0
 Fitting [] [] = Unit
 Fitting [] (b ∷ bs) = ⊥
@@ -34,7 +35,7 @@ Fitting (s ∷ ss) (b ∷ bs) = (s .mark < 65536) × (length b ≤ 65535) × (s 
 
 -- ---- the reader
 
--- what stands first in bytes: a body and what is left behind it, another mark (61), or bytes that are not there (62)
+-- what comes first in bytes: a body and what follows it, another mark (61), or too few bytes (62)
 pub data Found : Type 0 where
   body : List ℕ → List ℕ → Found
   other : Found

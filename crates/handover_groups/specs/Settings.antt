@@ -1,5 +1,6 @@
--- The settings' record of the hand-over file (RULES, No. 6 and No. 12): 27 bytes, each field at its offset; numbers big-endian, signed ones in two's complement.
--- A file of before has 26, without the capacity, and reads as capacity 8.
+-- The settings' record of the hand-over file (RULES, No. 6 and No. 12): 27 bytes, each field at its offset; numbers are big-endian, signed ones two's
+-- complement.
+-- A file from before No. 12 has 26, without the capacity, and reads as capacity 8.
 -- Assumes nothing.
 use Prim.Native.Nat.{ℕ, _^_}
 use mathlib.Core.Bool.{Bool, _&&_}

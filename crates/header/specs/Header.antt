@@ -101,7 +101,7 @@ headerOf p =
     (cond (eqb (versionBits p) 4) (Decoded (fields V4 p))
     Undecodable))
 
--- the number in RULES: 1 for bytes that are not decodable; a header that is read is refused by none
+-- the number in RULES: 1 for bytes that are not decodable; a header that is read is not rejected
 -- promise 6.4: An undecodable header is 1. No other answer of the reader has a number.
 abbrev pub refusalOf : HeaderRead → Option ℕ
 refusalOf (Decoded h) = none
@@ -126,6 +126,6 @@ bytesOf h =
     ++ toBe 8 (h .receive .0)
     ++ toBe 8 (h .transmit .0))
 
--- other bytes in place of those from an offset on; only private functions of the writers, here and in `request`, cite it
+-- bytes from an offset on replaced by others; only private functions of the writers, here and in `request`, cite it
 unfoldable pub placed : List ℕ → ℕ → List ℕ → List ℕ
 placed out at bytes = paste out at bytes (length bytes)

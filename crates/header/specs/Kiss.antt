@@ -1,4 +1,4 @@
--- RULES, part 9: a kiss has stratum 0, and its name by the reference identifier.
+-- RULES, part 9: a kiss has stratum 0, and its reference identifier is its name.
 -- Assumes nothing.
 use Prim.Native.Nat.{ℕ}
 use mathlib.Core.Bool.{Bool, _&&_}

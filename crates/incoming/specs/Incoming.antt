@@ -68,7 +68,7 @@ endValid V4 p end = isPlace p end
 abbrev pub decryptedValid : Bool → List ℕ → Bool
 decryptedValid nts decrypted = not nts || whole (decryptedWalk decrypted)
 
--- the groups, which only NTS looks at: fields before the authenticated end are authenticated, after it untrusted; V3 has none
+-- the groups, which only NTS reads: fields before the authenticated end are authenticated, after it untrusted; V3 has none
 -- promise: 7.8, 8.3
 abbrev pub groupOf : Bool → HeaderVersion → List ℕ → ℕ → ℕ → List ℕ → Uid
 groupOf nts V3 p from to uid = Absent
@@ -111,11 +111,11 @@ abbrev pub onHeader : (Header → ReplyRead) → HeaderRead → ReplyRead
 onHeader f (H.Decoded h) = f h
 onHeader f H.Undecodable = Undecodable
 
--- the byte form: undecodable header, authenticated end that is no place, and broken decrypted fields are refused
+-- the byte form: it rejects an undecodable header, an authenticated end that is no place, and broken decrypted fields
 unfoldable pub readOf : Bool → List ℕ → List ℕ → ℕ → List ℕ → ReplyRead
 readOf nts uid p end decrypted = onHeader (bytesRead nts uid p end decrypted) (headerOf p)
 
--- the number in RULES: 1 for packet bytes that are not decodable; a reply that is read is refused by none here
+-- the number in RULES: 1 for packet bytes that are not decodable; a reply that is read is not rejected here
 abbrev pub refusalOf : ReplyRead → Option ℕ
 refusalOf (Decoded r) = none
 refusalOf Undecodable = some 1

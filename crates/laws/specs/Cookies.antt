@@ -1,4 +1,5 @@
--- The cookies of a log from a new association (RULES, No. 14): those that are stored, and those that are handed out. Inputs, numbers and buffers alone say which; nothing here knows a record.
+-- The cookies of a log from a new association (RULES, No. 14): those that are stored, and those that are handed out. Only inputs, numbers and buffers say
+-- which; nothing here depends on a record.
 -- Assumes nothing.
 use mathlib.Core.Bool.{Bool, _&&_, cond}
 use mathlib.Core.List.{List, [], _∷_, _++_}

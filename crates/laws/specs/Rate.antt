@@ -35,11 +35,11 @@ withRemote a remote =
           };
     }
 
--- what the crate's rule makes of the remote minimum
+-- the remote minimum by the crate's rule
 abbrev pub crateRemote : Association → PollInterval
 crateRemote a = interval (crateRate (a .state .polls .remote .0) (a .settings .max .0) (a .state .polls .last .0))
 
--- a reply by the crate's rule: where it is a RATE kiss (5), the remote minimum is the crate's, and all else is ours
+-- a reply by the crate's rule: if it is a RATE kiss (5), the remote minimum is the crate's, and all else is ours
 abbrev pub crateReplied : Association → ReplyIn → Replied × Association
 crateReplied a r = let o = replied a r in (o .0, cond (eqb (numberOf (o .0 .answer)) 5) (withRemote (o .1) (crateRemote a)) (o .1))
 

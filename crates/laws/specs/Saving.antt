@@ -1,5 +1,5 @@
--- The association as a machine of timers, saves and replies (RULES, No. 6): a save stands in a log where a timer may, with its own number, and asks for nothing.
--- The log's rule is `association_log`'s. What is said of timers and replies alone is said of what was done, the saves left out.
+-- The association as a machine of timers, saves and replies (RULES, No. 6): a save appears in a log where a timer may, with its own number, and asks for
+-- nothing. The log's rule is that of `association_log`. Statements about timers and replies alone are about what was done without the saves.
 -- Assumes nothing.
 use mathlib.Core.Path.{_≡_}
 use mathlib.Core.Bool.{false}

@@ -1,4 +1,4 @@
--- RULES, "The numbers" and No. 11: when the check gives each number, in the order of the tests.
+-- RULES, "The numbers" and No. 11: when the check returns each number, in the order of the tests.
 -- Assumes nothing.
 use mathlib.Core.Path.{_≡_}
 use mathlib.Core.Bool.{true, false}

@@ -1,4 +1,4 @@
--- Acceptance on a record in lent bytes: that of what they unpack to. Bytes that are no record: 32.
+-- Acceptance for a record in lent bytes: that of what they unpack to. Bytes that are no record: 32.
 -- Assumes nothing.
 use mathlib.Core.Bool.{cond}
 use mathlib.Core.List.{List}

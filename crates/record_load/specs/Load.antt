@@ -1,5 +1,5 @@
--- Loading into lent bytes: 61, 62 and 63 as by `loadOf`, every byte zero; then 31, where they are not as many as the file's capacity asks for,
--- and nothing changes; else the loaded record, packed.
+-- Loading into lent bytes: 61, 62 and 63 as by `loadOf`, with every byte zero; then 31 if their number does not fit the file's capacity, and nothing changes;
+-- otherwise the loaded record, packed.
 -- Assumes nothing.
 use mathlib.Core.Bool.{false, cond}
 use mathlib.Core.List.{List}

@@ -27,14 +27,14 @@ told r d a = record { replied = record { answer = r; dropped = d }; association 
 abbrev pub out : ReplyAnswer → Association → ReplyOut
 out r a = told r noneDropped a
 
--- the record after a verdict: the settings, the stash, with the list's cookies stored in order where they are, and the next state
+-- the record after a verdict: the settings, the stash, with the list's cookies in order if they are stored, and the next state
 -- promise: 11.8, no5.5, no5.6 (its record), no12.2
 abbrev pub judged : Association → List ℕ → Verdict → ReplyOut
 judged a list v =
     told (v .answer) (cond (v .stores) (droppedOf (a .settings .capacity) (a .stash) list) noneDropped)
     (record { settings = a .settings; stash = cond (v .stores) (storeListOf (a .settings .capacity) (a .stash) list) (a .stash); state = v .state })
 
--- what either form gives, of what was read
+-- the result of either form, from what was read
 -- promise: 11.1
 unfoldable pub repliedOf : Association → ReplyRead → Arrival → ReplyOut
 repliedOf a read t = judged a (t .list) (verdictOf (a .settings) (a .state) (seenOf (a .settings .capacity) (a .stash)) read t)

@@ -36,7 +36,7 @@ unexpired deadline time = leb time deadline
 abbrev pub live : Pending → ℕ → Bool
 live q time = q .present && unexpired (q .deadline) time
 
--- RULES, No. 3, tells apart what was 3: no pending request, or its deadline < now
+-- what was 3 before RULES, No. 3: no pending request, or its deadline < now
 -- promise no3.4: Each old 3 is exactly one of 12, 13 and 14, and each of these was a 3.
 -- promise: no3.4 (the old 3)
 abbrev pub noLive : Pending → ℕ → Bool
@@ -69,7 +69,7 @@ answers nts id r = eqb (r .origin) id && (not nts || uidMatches (r .authenticate
 abbrev pub denies : Reply → Bool
 denies r = r .kisses .deny || r .kisses .rstr
 
--- the upgrade step, on a matching reply, which steps as a plain one does (RULES, part 4 and No. 14)
+-- the upgrade step, on a matching reply; each steps as a plain one does (RULES, part 4 and No. 14)
 -- promise 4.3: A matching reply makes the step of a plain reply.
 --     edit: reply_clauses/a_reply_steps_as_an_upgrade
 unfoldable pub stepped : State → State
@@ -111,7 +111,8 @@ afterDenial s =
 abbrev pub raised : PollInterval → Reply → PollInterval
 raised remote r = cond (eqb (r .version) 5) (interval (larger (remote .0) (r .poll .0))) remote
 
--- 0: reach bit, no unanswered poll (No. 8), denial cleared, pending cleared, a reply measured since the last sent poll (No. 3), stratum and reference identifier taken
+-- 0: reach bit, no unanswered poll (No. 8), denial cleared, pending cleared, a reply measured since the last sent poll (No. 3), stratum and reference
+-- identifier taken
 -- promise 11.8: A measured reply sets the reach bit, makes the unanswered polls 0, clears denial and pending request, and takes stratum and reference
 --     identifier. V5 raises the remote minimum. The cookies are stored in order. The measurement is that of part 5.
 --     edit: reply/the_new_cookies_are_not_stored, reply_rules/cookies_are_stored_without_nts

@@ -1,4 +1,4 @@
--- RULES, No. 3: what the three numbers in 3's place are to be together.
+-- RULES, No. 3: how the three numbers in 3's place relate to each other.
 -- Assumes nothing.
 use mathlib.Core.Path.{_≡_}
 use mathlib.Core.Bool.{Bool, true, false}

@@ -78,7 +78,7 @@ headerFor kind poll id upgrademark =
 abbrev pub placeholderKind : ℕ
 placeholderKind = 0x0304
 
--- the field of a body, as long as the body asks for
+-- the field of a body, as long as the body needs
 -- promise: no1.2
 abbrev pub carrying : ℕ → List ℕ → Extension
 carrying kind body = extension kind (fieldLength (length body)) body
@@ -97,7 +97,7 @@ fieldsFor uid cookie asked = carrying uidKind uid ∷ carrying cookieKind cookie
 
 -- ---- the packet
 
--- the fields behind the bytes of a header; then comes the place where the caller's authenticator goes
+-- the fields after the bytes of a header; after them is the place for the caller's authenticator
 unfoldable pub withFields : List ℕ → List ℕ → List ℕ → ℕ → List ℕ
 withFields front uid cookie asked = front ++ allBytes (fieldsFor uid cookie asked)
 

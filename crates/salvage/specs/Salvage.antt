@@ -42,7 +42,7 @@ gapsFrom inGap (skipped at ∷ w) = cond inGap (gapsFrom true w) (at ∷ gapsFro
 abbrev pub gapsIn : List Step → List ℕ
 gapsIn w = gapsFrom false w
 
--- the places that are told: those of the first 32 gaps, and zeros
+-- the places that are reported: those of the first 32 gaps, and zeros
 -- promise: no9.2
 unfoldable pub placesOf : List ℕ → List ℕ
 placesOf gaps = take 32 gaps ++ drop (length gaps) (replicate 32 0)
@@ -54,7 +54,7 @@ recordsIn l [] = []
 recordsIn l (kept start end ∷ w) = part l start (end - start) ++ recordsIn l w
 recordsIn l (skipped at ∷ w) = recordsIn l w
 
--- their cookies, each behind its head
+-- their cookies, each after its head
 -- promise: no9.3
 abbrev pub cookiesKept : List ℕ → List Step → List (List ℕ)
 cookiesKept l [] = []
@@ -66,7 +66,7 @@ cookiesKept l (skipped at ∷ w) = cookiesKept l w
 unfoldable pub cleanOf : List ℕ → List ℕ
 cleanOf l = recordsIn l (walkOf l)
 
--- a refusal: its number, and all else zero
+-- a rejected call: its number, and all else zero
 abbrev pub refusedOf : Salvaged
 refusedOf = record { number = 70; kept = 0; skipped = 0; gaps = 0; places = replicate 32 0; len = 0 }
 
@@ -81,7 +81,7 @@ reportOf l w =
 unfoldable pub salvageOf : List ℕ → ℕ → Salvaged
 salvageOf l room = cond (ltb room (length l)) refusedOf (reportOf l (walkOf l))
 
--- nothing is written then; else the clean list from the start on, and the bytes past it untouched
+-- then nothing is written; otherwise the clean list at the start, and the bytes past it unchanged
 -- promise: no9.7
 unfoldable pub bufferOf : List ℕ → List ℕ → List ℕ
 bufferOf l out = cond (ltb (length out) (length l)) out (cleanOf l ++ drop (length (cleanOf l)) out)

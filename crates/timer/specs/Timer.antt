@@ -23,7 +23,7 @@ out r a = record { answer = r; association = a }
 abbrev pub oldest : Association → Slot
 oldest a = getOf (a .settings .capacity) (a .stash) .slot
 
--- the record after a decision: the settings, the stash without its oldest cookie where that is taken, and the next state
+-- the record after a decision: the settings, the stash without its oldest cookie if that is taken, and the next state
 -- promise: no12.2
 abbrev pub decided : Association → Decision → TimerOut
 decided a d = out (d .answer) (record { settings = a .settings; stash = cond (d .takes) (getOf (a .settings .capacity) (a .stash) .stash) (a .stash); state = d .state })
@@ -50,7 +50,7 @@ handed NotWhole = 0
 unfoldable pub bufferOf : Association → TimerInput → List ℕ → List ℕ
 bufferOf a i buffer = wrote (oldest a .bytes) (handed (timerOf a i (length buffer) .answer)) buffer
 
--- all that a call gives: its answer with the next record, and what is left in the buffer
+-- all results of a call: its answer with the next record, and what is left in the buffer
 pub record Timed : Type 0 where
   pub gives : TimerOut
   pub left : List ℕ

@@ -1,4 +1,4 @@
--- RULES, part 10: what the timer decides, of the settings, of the state and of what is seen of the stash. In order 32, 31, the rest.
+-- RULES, part 10: what the timer decides, from the settings, the state and the summary of the stash. In order 32, 31, the rest.
 -- Assumes nothing.
 use mathlib.Core.Bool.{Bool, true, false, cond}
 use Prim.Native.Nat.{ℕ, min}
@@ -29,7 +29,7 @@ sendOf g s i len asked takes =
 abbrev pub askedWith : Seen → ℕ
 askedWith v = askedOf (min (v .gap) 8) (v .len)
 
--- with NTS: take a cookie or 23; zero asked for is 24, cookie gone
+-- with NTS: take a cookie, or 23; if no new cookie is asked for it is 24, and the cookie is gone
 -- promise 10.4: The timer takes a cookie, or answers 23. It asks for min(gap, 724 div max(length, 1), 255) cookies, with the gap counted after the take; zero
 --     is 24.
 --     edit: timer_rules/the_cookie_count_is_invented, cookiestash/the_gap_before_the_take

@@ -1,4 +1,4 @@
--- RULES, part 10, clause by clause: giving up, the poll that is tried, what is asked for, and the request that it leaves pending.
+-- RULES, part 10, clause by clause: giving up, the poll that is tried, how many cookies are asked for, and the request that is then pending.
 -- Assumes nothing.
 use mathlib.Core.Bool.{Bool, true, false, _&&_, cond}
 use mathlib.Core.List.{List}
@@ -15,7 +15,7 @@ use Rattle.association.specs.declared.Settings.{Settings}
 use Rattle.association.specs.declared.State.{State}
 use Rattle.timer_rules.specs.declared.TimerInput.{TimerInput}
 
--- what the caller gives for a poll: now, the desired poll, and the identifiers
+-- what the caller passes for a poll: now, the desired poll, and the identifiers
 abbrev pub timerInput : ℕ → PollInterval → ℕ → List ℕ → TimerInput
 timerInput time desired id uid = record { time = time; desired = desired; id = id; uid = uid }
 
@@ -28,13 +28,13 @@ shortBuffer g room = g .nts && ltb room 724
 unfoldable pub startupOver : Settings → State → Bool
 startupOver g s = eqb (s .effort .reach .0) 0 && leb (g .startup) (s .effort .tries)
 
--- reach polls; tries grow by one, held at 255; the unanswered polls grow by one, held at 8 (RULES, No. 8)
+-- reach is polled; tries grow by one, up to 255; the unanswered polls grow by one, up to 8 (RULES, No. 8)
 -- promise no8.3: A timer that answers 20, 23 or 24 adds one unanswered poll, up to 8. Any other number leaves them.
 -- promise: 10.3
 unfoldable pub polled : Effort → Effort
 polled e = record { reach = polledOf (e .reach); tries = min (e .tries + 1) 255; unanswered = min (e .unanswered + 1) 8 }
 
--- the state once a poll is tried: upgraded with 2 or more unanswered polls, by the stored number, becomes V4; reach polls; tries grow
+-- the state once a poll is tried: upgraded with 2 or more unanswered polls, by the stored number, becomes V4; reach is polled; tries grow
 -- promise 10.3: A poll makes the fallback and shifts reach. It adds one to the tries, up to 255, and to the unanswered polls, up to 8.
 --     edit: timer_rules/tries_stop_at_254, timer_rules/the_record_is_left_untouched, timer_rules/later_polls_are_faked
 -- promise no8.7: The fallback uses the stored number of unanswered polls, and does what it did by the count.
@@ -54,7 +54,7 @@ triedOf s =
 abbrev pub askedOf : ℕ → ℕ → ℕ
 askedOf gap len = min (min gap (724 / max len 1)) 255
 
--- deadline now + window, held at 2^64 - 1
+-- deadline now + window, at most 2^64 - 1
 -- promise: 10.6
 abbrev pub deadlineOf : ℕ → ℕ → ℕ
 deadlineOf time window = min (time + window) (2 ^ 64 - 1)

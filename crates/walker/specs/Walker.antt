@@ -20,12 +20,12 @@ walkerAt packet at = record { packet = packet; at = at }
 abbrev pub fits : List ℕ → ℕ → ℕ → Bool
 fits p start len = leb (start + len) (length p)
 
--- the len bytes from start on, or none where they run past the end
+-- the len bytes from start on, or none if they run past the end
 -- promise: 7.10
 unfoldable pub bodyOf : List ℕ → ℕ → ℕ → List ℕ
 bodyOf p start len = cond (fits p start len) (part p start len) []
 
--- how far behind the packet's first byte they lie; none lie at that byte
+-- how far after the packet's first byte they are; 0 if there are none
 -- promise: 7.10
 unfoldable pub bodyFrom : List ℕ → ℕ → ℕ → ℕ
 bodyFrom p start len = cond (fits p start len) start 0
@@ -37,7 +37,7 @@ pub record IsBody (packet : RefT (List ℕ)) (start len : ℕ) (r : RefT (List �
   pub block : ptr r .0 ≡ ptr packet .0
   pub offset : ptr r .1 ≡ ptr packet .1 + bodyFrom (now packet) start len
 
--- the body of a field that stands at an offset of a packet: all of its bytes, behind the field's four and before what follows it
+-- the body of a field at an offset of a packet: all of its bytes, after the field's four and before what follows it
 -- promise: 7.10
 pub record Body (p : List ℕ) (at start len next : ℕ) : Type 0 where
   pub starts : start ≡ at + 4

@@ -7,7 +7,7 @@ ghost use mathlib.Core.Path.{_≡_};
 ghost use Rattle.fields.specs.Field.{packetStep};
 ghost use Rattle.walker.specs.Walker.{walkerAt, IsBody};
 
-// The `len` bytes from `start` on, as that part of the packet itself, or none where they run past the end.
+// The `len` bytes from `start` on, as that part of the packet itself, or none if they run past the end.
 // promise: 7.10
 pub fn body_at(p: &[u8], start: usize, len: usize) -> &[u8]
     ensures { λ r. ⌜ IsBody (p .entry) start len r ⌝ }
@@ -36,7 +36,7 @@ impl<'a> Walker<'a> {
         Walker { packet, at }
     }
 
-    // What stands at the walker's offset; the walker stays where it is.
+    // What is at the walker's offset; the walker does not move.
     // promise: 7.10
     pub fn step(self) -> Step
         ensures { λ r. ⌜ r ≡ packetStep (now (self .entry .packet)) (self .entry .at) ⌝ }
