@@ -6,6 +6,7 @@ enough. A server that is named again is no other one: it was restarted, and what
 from collections.abc import Iterator
 from typing import NamedTuple
 
+import handover
 import human
 import meanings
 import story
@@ -225,7 +226,7 @@ class Server:
 def source_of(step: Step) -> str | None:
     """the identifier of the server that an association is made for, or was to be; that of a `load` stands in its file, and a file that is refused names none"""
     if step.head == 'load':
-        return story.in_file(bytes.fromhex(step.given['file']))['source'] if step.number == 0 else None
+        return handover.in_file(bytes.fromhex(step.given['file']))['source'] if step.number == 0 else None
     return step.given.get('source', '').lower() or None
 
 

@@ -152,7 +152,7 @@ class Log:
         return marks.Box(name, judge.verdict(), self.drawing, self.silence(now) if silent else None)
 
     def silence(self, now: float) -> str:
-        every = 'it polls every %s' % story.every(self.drawing.poll) if self.drawing.poll is not None else 'no poll of it was seen'
+        every = 'it polls every %s' % human.every(self.drawing.poll) if self.drawing.poll is not None else 'no poll of it was seen'
         return 'not heard since %s, for %s; %s' % (at(self.grew), human.length(int(now - self.grew) * 10**9), every)
 
 
