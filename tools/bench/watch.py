@@ -190,7 +190,7 @@ class Watch:
                 return
             log.look(self.desk)
 
-    def stop(self, *_) -> None:
+    def stop(self, *_: object) -> None:
         os.write(self.bell[1], b'.')
 
     def stopped(self, seconds: float) -> bool:
