@@ -78,7 +78,7 @@ class Skips:
 class Packet:
     __slots__ = ('at', 'octets', 'way', 'version', 'fields')
 
-    def __init__(self, at: int, octets: bytes, way: tuple):
+    def __init__(self, at: int, octets: bytes, way: tuple) -> None:
         self.at, self.octets, self.way = at, octets, way
         self.version = octets[0] >> 3 & 7
         self.fields = self.walk() if self.version == 4 else []
@@ -115,7 +115,7 @@ Talk = list[tuple[bool, Packet]]  # what goes between a box and a server, in the
 class Site:
     """the NTP packets of a capture by box and server; of the boxes that are wanted, or of all where none is named"""
 
-    def __init__(self, called: str, ports: frozenset[int], wanted: frozenset[bytes]):
+    def __init__(self, called: str, ports: frozenset[int], wanted: frozenset[bytes]) -> None:
         self.called, self.ports, self.wanted = called, ports, wanted
         self.boxes: dict[bytes, dict[Server, Talk]] = {}
         self.asking: set[bytes] = set()       # every box that asks, wanted or not

@@ -32,7 +32,7 @@ class Udp(NamedTuple):
 class Skipped(Exception):
     """why a frame gives no NTP packet: a key of REASONS in capture.py, and what is known beside it"""
 
-    def __init__(self, why: str, what: object = None):
+    def __init__(self, why: str, what: object = None) -> None:
         super().__init__(why, what)
         self.why, self.what = why, what
 
@@ -40,7 +40,7 @@ class Skipped(Exception):
 # ---- files
 
 class Reader:
-    def __init__(self, f: BinaryIO):
+    def __init__(self, f: BinaryIO) -> None:
         self.f, self.at, self.frames = f, 0, 0
 
     def take(self, n: int, what: str, end_is_fine: bool = False) -> Optional[bytes]:
