@@ -105,10 +105,10 @@ def exchange(host: str, port: int, authority: str, name: str = 'localhost', pati
         got, answer = b'', None
         while answer is None:
             buffer = ctypes.create_string_buffer(4096)
-            n = SSL.SSL_read(session, buffer, 4096)
-            if n <= 0:
+            count = SSL.SSL_read(session, buffer, 4096)
+            if count <= 0:
                 raise RuntimeError('the key exchange ended early')
-            got += buffer.raw[:n]
+            got += buffer.raw[:count]
             answer = records(got)
         if (1, b'\0\0') not in answer or (4, AEAD.to_bytes(2, 'big')) not in answer or any(kind in (2, 3) for kind, _ in answer):
             raise RuntimeError('the key exchange was refused: %r' % [r for r in answer if r[0] != 5])

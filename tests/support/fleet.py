@@ -22,9 +22,12 @@ class Log:
         self.ident = 0
         self.nts = False
         self.counts = dict(sent=0, answered=0, late=0, foreign=0)
-        self.first = self.last = self.heard = None         # first and last offset, and the tick of the last measured reply, in seconds
-        self.risen = None                                  # the tick of the accept that began the last good state
-        self.heard_at = self.risen_at = None               # the true times of these two, in seconds since 1900
+        self.first: float | None = None                    # the first and the last offset, and the tick of the last measured reply, in seconds
+        self.last: float | None = None
+        self.heard: float | None = None
+        self.risen: float | None = None                    # the tick of the accept that began the last good state
+        self.heard_at: float | None = None                 # the true times of these two, in seconds since 1900
+        self.risen_at: float | None = None
         self.fresh = False                                 # since a reboot nothing was measured
 
     def say(self, line: str, number: int | None) -> None:
@@ -992,8 +995,9 @@ def gets_only_late_replies_and_gives_up(log: Log, dice: random.Random) -> Truth:
 
 @story
 def has_one_kind_of_refusal(log: Log, dice: random.Random) -> Truth:
-    refusals = {4: dict(ident=0xdead), 5: dict(stratum=0, refid=b'RATE'), 6: dict(stratum=0, refid=b'RSTR'), 8: dict(stratum=0, refid=b'NTSN'),
-                9: dict(stratum=0, refid=b'STEP'), 10: dict(stratum=17), 11: dict(first=0x23), 1: dict(cut=47)}
+    refusals: dict[int, dict[str, Any]] = {
+        4: dict(ident=0xdead), 5: dict(stratum=0, refid=b'RATE'), 6: dict(stratum=0, refid=b'RSTR'), 8: dict(stratum=0, refid=b'NTSN'),
+        9: dict(stratum=0, refid=b'STEP'), 10: dict(stratum=17), 11: dict(first=0x23), 1: dict(cut=47)}
     number = dice.choice(sorted(refusals))
     log.new()
     log.poll()

@@ -9,7 +9,7 @@ import subprocess
 import sys
 import tempfile
 from types import ModuleType
-from typing import Any, Callable, Iterable, List, NoReturn, Optional, Sequence, Union
+from typing import Any, Callable, Dict, Iterable, List, NoReturn, Optional, Sequence, Union
 
 ROOT = os.path.dirname(os.path.dirname(os.path.dirname(os.path.realpath(__file__))))
 HERE = os.path.join(ROOT, 'drill')              # ./drill of this tree
@@ -157,9 +157,10 @@ def script(name: str) -> Any:
 
 def run(*command: str, **how: Any) -> 'subprocess.CompletedProcess[Any]':
     """a command that is run to its end, with nothing to read and with what it writes kept"""
+    usual: Dict[str, Any] = dict(stdout=subprocess.PIPE, stderr=subprocess.PIPE, timeout=600)
     if 'input' not in how:
-        how.setdefault('stdin', subprocess.DEVNULL)
-    return subprocess.run(command, **{'stdout': subprocess.PIPE, 'stderr': subprocess.PIPE, 'timeout': 600, **how})
+        usual['stdin'] = subprocess.DEVNULL
+    return subprocess.run(command, **{**usual, **how})
 
 
 def answered(lines: Sequence[str], program: str = DRILL) -> List[str]:

@@ -178,7 +178,8 @@ def tick(ns: int) -> str:
 
 def round_tick(ns: int) -> str:
     """a tick that an axis names, without the parts that are zero and without a fraction: 2d06h, 3h15m, 40s, 250ms"""
-    parts, rest = [], ns // 10**6
+    parts: list[str] = []
+    rest = ns // 10**6
     for unit, size in (('d', 86400000), ('h', 3600000), ('m', 60000), ('s', 1000), ('ms', 1)):
         count, rest = divmod(rest, size)
         if count:

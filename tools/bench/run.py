@@ -59,7 +59,7 @@ class Replay:
     def __init__(self, name: str) -> None:
         self.name = name
         self.number = self.errors = 0
-        self.asked = collections.deque()  # the lines that wait for an answer, with their numbers
+        self.asked: collections.deque[tuple[int, str]] = collections.deque()  # the lines that wait for an answer, with their numbers
         self.piece = b''                  # what is there of the next line
         self.long = False                 # the line under way is too long, and is passed on as it comes
         self.first = True

@@ -5,7 +5,7 @@ needed, since each `show` costs as much as a line.
 A command, a number or a key of the record that this page does not know is passed on as it stands, so that a new one is readable before it has words here."""
 import functools
 import re
-from collections.abc import Iterator, Mapping, Sequence
+from collections.abc import Callable, Iterator, Mapping, Sequence
 
 import answers
 import handover
@@ -148,10 +148,11 @@ def pending(value: str) -> str:
 
 
 # A key of `show`: its words and how its value is written. A key that is not here is shown as it stands.
-RECORD = {'reach': ('reach', human.bits), 'tries': ('tries', str), 'version': ('version', str), 'last': ('last poll', human.every), 'remote': ('remote minimum', human.every),
-          'pending': ('awaited', pending), 'denial': ('denial noted', str), 'stratum': ('stratum', str), 'refid': ('reference', human.address),
-          'read': ('reading place', str), 'held': ('cookies held', str), 'lens': ('cookie lengths', str), 'answered': ('last poll answered', str),
-          'unanswered': ('unanswered polls', str), 'capacity': ('capacity', str)}
+RECORD: dict[str, tuple[str, Callable[..., str]]] = {
+    'reach': ('reach', human.bits), 'tries': ('tries', str), 'version': ('version', str), 'last': ('last poll', human.every), 'remote': ('remote minimum', human.every),
+    'pending': ('awaited', pending), 'denial': ('denial noted', str), 'stratum': ('stratum', str), 'refid': ('reference', human.address),
+    'read': ('reading place', str), 'held': ('cookies held', str), 'lens': ('cookie lengths', str), 'answered': ('last poll answered', str),
+    'unanswered': ('unanswered polls', str), 'capacity': ('capacity', str)}
 
 
 def field(key: str, value: str, names: Mapping[str, str]) -> tuple[str, str]:

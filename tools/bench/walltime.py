@@ -11,6 +11,7 @@ UNSYNCHRONIZED = '4'  # of `leap` in the answer to a reply; 3, unknown, is said 
 
 class Measured(Protocol):
     """a measured reply, as `story` has it"""
+    line: int
     tick: int | None
 
     @property
@@ -79,8 +80,8 @@ def off(ntp: int) -> str:
 def reading(step: Measured) -> str:
     """what the box's clock did to a reading that it stamped when the reply came"""
     far = abs(offset(step)) / human.SECOND
-    unit, form, cut = (0.001, '%H:%M:%S.%f', -3) if far < 1 else (1, '%H:%M:%S', None) if round(far) % 60 else (60, '%H:%M', None)
-    unit = timedelta(seconds=unit)
+    size, form, cut = (0.001, '%H:%M:%S.%f', -3) if far < 1 else (1, '%H:%M:%S', None) if round(far) % 60 else (60, '%H:%M', None)
+    unit = timedelta(seconds=size)
     stamp = human.moment_of(int(step.given['t4']))
     stamp -= (stamp - human.EPOCH) % unit
     true = stamp + unit * round(offset(step) / human.SECOND / unit.total_seconds())  # so that the two differ by what was said

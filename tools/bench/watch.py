@@ -163,7 +163,8 @@ def at(when: float) -> str:
 class Watch:
     def __init__(self, place: str, out: str, every: int, far: int) -> None:
         self.place, self.out, self.every, self.far = place, out, every, far
-        self.codes, self.logs = marks.Codes(), {}
+        self.codes = marks.Codes()
+        self.logs: dict[str, Log] = {}
         self.desk = answers.Desk()
         self.bell = os.pipe()                # Ctrl-C writes into it, so that nothing is ended half-way
         self.trouble: str | None = None      # what was said last, so that it is not said again and again
