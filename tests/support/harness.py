@@ -4,12 +4,13 @@ import atexit
 import importlib.machinery
 import importlib.util
 import os
+import pty
 import shutil
 import subprocess
 import sys
 import tempfile
 from types import ModuleType
-from typing import Any, Callable, Dict, Iterable, List, NoReturn, Optional, Sequence, Union
+from typing import Any, Callable, Dict, Iterable, List, Mapping, NoReturn, Optional, Sequence, Tuple, Union
 
 ROOT = os.path.dirname(os.path.dirname(os.path.dirname(os.path.realpath(__file__))))
 HERE = os.path.join(ROOT, 'drill')              # ./drill of this tree
@@ -161,6 +162,26 @@ def run(*command: str, **how: Any) -> 'subprocess.CompletedProcess[Any]':
     if 'input' not in how:
         usual['stdin'] = subprocess.DEVNULL
     return subprocess.run(command, **{**usual, **how})
+
+
+def on_terminal(command: Sequence[str], env: Optional[Mapping[str, str]] = None, out: Optional[str] = None) -> Tuple[int, bytes]:
+    """the status of a command that has a terminal of its own, and what it writes to it; standard output goes there too, unless it goes to a file"""
+    child, fd = pty.fork()
+    if child == 0:
+        if out is not None:
+            os.dup2(os.open(out, os.O_WRONLY), 1)
+        os.execve(command[0], list(command), os.environ if env is None else env)
+    said = b''
+    while True:
+        try:
+            more = os.read(fd, 65536)
+        except OSError:  # that is how a terminal ends whose program is gone
+            break
+        if not more:
+            break
+        said += more
+    os.close(fd)
+    return os.waitstatus_to_exitcode(os.waitpid(child, 0)[1]), said
 
 
 def answered(lines: Sequence[str], program: str = DRILL) -> List[str]:
