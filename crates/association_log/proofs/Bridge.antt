@@ -58,6 +58,7 @@ turn : {X : Type 0} (made : X → Done machine) {x x′ : X} {a a′ b : Associa
     x ≡ x′ → a ≡ a′ → (ds ≡ run machine a cs) × (b ≡ after machine a cs) → (made x ∷ ds ≡ made x′ ∷ run machine a′ cs) × (b ≡ after machine a′ cs)
 turn made cs p q k = (λ i. made (p i) ∷ (k .0 ∙ ap (λ (z : Association). run machine z cs) q) i, k .1 ∙ ap (λ (z : Association). after machine z cs) q)
 
+-- promise: demand.3 (a run of the code's calls is the machine's run)
 pub ran-is-run : {a b : Association} {cs : List (Call rule)} {ds : List (Done machine)} → Ran a cs ds b → (ds ≡ run machine a cs) × (b ≡ after machine a cs)
 ran-is-run done = (refl, refl)
 ran-is-run (timed {cs} κs x y e p rest) = turn (ofTimer (timerIn κs x)) cs (ap (λ (z : Timed). (z .gives .answer, z .left)) p) (ap (λ (z : Timed). z .gives .association) p) (ran-is-run rest)
@@ -65,6 +66,7 @@ ran-is-run (replied {cs} κs x y e p rest) = turn (ofReply (replyIn κs x)) cs (
 ran-is-run (replied-decoded {cs} κs x y e p rest) = turn (ofReply (decodedIn κs x)) cs (p .0) (p .1) (ran-is-run rest)
 
 -- demand 3 of the code: a run of its calls from what `new` made, with accepted timers and well-formed replies, is a run of which demand 3 holds
+-- promise: no3.6, demand.3 (of the code's calls)
 pub code-demand3 : (s : Settings) (list : List ℕ) {b : Association} {cs : List (Call rule)} {ds : List (Done machine)} →
     let a = newOf s list .association in
     Ran a cs ds b → Accepted (logged machine ds) → (ds ≡ run machine a cs) × (b ≡ after machine a cs) × Demand3 machine a cs
@@ -73,6 +75,7 @@ code-demand3 s list {cs} r ok =
     (k .0, k .1, association-demand3 s list cs (rw (k .0) at ok))
 
 -- No. 3 of the code: of any run of its calls from what `new` made, the log says why a reply had no live request
+-- promise: no3.5 (of a run of the code's calls)
 pub code-why : (s : Settings) (list : List ℕ) {b : Association} {cs : List (Call rule)} {ds : List (Done machine)} →
     let a = newOf s list .association in
     Ran a cs ds b → (logged machine ds ≡ logOf machine a cs) × Why machine a cs

@@ -156,6 +156,7 @@ module _ (a : Association) (r : ReplyIn) where
   told-by (not-server s e) w = live-reason (s .unkissed .acknowledged .undenied .unlimited .matching .in-time .pending)
   told-by (measured s e) w = live-reason (s .unkissed .acknowledged .undenied .unlimited .matching .in-time .pending)
 
+-- promise: demand.3 (the association obeys them)
 pub laws : M.Laws machine
 laws = record {
   settings-kept = settings-kept;

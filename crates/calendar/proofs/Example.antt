@@ -8,10 +8,12 @@ use Rattle.calendar.specs.Lowest.{lowest}
 use Rattle.calendar.specs.Calendar.{load, checkOf}
 use Rattle.calendar.specs.Plan.{earliestOf, planFrom, planOf}
 
+-- promise: no13.7
 pub stops-at-the-third : planOf 1 (4 ∷ 4 ∷ 2 ∷ []) 3 ≡ NoFit 2
 unfolding planOf planFrom earliestOf lowest load
 stops-at-the-third = refl
 
+-- promise: no13.7 (both computed)
 pub would-fit : checkOf 1 (0 ∷ 2 ∷ 1 ∷ []) (4 ∷ 4 ∷ 2 ∷ []) ≡ Accepted
 unfolding checkOf lowest load
 would-fit = refl

@@ -118,6 +118,7 @@ module _ (cap : ℕ) (b : List ℕ) (y : Bytes b) (f : stashFits b ≡ true) (k 
   unfolding emptyAt
   place-is = sym (read-laid cap b y f k .reads)
 
+  -- promise: no10.2 (a body's cookies are the stash's)
   pub aged-is : (age : ℕ) → agedIn b age ≡ agedOf (heldOf cap (stashOf cap b)) age
   unfolding agedIn heldIn
   aged-is age = aged-rest b age 1 (has-place b f) (runs-first b f) ∙ sym (ap (λ (cs : List Cookie). agedOf cs age) held-is)

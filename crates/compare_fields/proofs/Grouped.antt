@@ -49,6 +49,7 @@ module _ {a b : Association} {l r : Settings} {p q : State} {left right : List �
   place-field : fieldOf 16 (plain (getD left 0 0)) (plain (getD right 0 0)) ≡ fieldOf 16 (plain (stashOf (l .capacity) left .read)) (plain (stashOf (r .capacity) right .read))
   place-field = λ i. fieldOf 16 (plain (place-is (l .capacity) left (m .bytes) (m .fits) (m .known) i)) (plain (place-is (r .capacity) right (n .bytes) (n .fits) (n .known) i))
 
+  -- promise: no10.1 (these are the fields of the two loaded associations)
   pub all-fields : allOf (groupsIn l p left r q right) ≡ fieldsOf a b
   unfolding groupsIn fieldsOf eightOf settingsNumbers stateNumbers
   all-fields =

@@ -86,5 +86,6 @@ all-differ : length (listOf one other) ≡ 26
 unfolding listOf fieldsOf fieldOf sameReading settingsNumbers stateNumbers versionNumber agedOf heldOf inRange cookies queue seen stored wrap one other full-stash newOf emptySlot
 all-differ = refl
 
+-- promise: no10.6 (two whole records differ in every field)
 pub longest-there : (a : Association) × (b : Association) × Whole a × Whole b × (length (listOf a b) ≡ 26)
 longest-there = (one, other, one-whole, other-whole, all-differ)

@@ -187,7 +187,8 @@ module _ (a b : Association) (v : Whole a) (w : Whole b) (f : Held a) (g : Held 
   record-same : a ≡ b
   record-same = λ i. record { settings = settings-same i; stash = stash-alike i; state = state-same i }
 
--- the list is empty exactly when the two records are equal
+-- promise no10.3: The list is empty exactly when the two loaded records are equal. The unanswered polls (No. 8) are no field: in a whole record they follow
+--     from reach.
 pub empty-exactly : (a b : Association) → Whole a → Whole b → Held a → Held b → a .state .request ≡ b .state .request → (listOf a b ≡ []) ↔ (a ≡ b)
 empty-exactly a b v w f g none =
     (λ e. record-same a b v w f g none (readings-equal a b e), λ e. subst (λ (x : Association). listOf a x ≡ []) e (itself a))

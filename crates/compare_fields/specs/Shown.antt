@@ -1,4 +1,4 @@
--- What the theorems on the list are stated with (RULES, No. 10): which fields are in it, in which order, and that it follows from numbers, lengths and places alone.
+-- Terms for the theorems on the list (RULES, No. 10): which fields are in it, in which order, and that it depends only on numbers, lengths and places.
 -- Assumes nothing.
 use Prim.Native.Nat.{ℕ, _<_}
 use mathlib.Core.Path.{_≡_}

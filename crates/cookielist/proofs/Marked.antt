@@ -54,5 +54,6 @@ module _ (l : List ℕ) (m : ℕ) (c rest : List ℕ) (at : ℕ) (fits : m < 655
   rest-here : drop (at + 4 + length c) l ≡ rest
   rest-here = sym (drop-drop (length c) (at + 4) l) ∙ ap (drop (length c)) third ∙ drop-at c rest (length c) refl
 
+  -- promise: 3.12 (a record with any mark is read back)
   pub marked : Marked l m c rest at
   marked = record { long = long-here; mark = mark-here; len = length-here; body = body-here; behind = rest-here }

@@ -57,10 +57,12 @@ written (c ∷ cs) short l at h e =
     let next = written cs (short .1) l (at + 4 + length c) (omega arith) (w .behind) in
     rw (read-record l c (listOf cs) at (short .0) e, next)
 
+-- promise: 3.12
 pub list-read : (cs : List (List ℕ)) → AllShort cs → cookiesIn (listOf cs) ≡ whole cs
 unfolding cookiesIn
 list-read cs short = written cs short (listOf cs) 0 (omega arith) refl
 
+-- promise: 3.12
 pub empty-list : cookiesIn [] ≡ whole []
 empty-list = list-read [] tt
 
@@ -131,6 +133,7 @@ again [] l bytes at h e = nothing-again l at h (entryAt l at) refl e
 again (c ∷ cs) l bytes at h e = cookie-again l bytes at c cs (λ end k p. again cs l bytes end k p) (entryAt l at) refl e
 
 module _ (l : List ℕ) (bytes : Bytes l) (cs : List (List ℕ)) (e : cookiesIn l ≡ whole cs) where
+  -- promise: 3.12
   pub list-written : listOf cs ≡ l
   unfolding cookiesIn
   list-written = again cs l bytes 0 (omega arith) e .same

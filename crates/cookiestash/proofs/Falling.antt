@@ -58,6 +58,7 @@ module _ (cap : ℕ) (s : CookieStash) (i : InRange cap s) where
   none-falls = let e : s .held + 0 - cap ≡ 0 = omega (arith, within cap (s .read) (s .held) i) in rw e
 
   -- what falls out where a cookie is stored comes before what falls out after it
+  -- promise: no5.2 (one by one it is the same), no12.2
   pub falls-first : cap ≤ length (s .slots) → (c : List ℕ) → length c ≤ 65535 → (cs : List (List ℕ)) → fallenAll cap s (c ∷ cs) ≡ oldest cap s ++ fallenAll cap (storeOf cap s c) cs
   unfolding fallenAll full
   falls-first room c h cs =
@@ -79,13 +80,16 @@ module _ (cap : ℕ) (s : CookieStash) (i : InRange cap s) where
 
 module _ (cap : ℕ) (s : CookieStash) (i : InRange cap s) (room : cap ≤ length (s .slots)) (cs : List (List ℕ)) (h : AllShort cs) where
   -- what was held and what is stored, oldest first: the beginning fell out, and the rest is held
+  -- promise no5.3: Nothing is lost unseen: held before and stored is fallen out and held after, cookie for cookie, in lengths and in counts.
   pub none-unseen : cookies cap s ++ map cookieOf cs ≡ fallenAll cap s cs ++ cookies cap (storeAll cap s cs)
   unfolding fallenAll
   none-unseen = rw (store-all cap s i room cs h) (sym (take-append-drop (s .held + length cs - cap) (cookies cap s ++ map cookieOf cs)))
 
+  -- promise: no5.3
   pub lengths-kept : lengths (cookies cap s) + lengths (map cookieOf cs) ≡ lengths (fallenAll cap s cs) + lengths (cookies cap (storeAll cap s cs))
   lengths-kept = sym (lengths-append (cookies cap s) (map cookieOf cs)) ∙ ap lengths none-unseen ∙ lengths-append (fallenAll cap s cs) (cookies cap (storeAll cap s cs))
 
+  -- promise: no5.3
   pub counts-kept : s .held + length cs ≡ length (fallenAll cap s cs) + storeAll cap s cs .held
   counts-kept =
       omega (
@@ -99,6 +103,7 @@ module _ (cap : ℕ) (s : CookieStash) (i : InRange cap s) (room : cap ≤ lengt
       )
 
   -- as many as do not fit
+  -- promise: no5.2, no12.2
   pub as-many : length (fallenAll cap s cs) ≡ s .held + length cs - cap
   unfolding fallenAll
   as-many =
@@ -228,6 +233,7 @@ module _ (cap : ℕ) (s : CookieStash) (t : Typed s) where
   fit-by l bytes n broken e b i = (omega arith, omega arith)
 
   -- no list that a slice can hold is so long that a sum overflows
+  -- promise: no5.4
   pub fits : (l : List ℕ) → Bytes l → length l < 18446744073709551616 → Fit (droppedOf cap s l)
   unfolding droppedOf
   fits l bytes n = fit-by l bytes n (cookiesIn l) refl (inRange cap s) refl

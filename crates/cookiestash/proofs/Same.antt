@@ -77,6 +77,7 @@ module _ (cap : ℕ) (s t : CookieStash) (v : Whole cap s) (w : Whole cap t) (n 
         | no m ↦ v .past k (omega arith) h ∙ sym (w .past k (omega arith) (omega (arith, n)))
       ]
 
+  -- promise 3.8: A whole stash is determined by its reading place and its cookies.
   pub stash-same : s ≡ t
   stash-same =
       let e : s .slots ≡ t .slots = ext-getD (record { bytes = []; len = 0 }) (s .slots) (t .slots) n slot-at-same in

@@ -62,10 +62,12 @@ module _ (p : List ℕ) (least tail : ℕ) (h : 4 ≤ least) where
       (λ at q. q)
       (λ at kind start len next w behind q. rw (eq-eqb at at refl))
 
+-- promise: 7.5 (the fields follow one another from 48 to the end, each within the packet, and their lengths add up)
 pub packet-sound : (p : List ℕ) (end : ℕ) → walkedOf (packetWalk p) ≡ W.Ends end → Sound p 48 16 24 end (fieldsOf (packetWalk p))
 packet-sound p end e = walk-sound p 16 24 (lit≤ tt) 48 end e
 
 -- decrypted fields fill their bytes
+-- promise: 7.3
 pub decrypted-sound : (p : List ℕ) (end : ℕ) → walkedOf (decryptedWalk p) ≡ W.Ends end → Sound p 0 4 0 (length p) (fieldsOf (decryptedWalk p))
 decrypted-sound p end e =
     let s = walk-sound p 4 0 (lit≤ tt) 0 end e in
@@ -91,6 +93,7 @@ module _ (p : List ℕ) (first m : ℕ) where
       record { all = rw (le-leb first (f .at) a, lt-ltb (f .at) m h, e) (ap (λ r. f ∷ r) (s .all)); none = λ k. absurd (omega arith) }
 
 -- each field of a packet belongs to the group before m or to that from m on, in order: none is lost, and none is in both
+-- promise: 7.8 (none is lost, none counted twice)
 pub groups-split : (p : List ℕ) (m : ℕ) → between 48 m (fieldsOf (packetWalk p)) ++ between m (length p) (fieldsOf (packetWalk p)) ≡ fieldsOf (packetWalk p)
 groups-split p m =
     walk-induction p 16 24 (lit≤ tt) (λ at w. 48 ≤ at → Split p 48 m at (fieldsOf w))
@@ -148,6 +151,7 @@ no-place f n at (Field kind start len next) h e = absurd (⊎-elim (λ e. omega 
 no-place f n at End h e = e
 no-place f n at Broken h e = refl
 
+-- promise: 7.6
 pub place-iff : (p : List ℕ) (n : ℕ) → (isPlace p n ≡ true) ↔ Place p n
 unfolding isPlace
 place-iff p n = (there, back)

@@ -76,6 +76,7 @@ module _ (f g out : List ℕ) where
   unfolding outOf rightOut writtenIn
   out-by = refl
 
+  -- promise: no10.5
   pub compare-given : CompareGiven f g out (compareNumber (compareOf f g (length out))) (compareOf f g (length out)) (outOf f g out)
   compare-given =
       subst (λ (x : CompareAnswer). CompareGiven f g out (compareNumber x) x (outOf f g out)) (sym answer-by)
@@ -86,6 +87,7 @@ module _ (f g out : List ℕ) where
   only-by x y t a b c = (answer-by ∙ (λ i. answerBy (a i) (b i) (c i)), out-by ∙ (λ i. outBy (a i) (b i) (c i)))
 
   -- and no other is given
+  -- promise: no10.5
   pub compare-only : {n : ℕ} {x : CompareAnswer} {left : List ℕ} → CompareGiven f g out n x left → (compareOf f g (length out) ≡ x) × (outOf f g out ≡ left)
   compare-only (left-mark a) = only-by WrongMark (loadOf g .answer) fits (answer-61 _ a) refl refl
   compare-only (left-length a) = only-by WrongLength (loadOf g .answer) fits (answer-62 _ a) refl refl
@@ -106,6 +108,7 @@ module _ (f g out : List ℕ) where
   numbered (short-buffer a b h) = refl
   numbered (listed a b h) = refl
 
+  -- promise: no10.5
   pub compare-number : (n : ℕ) → (compareNumber (compareOf f g (length out)) ≡ n) ↔ ((x : CompareAnswer) × (left : List ℕ) × CompareGiven f g out n x left)
   compare-number n = (
     (λ e. (compareOf f g (length out), outOf f g out, subst (λ (k : ℕ). CompareGiven f g out k (compareOf f g (length out)) (outOf f g out)) e compare-given)),
@@ -113,10 +116,12 @@ module _ (f g out : List ℕ) where
   )
 
   -- no list has more than 494 bytes
+  -- promise: no10.6
   pub longest-list : length (listBytes (list f g out)) ≤ 494
   longest-list = omega (arith, list-long (list f g out), at-most (loadOf f .association) (loadOf g .association))
 
   -- so that with a buffer of 494 bytes 71 is never given
+  -- promise: no10.6
   pub room-enough : 494 ≤ length out → compareNumber (compareOf f g (length out)) ≡ 71 → ⊥
   room-enough h e = go (compare-number 71 .0 e .2)
     where

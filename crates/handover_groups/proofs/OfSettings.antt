@@ -31,6 +31,7 @@ pub record SettingsFit (s : Settings) : Type 0 where
   pub upgrademark : s .upgrademark < 2 ^ 64
   pub source : s .source .0 < 2 ^ 32
 
+-- promise: no6.1 (each body to bytes and back), no12.5
 pub settings-back : (s : Settings) → SettingsFit s → settingsOf (settingsBytes s) ≡ s
 unfolding settingsOf settingsBytes part
 settings-back s f =
@@ -48,6 +49,7 @@ pub settings-known : (s : Settings) → settingsKnown (settingsBytes s) ≡ true
 unfolding settingsKnown settingsBytes
 settings-known s = rw (kind-kept (s .start .kind) .1, yes-kept (s .nts) .1)
 
+-- promise: no6.1, no12.5
 pub settings-long : (s : Settings) → length (settingsBytes s) ≡ 27
 unfolding settingsBytes
 settings-long s = refl

@@ -143,10 +143,12 @@ found-by f said misplaced e h = let z : _≡_ {A = ℕ} 0 1 = cc in absurd (omeg
 found-by f said missized e h = let z : _≡_ {A = ℕ} 0 1 = cc in absurd (omega arith)
 
 module _ (f : List ℕ) (r : FileRead) (e : r ≡ readOf f) where
+  -- promise: no6.8
   pub answer-is : r .answer ≡ loadOf f .answer
   unfolding readOf loadOf
   answer-is = ap (λ (x : FileRead). x .answer) e ∙ answer-by f (cutAs shapes f)
 
+  -- promise: no6.8
   pub found-is : (said : Bool) → r .answer ≡ Loaded said → Found f r
   unfolding readOf
   found-is said h = subst (Found f) (sym e) (found-by f said (cutAs shapes f) refl (sym (ap (λ (x : FileRead). x .answer) e) ∙ h))

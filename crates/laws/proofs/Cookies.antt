@@ -70,6 +70,7 @@ module _ (f : List ℕ) (y : Bytes f) (e : loadNumber (loadOf f .answer) ≡ 0) 
       let w = loads f y e .whole .stash in
       record { held = all-named _ (cookies-keep (box f .settings .capacity) (box f .stash) w); room = w .room }
 
+  -- promise: no14.9
   pub loaded-cookie-order : (calls : List (M.Call rule)) → let done = M.run machine (box f) calls in SomeOf (handedOut done) (kept f ++ storedIn (box f .settings .nts) done)
   loaded-cookie-order calls = handed-some calls (box f) (kept f) box-holds
 
@@ -77,6 +78,7 @@ module _ (f : List ℕ) (y : Bytes f) (e : loadNumber (loadOf f .answer) ≡ 0) 
   loaded-cookie-places calls = placed [] (loaded-cookie-order calls)
 
   -- and over any run of the code's calls
+  -- promise: no14.9
   pub code-loaded-cookie-order : {b : Association} {calls : List (M.Call rule)} {done : List (M.Done machine)} → Ran (box f) calls done b →
       SomeOf (handedOut done) (kept f ++ storedIn (box f .settings .nts) done)
   code-loaded-cookie-order {calls} r = rw (ran-is-run r .0) (loaded-cookie-order calls)

@@ -52,6 +52,7 @@ unfoldable pub mostOf : ℕ → ℕ
 mostOf cap = cond (leb cap 1) 728 (cond (leb cap 2) 736 (cond (leb cap 3) 744 (cond (leb cap 6) 752 (cond (leb cap 7) 756 768))))
 
 -- and how long the request is with them: 84 bytes for the header and the unique identifier
+-- promise no12.7: What a timer asks for fits into 852 bytes at every capacity, and into fewer at a smaller one.
 abbrev pub longestOf : ℕ → ℕ
 longestOf cap = 84 + mostOf cap
 
@@ -184,16 +185,19 @@ module _ (a : Association) (i : TimerInput) (room : ℕ) (kind : SendKind) (poll
     modest n = rw long (by-rule (given a i room) sends n)
 
     -- it has at most as many bytes as the longest of its capacity
+    -- promise: no12.7
     pub capacity-longest : length (packetOf kind poll (i .id) upgrademark (i .uid) cookie count) ≤ longestOf (a .settings .capacity)
     capacity-longest =
         at-most kind poll (i .id) upgrademark (i .uid) cookie count size (longestOf cap) (omega arith)
         (λ n. let m = modest n in (m .some, omega (arith, within cap (length cookie) count (omega (arith, m .few)) (m .within) (m .room))))
 
     -- and so at most 852
+    -- promise: no1.6 (852 of any that a timer's 20 asks for), no12.7
     pub timer-longest : length (packetOf kind poll (i .id) upgrademark (i .uid) cookie count) ≤ 852
     timer-longest = omega (arith, capacity-longest, most-768 cap)
 
     -- and a buffer of so many bytes is never too short for it: what the timer asks for, and is not V5, is written
+    -- promise: no12.7
     pub capacity-written : isV5 kind ≡ false → (buffer : ℕ) → longestOf (a .settings .capacity) ≤ buffer → requestOf kind poll (i .id) upgrademark (i .uid) cookie count buffer ≡ Written (length (packetOf kind poll (i .id) upgrademark (i .uid) cookie count))
     unfolding requestOf
     capacity-written v buffer h = rw (v, asked-well (hasNts kind) refl, le-ltb buffer (length (packetOf kind poll (i .id) upgrademark (i .uid) cookie count)) (omega (arith, capacity-longest)))
@@ -204,6 +208,7 @@ module _ (a : Association) (i : TimerInput) (room : ℕ) (kind : SendKind) (poll
             rw (n, le-leb (length cookie) 724 (modest-short cap (length cookie) count m), le-leb 1 count (m .some), le-leb count 8 (m .few))
         asked-well false n = rw n
 
+    -- promise: no1.6 (with 852 bytes of buffer that is never rejected, V5 apart), no12.7
     pub timer-written : isV5 kind ≡ false → (buffer : ℕ) → 852 ≤ buffer → requestOf kind poll (i .id) upgrademark (i .uid) cookie count buffer ≡ Written (length (packetOf kind poll (i .id) upgrademark (i .uid) cookie count))
     timer-written v buffer h = capacity-written v buffer (omega (arith, most-768 cap))
 
@@ -211,6 +216,7 @@ module _ (a : Association) (i : TimerInput) (room : ℕ) (kind : SendKind) (poll
 abbrev pub Reached : (cap len asked : ℕ) → Type 0
 Reached cap len asked = (poll : PollInterval) (id upgrademark : ℕ) → length (packetOf NtsV4 poll id upgrademark (replicate 32 0) (replicate len 0) asked) ≡ longestOf cap
 
+-- promise: no12.7
 pub all-reached : Reached 1 724 1 × Reached 2 362 2 × Reached 3 241 3 × Reached 4 181 4 × Reached 5 181 4 × Reached 6 181 4 × Reached 7 103 7 × Reached 8 90 8
 unfolding fieldLength mostOf
 all-reached = (
@@ -225,6 +231,7 @@ all-reached = (
 )
 
 -- 852 is reached: a cookie of 90 bytes, and eight asked for
+-- promise: no1.6
 pub reached : (poll : PollInterval) (id upgrademark : ℕ) → length (packetOf NtsV4 poll id upgrademark (replicate 32 0) (replicate 90 0) 8) ≡ 852
 unfolding fieldLength
 reached poll id upgrademark = length-nts NtsV4 poll id upgrademark (replicate 32 0) (replicate 90 0) 8 refl refl (omega arith)

@@ -163,12 +163,14 @@ pub none-yet : (e : Effort) → Unheard 0 e
 none-yet e = record { few = omega arith; shifts = none; tries = omega arith }
 
 -- from any record, whole or not, whatever came before
+-- promise: no14.7 (from any record, whole or not, in any stretch of any log from it)
 pub nine-timers : (a : Association) (calls : List (M.Call rule)) → NineTimers machine a calls
 nine-timers a calls before nine behind e z m =
     let s = stretch machine a calls before nine behind e in
     rw (s .same) (enough (s .calls) 0 (s .start) (none-yet (s .start .state .effort)) (rw (s .same) at z) (omega (arith, ap timersIn (s .same))))
 
 -- and in the log of any run of the code's calls
+-- promise: no14.7 (of any run of the code's calls)
 pub code-nine-timers : {a b : Association} {calls : List (M.Call rule)} {done : List (M.Done machine)} → Ran a calls done b →
     (before nine behind : List (log.Entry rule)) → M.logged machine done ≡ before ++ (nine ++ behind) → NoZero nine → 9 ≤ timersIn nine → GaveUp nine
 code-nine-timers {a} {calls} r before nine behind e = nine-timers a calls before nine behind (sym (ap (M.logged machine) (ran-is-run r .0)) ∙ e)
@@ -180,6 +182,7 @@ one-of true c t = inl tt
 one-of false true t = inr refl
 one-of false false t = absurd t
 
+-- promise: no14.7 (each of the four numbers asks for a reset or a demobilize)
 pub gives-up-acts : (n : ℕ) → T (givesUp n) → (timer.actionsOf n ≡ reset ∷ []) ⊎ (timer.actionsOf n ≡ demobilize ∷ [])
 gives-up-acts n g =
     ⊎-elim (λ h. ⊎-elim (λ k. ⊎-elim (λ l. inl (rw (eqb→eq n 21 l))) (λ e. inr (rw (eqb-true n 22 e))) (one-of (eqb n 21) (eqb n 22) k))

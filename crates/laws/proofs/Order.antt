@@ -175,9 +175,11 @@ handed-some (c ∷ cs) a inside h =
 
 -- from any whole record that holds these cookies: some of them and of what was stored since
 module _ (a : Association) (w : Whole a) (inside : List (List ℕ)) (held : cookies (a .settings .capacity) (a .stash) ≡ map cookieOf inside) where
+  -- promise: no14.9
   pub any-cookie-order : (calls : List (M.Call rule)) → let done = M.run machine a calls in SomeOf (handedOut done) (inside ++ storedIn (a .settings .nts) done)
   any-cookie-order calls = handed-some calls a inside (record { held = held; room = w .stash .room })
 
+  -- promise: no14.9
   pub code-any-cookie-order : {b : Association} {calls : List (M.Call rule)} {done : List (M.Done machine)} → Ran a calls done b →
       SomeOf (handedOut done) (inside ++ storedIn (a .settings .nts) done)
   code-any-cookie-order {calls} r = rw (ran-is-run r .0) (any-cookie-order calls)
@@ -253,13 +255,16 @@ module _ (s : Settings) (list : List ℕ) where
       (some-behind (storedOn (new.numberOf (new.newOf s list .answer)) (s .nts) list)
       (stored-less (made .settings .nts) (s .nts) done (nts-by s list (new-numbers.given s list)))))
 
+  -- promise: no14.8
   pub cookie-order : (calls : List (M.Call rule)) → let done = M.run machine made calls in SomeOf (handedOut done) (storedFrom s list done)
   cookie-order calls = from-new (M.run machine made calls) (handed-some calls made)
 
   -- by the places in the order of storing, which rise
+  -- promise: no14.8
   pub cookie-places : (calls : List (M.Call rule)) → let done = M.run machine made calls in Placed [] (handedOut done) (storedFrom s list done)
   cookie-places calls = placed [] (cookie-order calls)
 
   -- and over any run of the code's calls
+  -- promise: no14.8
   pub code-cookie-order : {b : Association} {calls : List (M.Call rule)} {done : List (M.Done machine)} → Ran made calls done b → SomeOf (handedOut done) (storedFrom s list done)
   code-cookie-order {calls} r = rw (ran-is-run r .0) (cookie-order calls)

@@ -134,6 +134,7 @@ new-polls s list e = by (plain-numbers.number s list 0 .0 e)
     by (_, made v b u) = ap (λ (o : NewOut). o .association .state .polls) (plain-numbers.only s list (made v b u)) ∙ made-polls s list
 
 -- over any log from the plain call no poll is below poll min
+-- promise: no11.5 (of a plain association no sent poll is below poll min)
 pub new-sparing : (s : Settings) (list : List ℕ) → new.numberOf (new.newOf s list .answer) ≡ 0 → (calls : List (M.Call rule)) →
     let a = new.newOf s list .association in Sparing (s .min .0) (M.run machine a calls) (M.after machine a calls)
 new-sparing s list e calls =
@@ -157,6 +158,7 @@ metered-held s list e =
     }
 
 -- over any log from it no sent poll has a last poll below 8
+-- promise: no11.5
 pub never-below-8 : (s : Settings) (list : List ℕ) → numberOf (profileOf s list) ≡ 0 → (calls : List (M.Call rule)) →
     let a = meteredOf s list .association in Sparing (pos 8) (M.run machine a calls) (M.after machine a calls)
 never-below-8 s list e calls =
@@ -164,6 +166,7 @@ never-below-8 s list e calls =
     sparing-from (pos 8) (meteredOf s list .association) (h .remote) (h .sparing .last) calls
 
 -- and over any run of the code's calls
+-- promise: no11.5 (over any run of the code's calls)
 pub code-never-below-8 : (s : Settings) (list : List ℕ) → numberOf (profileOf s list) ≡ 0 → {b : Association} {calls : List (M.Call rule)} {done : List (M.Done machine)} →
     Ran (meteredOf s list .association) calls done b → Sparing (pos 8) done b
 code-never-below-8 s list e {calls} r = let k = ran-is-run r in rw (k .0, k .1) (never-below-8 s list e calls)
@@ -193,6 +196,7 @@ blank-kept least done a (M.reply r) k =
     record { sent = and-one least done _ (k .sent) tt; blank = ap (λ o. o .association) e ∙ k .blank }
 
 -- so whatever the metered call answered, no poll that is sent after it is below 8
+-- promise: no11.5 (whatever the call answered)
 pub sent-never-below-8 : (s : Settings) (list : List ℕ) (calls : List (M.Call rule)) → AllAtLeast (pos 8) (M.run machine (meteredOf s list .association) calls)
 sent-never-below-8 s list calls = by (eqb (numberOf (profileOf s list)) 0) refl
   where

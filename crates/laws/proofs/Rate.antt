@@ -59,6 +59,7 @@ call-raises a (M.timer t) =
 call-raises a (M.reply r) = paced a (read-by a r) (arrivalOf r) (given a (read-by a r) (arrivalOf r)) .least
 
 -- over any log from any record, whole or not, refused calls and all
+-- promise: no7.2 (from any record, whole or not, with rejected calls too), no11.5
 pub never-falls : (a : Association) (calls : List (M.Call rule)) → remoteOf a ≤ℤ remoteOf (M.after machine a calls)
 never-falls a calls =
     between machine (λ a b. remoteOf a ≤ℤ remoteOf b)
@@ -66,6 +67,7 @@ never-falls a calls =
     a calls
 
 -- and over any run of the code's calls
+-- promise: no7.2 (of the code's calls)
 pub code-never-falls : {a b : Association} {calls : List (M.Call rule)} {done : List (M.Done machine)} → Ran a calls done b → remoteOf a ≤ℤ remoteOf b
 code-never-falls {a} {calls} r = rw (ran-is-run r .1) (never-falls a calls)
 
@@ -145,10 +147,11 @@ module _ (a : Association) (read : ReplyRead) (t : Arrival) (w : Inside a) where
 same-reply : (a : Association) (r : ReplyIn) → Inside a → crateReplied a r ≡ replied a r
 same-reply a r w = λ i. (replied a r .0, same-remote a (read-by a r) (arrivalOf r) w (given a (read-by a r) (arrivalOf r)) i)
 
--- from any record with nothing pending
+-- promise: no7.3 (from any record with nothing pending)
 pub unasked-same : (a : Association) → pendingIn (a .state .request) ≡ none → (calls : List (M.Call rule)) → CrateSame a calls
 unasked-same a e calls = same-logs machine Inside inside-kept crateReplied same-reply a (λ t. absurd (not-pending (a .state .request) t e)) calls
 
 -- and so from a new association
+-- promise: no7.3 (the same records and the same numbers along any log)
 pub new-same : (s : Settings) (list : List ℕ) (calls : List (M.Call rule)) → CrateSame (newOf s list .association) calls
 new-same s list calls = unasked-same (newOf s list .association) (new-pends-nothing s list) calls

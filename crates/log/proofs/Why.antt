@@ -195,6 +195,7 @@ module _ {D : Rule} (M : Machine D) (L : Laws M) where
   all [] a = tt
   all (c ∷ cs) a = (one a c, rw (L .settings-kept a c, L .pending-next a c, L .answered-next a c) at (all cs (step M a c)))
 
+  -- promise: no3.5 (of any machine that obeys the laws)
   pub why-told : (a : M .Record) (calls : List (Call D)) → M .pending a ≡ none → M .answered a ≡ false → Why M a calls
   why-told a calls new unanswered =
       let s = M .settings a in

@@ -96,6 +96,7 @@ module _ (b : List ℕ) (y : Bytes b) (o : ok b ≡ true) (rs : Seen) (w : Bool)
       let k : w ≡ wholeSeen (a .settings) (seenOf cap (a .stash)) (a .state) = ew ∙ ap (λ (v : Seen). wholeSeen (a .settings) v (a .state)) s in
       sym (packed-left w) ∙ ap (λ (k : Bool). replyPacked (judged a (t .list) (left k))) k ∙ sym (when (replyPacked (repliedOf a R.Undecodable t)) (gave noRecord b) o)
 
+-- promise: exports.9
 pub undecodable-is : (b : List ℕ) → Bytes b → (r : Opened) → r ≡ openedOf b → r .ok ≡ true → (rs : Seen) → rs ≡ seenIn b (r .settings .capacity) → (w : Bool) → w ≡ wholeSeen (r .settings) rs (r .state) → (t : Arrival) →
     gave (record { answer = cond w Undecodable NotWhole; dropped = noneDropped }) b ≡ repliedCall b R.Undecodable t
 undecodable-is b y r e k rs es w ew t =

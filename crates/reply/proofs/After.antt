@@ -28,6 +28,10 @@ pub record Heard (a : Association) (n : ℕ) (o : ReplyOut) : Type 0 where
   pub version : T (leb 7 n && leb n 11) → o .association ≡ withState a (stepped (a .state))
 
 module _ (a : Association) (read : ReplyRead) (t : Arrival) where
+  -- promise 11.6: Kisses, 10 and 11 leave the request pending.
+  --     edit: reply_rules/a_kiss_clears_the_request
+  -- promise 11.9: The numbers 1, 2, 4, 12, 13, 14, 32 and 33 leave the record unchanged.
+  -- promise: 11.6 (its `request`, `settings`, `version`), 11.9 (its `same`), no8.4 (its `unanswered`), demand.1
   pub heard : {n : ℕ} {o : ReplyOut} → Given a read t n o → Heard a n o
   unfolding stepped afterRateKiss afterDenial afterMeasured
   heard (not-whole e) = record { settings = refl; request = refl; effort = λ _. refl; unanswered = refl; same = λ _. refl; version = absurd }
@@ -63,6 +67,7 @@ unmoved {a} e p =
     record { last = ap (λ (x : Polls). x .last) p; remote = λ _. same ∙ sym (unless _ _ e); least = rw same (≤ℤ-refl (a .state .polls .remote .0)) }
 
 module _ (a : Association) (read : ReplyRead) (t : Arrival) where
+  -- promise: 11.4 (its `remote`, `last`)
   pub paced : {n : ℕ} {o : ReplyOut} → Given a read t n o → Paced a n o
   unfolding stepped afterRateKiss afterDenial afterMeasured
   paced (not-whole e) = unmoved refl refl

@@ -74,5 +74,6 @@ module _ (a : Association) (read : ReplyRead) (t : Arrival) (w : Whole a) where
         idle = stored-idle (a .settings .capacity) (a .stash) (t .list) (a .settings .nts) (a .state .request .uid) (w .idle);
       }
 
+  -- promise: whole.3, no8.1, no12.3
   pub reply-whole : Whole (repliedOf a read t .association)
   reply-whole = given-whole (given a read t)

@@ -149,16 +149,19 @@ module _ (a : Association) (read : ReplyRead) (t : Arrival) where
 
   -- ---- what is given, it is given under the rule of its number
 
+  -- promise: 11.1, no8.6 (at 32)
   pub given : Given (numberOf (repliedOf a read t .replied .answer)) (repliedOf a read t)
   unfolding repliedOf
   given = told
 
   -- where a number's rule holds, that rule's answer and record are given
+  -- promise: 11.1, no8.6 (at 32)
   pub only : {n : ℕ} {o : ReplyOut} → Given n o → repliedOf a read t ≡ o
   unfolding repliedOf
   only g = ruled g .1
 
   -- so a number is given if and only if its rule holds
+  -- promise: 11.1 (of both forms), 11.2 (at 12, 13 and 14), 11.7 (at 10)
   pub number : (n : ℕ) → (numberOf (repliedOf a read t .replied .answer) ≡ n) ↔ ((o : ReplyOut) × Given n o)
   number n = (
     λ e. (repliedOf a read t, subst (λ (k : ℕ). Given k (repliedOf a read t)) e given),

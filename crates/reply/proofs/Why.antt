@@ -50,5 +50,6 @@ module _ (a : Association) (read : ReplyRead) (t : Arrival) where
       by second e f g = gives tt (already-measured (w .expected) f)
       by third e f g = gives tt (late (w .expected) g)
 
+  -- promise: no3.4 (both forms of the call)
   pub for-three : T (forThree (numberOf (repliedOf a read t .replied .answer))) ↔ ((r : Reply) × WasThree a read t r)
   for-three = (was-three (given a read t), λ (r, w). now-one w)

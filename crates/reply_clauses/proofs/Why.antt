@@ -24,6 +24,7 @@ was-late : (present late : Bool) → (present && late) ≡ true → (not present
 was-late true late e = e
 was-late false late e = refl
 
+-- promise: no3.4
 pub told-apart : (q : Pending) (time : ℕ) → ToldApart q time
 told-apart q time =
     record {

@@ -40,6 +40,7 @@ numberOf NotWhole = 32
 numberOf BrokenList = 33
 
 -- actions follow from the number: 0 from a reply is one system update with the measurement; 7 demobilizes; others none
+-- promise actions.3: Actions of a reply, number by number; demand 3 cites them.
 abbrev pub actionsOf : ℕ → List Action
 actionsOf n = cond (eqb n 0) (updateSystem ∷ []) (cond (eqb n 7) (demobilize ∷ []) [])
 

@@ -33,6 +33,7 @@ module _ (kind : SendKind) (poll : PollInterval) (id upgrademark : ℕ) (uid coo
       go false n = omega (arith, length-plain n)
 
   -- no request that is written is longer than 5,908 bytes
+  -- promise: no1.6 (5,908 bytes of any that is written)
   pub longest : askValid (length cookie) asked ≡ true → length (packetOf kind poll id upgrademark uid cookie asked) ≤ 5908
   longest e =
       let h = asks (length cookie) asked e in

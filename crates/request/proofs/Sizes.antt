@@ -20,14 +20,17 @@ use Rattle.request.proofs.Placing.{placed-behind, placed-front, filled-
 
 -- ---- a field's length: it covers head and body, is at least 16 and a multiple of four
 
+-- promise: no1.3
 pub field-covers : (n : ℕ) → n + 4 ≤ fieldLength n
 unfolding fieldLength
 field-covers n = omega arith
 
+-- promise: no1.3
 pub field-least : (n : ℕ) → 16 ≤ fieldLength n
 unfolding fieldLength
 field-least n = omega arith
 
+-- promise: no1.3
 pub field-fours : (n : ℕ) → fieldLength n % 4 ≡ 0
 unfolding fieldLength
 field-fours n = omega arith

@@ -74,6 +74,7 @@ unfolding walkFrom
 walk-end l at h = none-left (length l - at) l at h
 
 -- THE LAW of the walk: what stands at the offset, and then the walk from where it ends
+-- promise: no9.1 (the law by which the walk unfolds)
 pub walk-turn : (l : List ℕ) (at : ℕ) → at < length l → walkFrom l at ≡ onFound (walkFrom l) at (recordAt l at)
 unfolding walkFrom
 walk-turn l at h =

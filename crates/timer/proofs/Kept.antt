@@ -78,5 +78,7 @@ module _ (a : Association) (w : Whole a) (i : TimerInput) (room : ℕ) where
   kept (sent t n) = sent-whole (withState a (triedOf (a .state))) (tried-whole a w) i
   kept (sent-nts k z) = sent-whole (withStash (withState a (triedOf (a .state))) (getOf (a .settings .capacity) (a .stash) .stash)) (left-whole (k .nts)) i
 
+  -- promise whole.3: Every call on a whole record leaves a whole record.
+  -- promise: no8.1, no12.3
   pub timer-whole : Whole (timerOf a i room .association)
   timer-whole = kept (given a i room)

@@ -62,6 +62,7 @@ module _ (a : Association) (i : TimerInput) (room : ℕ) where
       either Told (eqb (askedWith (stash.seenOf (a .settings .capacity) (a .stash))) 0) (λ z. too-large k (eqb-true _ _ z)) (λ z. sent-nts k (positive _ (eqb-false _ _ z))))
       (λ e. let l : a .stash .held ≤ 0 = ltb-false _ _ (sym f ∙ e) in no-cookie t n (omega arith))
 
+  -- promise: 10.1, no8.6 (at 32)
   pub given : Given a i room (numberOf (timerOf a i room .answer)) (timerOf a i room)
   unfolding timerOf decideOf wholeOf
   given =
@@ -75,6 +76,7 @@ module _ (a : Association) (i : TimerInput) (room : ℕ) where
       not-whole
 
   -- and no other is given
+  -- promise: 10.1, no8.6 (at 32)
   pub only : {n : ℕ} {o : TimerOut} → Given a i room n o → timerOf a i room ≡ o
   unfolding timerOf decideOf decideNts wholeOf
   only (not-whole w) = rw w
@@ -106,6 +108,7 @@ module _ (a : Association) (i : TimerInput) (room : ℕ) where
   numbered (sent t n) = refl
   numbered (sent-nts k z) = refl
 
+  -- promise: 10.1, 10.2 (at 21 and 22), 10.4 (at 23 and 24)
   pub number : (n : ℕ) → (numberOf (timerOf a i room .answer) ≡ n) ↔ ((o : TimerOut) × Given a i room n o)
   number n =
       ((λ e. (timerOf a i room, subst (λ (k : ℕ). Given a i room k (timerOf a i room)) e given)), (λ (o, g). ap (λ (x : TimerOut). numberOf (x .answer)) (only g) ∙ numbered g))
