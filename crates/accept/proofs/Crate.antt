@@ -43,7 +43,8 @@ module _ (a : Association) (stratum : ℕ) (local : List ℕ) (bloom : Bloom) wh
   -- promise: no2.1 (elsewhere the answer is the crate's)
   pub as-the-crate : served ≡ false → acceptOf a stratum local bloom ≡ crateAcceptOf a stratum local bloom
   unfolding acceptSeen crateAcceptOf wholeOf
-  as-the-crate h = ap (λ (l : Bool). acceptBy l (a .settings) (a .state) (seenOf (a .settings .capacity) (a .stash)) stratum) (dropped ourself (isPresent bloom) h)
+  as-the-crate h = ap (λ (l : Bool). acceptBy l (a .settings) (a .state) (seenOf (a .settings .capacity) (a .stash)) stratum)
+      (dropped ourself (isPresent bloom) h)
 
   -- so where the answer is not the crate's the new test hits, and the answer is 41
   -- promise: no2.1
@@ -89,5 +90,6 @@ neither a b ours theirs s t stratum level bloom filter = (never-accepted a strat
 
 -- with capacity 8 acceptance is what it was before there was a capacity (RULES, No. 12)
 -- promise: no12.4
-pub accept-8 : (a : Association) → a .settings .capacity ≡ 8 → (stratum : ℕ) (local : List ℕ) (bloom : Bloom) → acceptOf a stratum local bloom ≡ acceptSeen (a .settings) (a .state) (seenOf 8 (a .stash)) stratum local bloom
+pub accept-8 : (a : Association) → a .settings .capacity ≡ 8 → (stratum : ℕ) (local : List ℕ) (bloom : Bloom) →
+    acceptOf a stratum local bloom ≡ acceptSeen (a .settings) (a .state) (seenOf 8 (a .stash)) stratum local bloom
 accept-8 a e stratum local bloom = ap (λ (c : ℕ). acceptSeen (a .settings) (a .state) (seenOf c (a .stash)) stratum local bloom) e

@@ -80,4 +80,5 @@ crateLoops stratum id local bloom = isOurs stratum id local || isPresent bloom
 -- promise: no2.1
 unfoldable pub crateAcceptOf : Association → ℕ → List ℕ → Bloom → AcceptAnswer
 crateAcceptOf a stratum local bloom =
-    acceptBy (crateLoops (a .state .source .stratum) (a .settings .source .0) local bloom) (a .settings) (a .state) (seenOf (a .settings .capacity) (a .stash)) stratum
+    acceptBy (crateLoops (a .state .source .stratum) (a .settings .source .0) local bloom) (a .settings) (a .state)
+    (seenOf (a .settings .capacity) (a .stash)) stratum

@@ -1,4 +1,5 @@
--- With capacity 8 the settings, a whole record and what `new` makes are what they were before there was a capacity (RULES, No. 12). And 30 is given for a capacity of 0 and of 9 and
+-- With capacity 8 the settings, a whole record and what `new` makes are what they were before there was a capacity (RULES, No. 12). And 30 is given for a
+-- capacity of 0 and of 9 and
 -- more, whatever the other settings are, and for none else where these are within their ranges.
 -- Assumes nothing.
 use mathlib.Core.Path.{_≡_, refl, sym, ap, _∙_}
@@ -69,7 +70,8 @@ module _ (s : Settings) where
   -- ---- 30
 
   outside : (s .capacity ≡ 0) ⊎ (9 ≤ s .capacity) → within 1 (s .capacity) 8 ≡ false
-  outside = ⊎-elim (λ z. fails _ (lt-leb 1 (s .capacity) (omega arith))) (λ n. passes _ (le-leb 1 (s .capacity) (omega arith)) ∙ lt-leb (s .capacity) 8 (omega arith))
+  outside = ⊎-elim (λ z. fails _ (lt-leb 1 (s .capacity) (omega arith)))
+      (λ n. passes _ (le-leb 1 (s .capacity) (omega arith)) ∙ lt-leb (s .capacity) 8 (omega arith))
 
   inside : (1 ≤ s .capacity) → s .capacity ≤ 8 → within 1 (s .capacity) 8 ≡ true
   inside l m = passes _ (le-leb 1 (s .capacity) l) ∙ le-leb (s .capacity) 8 m

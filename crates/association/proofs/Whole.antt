@@ -54,7 +54,8 @@ of-whole a w =
 
 -- a version that is not of the retired kind takes the place of another
 -- promise: no14.3
-pub versions-kept : (start v w : Version) → (upgrading (v .kind) ≡ false → upgrading (w .kind) ≡ false) → versionsValid start v ≡ true → versionsValid start w ≡ true
+pub versions-kept : (start v w : Version) → (upgrading (v .kind) ≡ false → upgrading (w .kind) ≡ false) → versionsValid start v ≡ true →
+    versionsValid start w ≡ true
 unfolding versionsValid
 versions-kept start v w k e =
     let p = both (not (upgrading (start .kind))) (not (upgrading (v .kind))) e in

@@ -52,7 +52,8 @@ pub new-unanswered : (s : Settings) (list : List ℕ) → newOf s list .associat
 unfolding noPending
 new-unanswered s list = ap (λ (q : Pending). q .answered) (new-request s list)
 
--- any log of accepted timers and well-formed replies from a new association, with or without NTS, in all versions and both forms, with clocks jumping either way
+-- any log of accepted timers and well-formed replies from a new association, with or without NTS, in all versions and both forms, with clocks jumping either
+-- way
 -- promise: demand.3 (from a new association)
 pub association-demand3 : (s : Settings) (list : List ℕ) (calls : List (Call rule)) →
     let a = newOf s list .association in

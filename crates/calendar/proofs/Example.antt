@@ -1,4 +1,5 @@
--- "Even where another plan exists" (RULES, No. 13): with a cap of 1 the repeats 4, 4, 2 stop at the third entry, although the starts 0, 2, 1 would fit. Computed from the definitions.
+-- "Even where another plan exists" (RULES, No. 13): with a cap of 1 the repeats 4, 4, 2 stop at the third entry, although the starts 0, 2, 1 would fit.
+-- Computed from the definitions.
 -- Assumes nothing.
 use mathlib.Core.Path.{_≡_, refl}
 use mathlib.Core.List.{[], _∷_}

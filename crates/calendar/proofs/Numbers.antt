@@ -44,7 +44,12 @@ module _ (cap : ℕ) (starts repeats : List ℕ) where
   unfolding checkOf
   only (too-many h) = rw h
   only (bad-repeat k f b) = rw (f, is (badRepeat repeats) (entriesOf starts repeats) (At k) b)
-  only (late-start k d l) = rw (d .few, is (badRepeat repeats) (entriesOf starts repeats) Nothing (d .divide), is (lateStart starts repeats) (entriesOf starts repeats) (At k) l)
+  only (late-start k d l) = rw (
+    d .few,
+    is (badRepeat repeats) (entriesOf starts repeats) Nothing (d .divide),
+    is (lateStart starts repeats)
+        (entriesOf starts repeats) (At k) l,
+  )
   only (over-cap m e o) =
       rw (
         e .divided .few,

@@ -42,7 +42,8 @@ module _ (cap : ℕ) (repeats : List ℕ) where
   -- what a plan is: all the entries are placed, or those before the one for which none fits
   pub data Made (n : ℕ) : Plan → Type 0 where
     all : (starts : List ℕ) → Placed starts → length starts ≡ n → Made n (whole starts)
-    some : (placed : List ℕ) → Placed placed → length placed < n → None (fits cap repeats placed) (repeatOf repeats (length placed)) → Made n (stuck (length placed))
+    some : (placed : List ℕ) → Placed placed → length placed < n → None (fits cap repeats placed) (repeatOf repeats (length placed)) →
+        Made n (stuck (length placed))
 
   -- promise: no13.5
   pub made : (j : ℕ) (placed : List ℕ) → Placed placed → Made (length placed + j) (planFrom cap repeats j placed)
@@ -56,7 +57,8 @@ module _ (cap : ℕ) (repeats : List ℕ) where
       (λ h. some placed p (omega arith) h)
 
   pub made-whole : Made (length repeats) (planFrom cap repeats (length repeats) [])
-  made-whole = let z : 0 + length repeats ≡ length repeats = omega arith in subst (λ (n : ℕ). Made n (planFrom cap repeats (length repeats) [])) z (made (length repeats) [] none)
+  made-whole = let z : 0 + length repeats ≡ length repeats = omega arith in
+      subst (λ (n : ℕ). Made n (planFrom cap repeats (length repeats) [])) z (made (length repeats) [] none)
 
   module _ (room : ℕ) where
     abbrev Given : ℕ → PlanAnswer → Type 0

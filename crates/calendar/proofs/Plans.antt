@@ -41,7 +41,8 @@ module _ (cap : ℕ) (repeats : List ℕ) where
   before-last n k l = omega arith
 
   -- promise: no13.5
-  pub each : (starts : List ℕ) → M.Placed cap repeats starts → (k : ℕ) → k < length starts → First (fits cap repeats (take k starts)) (repeatOf repeats k) (startOf starts k)
+  pub each : (starts : List ℕ) → M.Placed cap repeats starts → (k : ℕ) → k < length starts →
+      First (fits cap repeats (take k starts)) (repeatOf repeats k) (startOf starts k)
   each [] none k l = absurd (omega arith)
   each _ (next placed start p f) k l =
       ⊎-elim
@@ -61,7 +62,8 @@ module _ (cap : ℕ) (repeats : List ℕ) where
       let e : length (placed ++ start ∷ []) ≡ suc (length placed) = omega (arith, length-append placed (start ∷ [])) in
       rw e (nothing (over cap (placed ++ start ∷ []) repeats (suc (length placed))) 1440 (isNothing-true _ (f .passes)) m l)
 
-  pub accepted-plan : (starts : List ℕ) → M.Divided cap repeats → M.Placed cap repeats starts → length starts ≡ length repeats → checkOf cap starts repeats ≡ Accepted
+  pub accepted-plan : (starts : List ℕ) → M.Divided cap repeats → M.Placed cap repeats starts → length starts ≡ length repeats →
+      checkOf cap starts repeats ≡ Accepted
   accepted-plan starts d p e =
       let n : entriesOf starts repeats ≡ length repeats = omega arith in
       check.only cap starts repeats

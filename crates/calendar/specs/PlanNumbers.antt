@@ -17,7 +17,8 @@ module _ (cap : ℕ) (repeats : List ℕ) where
   -- promise: no13.5
   pub data Placed : List ℕ → Type 0 where
     none : Placed []
-    next : (placed : List ℕ) (start : ℕ) → Placed placed → First (fits cap repeats placed) (repeatOf repeats (length placed)) start → Placed (placed ++ start ∷ [])
+    next : (placed : List ℕ) (start : ℕ) → Placed placed → First (fits cap repeats placed) (repeatOf repeats (length placed)) start →
+        Placed (placed ++ start ∷ [])
 
   -- neither 80 nor 81
   pub record Divided : Type 0 where

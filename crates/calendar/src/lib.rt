@@ -161,7 +161,8 @@ fn add(loads: &mut [u8], start: usize, repeat: usize)
 
 // Counts the polls of every minute into a day of zeros.
 fn add_all(loads: &mut [u8], starts: &[u16], repeats: &[u16], n: usize)
-    requires { ⌜ (length (now loads) ≡ 1440) × (n ≤ 64) × ((m : ℕ) → getD (now loads) m 0 ≡ 0) × ((k : ℕ) → k < n → getD (now starts) k 1440 < getD (now repeats) k 0) × ((k : ℕ) → k < n → getD (now repeats) k 0 ≤ 1440) ⌝ }
+    requires { ⌜ (length (now loads) ≡ 1440) × (n ≤ 64) × ((m : ℕ) → getD (now loads) m 0 ≡ 0) ×
+        ((k : ℕ) → k < n → getD (now starts) k 1440 < getD (now repeats) k 0) × ((k : ℕ) → k < n → getD (now repeats) k 0 ≤ 1440) ⌝ }
     ensures { λ r. ⌜ ((m : ℕ) → m < 1440 → getD (now (loads .exit)) m 0 ≡ load (now (starts .entry)) (now (repeats .entry)) n m) ⌝ }
 {
     let mut k: usize = 0;
@@ -248,8 +249,10 @@ fn earliest(loads: &[u8], cap: u8, repeat: usize) -> Found
 
 // Places every entry: writes the starts to a list and counts the polls into a day of zeros. Returns the first entry for which no start fits.
 fn place_all(cap: u8, repeats: &[u16], loads: &mut [u8], placed: &mut [u16]) -> Found
-    requires { ⌜ (length (now loads) ≡ 1440) × (length (now repeats) ≤ 64) × (length (now repeats) ≤ length (now placed)) × ((m : ℕ) → getD (now loads) m 0 ≡ 0) × ((k : ℕ) → k < length (now repeats) → getD (now repeats) k 0 ≤ 1440) ⌝ }
-    ensures { λ r. ⌜ planned r (take (length (now (repeats .entry))) (now (placed .exit))) ≡ planFrom cap (now (repeats .entry)) (length (now (repeats .entry))) [] ⌝ }
+    requires { ⌜ (length (now loads) ≡ 1440) × (length (now repeats) ≤ 64) × (length (now repeats) ≤ length (now placed)) ×
+        ((m : ℕ) → getD (now loads) m 0 ≡ 0) × ((k : ℕ) → k < length (now repeats) → getD (now repeats) k 0 ≤ 1440) ⌝ }
+    ensures { λ r. ⌜ planned r (take (length (now (repeats .entry))) (now (placed .exit)))
+        ≡ planFrom cap (now (repeats .entry)) (length (now (repeats .entry))) [] ⌝ }
 {
     let mut k: usize = 0;
     while k < repeats.len() {
@@ -279,7 +282,8 @@ fn copy(from: &[u16], n: usize, to: &mut [u16])
 // Places the entries one by one, each at the earliest start that fits with those before it. Writes the starts if every entry has one, otherwise nothing.
 // promise: no13.5, no13.6, no13.8, no13.9, no13.10
 pub fn plan(cap: u8, repeats: &[u16], starts: &mut [u16]) -> PlanAnswer
-    ensures { λ r. ⌜ (r ≡ planOf cap (now (repeats .entry)) (length (now (starts .entry)))) × (now (starts .exit) ≡ bufferOf cap (now (repeats .entry)) (now (starts .entry))) ⌝ }
+    ensures { λ r. ⌜ (r ≡ planOf cap (now (repeats .entry)) (length (now (starts .entry)))) ×
+        (now (starts .exit) ≡ bufferOf cap (now (repeats .entry)) (now (starts .entry))) ⌝ }
 {
     let n = repeats.len();
     if MOST_ENTRIES < n {

@@ -61,7 +61,8 @@ fn list_length(decrypted: &[u8]) -> usize
 // Writes a record of the list at an offset, and returns the offset after it.
 fn put_record(out: &mut [u8], to: usize, body: &[u8]) -> usize
     requires { ⌜ (to + 4 + length (now body) ≤ length (now out)) × (length (now body) < 65536) ⌝ }
-    ensures { λ r. ⌜ (r ≡ to + 4 + length (now (body .entry))) × (now (out .exit) ≡ take to (now (out .entry)) ++ recordOf (now (body .entry)) ++ drop (to + 4 + length (now (body .entry))) (now (out .entry))) ⌝ }
+    ensures { λ r. ⌜ (r ≡ to + 4 + length (now (body .entry))) ×
+        (now (out .exit) ≡ take to (now (out .entry)) ++ recordOf (now (body .entry)) ++ drop (to + 4 + length (now (body .entry))) (now (out .entry))) ⌝ }
 {
     let n = body.len();
     let mark = words::be16_bytes(RECORD_MARK);
@@ -78,7 +79,8 @@ fn put_record(out: &mut [u8], to: usize, body: &[u8]) -> usize
 // Writes the list of the cookies to the start of the buffer. Rejects broken fields first, then a list longer than the buffer.
 // promise: 7.9
 pub fn collect(decrypted: &[u8], out: &mut [u8]) -> Collected
-    ensures { λ r. ⌜ (r ≡ collectOf (now (decrypted .entry)) (length (now (out .entry)))) × (now (out .exit) ≡ bufferOf (now (decrypted .entry)) (now (out .entry))) ⌝ }
+    ensures { λ r. ⌜ (r ≡ collectOf (now (decrypted .entry)) (length (now (out .entry)))) ×
+        (now (out .exit) ≡ bufferOf (now (decrypted .entry)) (now (out .entry))) ⌝ }
 {
     let Walked::Ends(_) = fields::decrypted_walk(decrypted) else {
         return Collected::Broken;

@@ -14,7 +14,20 @@ use Rattle.words.proofs.Tests.{both}
 use Rattle.association.specs.declared.Association.{Association}
 use Rattle.compare_fields.specs.declared.Field.{Field}
 use Rattle.compare_fields.specs.Readings.{Reading, settingsNumbers, stateNumbers, readingsOf}
-use Rattle.compare_fields.specs.Fields.{codes, placeOf, sameBytes, sameReading, fieldOf, fieldsFrom, fieldsOf, differing, listOf, entryBytes, listBytes, swapped}
+use Rattle.compare_fields.specs.Fields.{
+  codes,
+  placeOf,
+  sameBytes,
+  sameReading,
+  fieldOf,
+  fieldsFrom,
+  fieldsOf,
+  differing,
+  listOf,
+  entryBytes,
+  listBytes,
+  swapped,
+}
 use Rattle.compare_fields.specs.Shown.{Among, Past, Rising, Outline, outline, fieldBy, fieldsBy, outlinesOf, placesOf, listBy}
 use Rattle.compare_fields.proofs.Places.{eqb-sym, place-sym, same-sym, same-refl, same-eq, same-place}
 
@@ -135,12 +148,14 @@ exchanged a b = ap differing (fields-swapped codes (readingsOf a) (readingsOf b)
 
 listed-in : (x : Field) (fs : List Field) → Among x (differing fs) → Among x fs × (x .same ≡ false)
 listed-in x [] m = absurd m
-listed-in x (f ∷ fs) m = either-way f fs (λ (gs : List Field). Among x gs → Among x (f ∷ fs) × (x .same ≡ false)) (first (listed-in x fs)) (λ e k. later (listed-in x fs k)) m
+listed-in x (f ∷ fs) m =
+    either-way f fs (λ (gs : List Field). Among x gs → Among x (f ∷ fs) × (x .same ≡ false)) (first (listed-in x fs)) (λ e k. later (listed-in x fs k)) m
   where
     later : Among x fs × (x .same ≡ false) → Among x (f ∷ fs) × (x .same ≡ false)
     later (k, e) = (inr k, e)
 
-    first : (Among x (differing fs) → Among x fs × (x .same ≡ false)) → f .same ≡ false → (x ≡ f) ⊎ Among x (differing fs) → Among x (f ∷ fs) × (x .same ≡ false)
+    first : (Among x (differing fs) → Among x fs × (x .same ≡ false)) → f .same ≡ false → (x ≡ f) ⊎ Among x (differing fs) → Among x (f ∷ fs) ×
+        (x .same ≡ false)
     first rest d (inl e) = (inl e, ap (λ (g : Field). g .same) e ∙ d)
     first rest d (inr k) = later (rest k)
 
@@ -206,8 +221,52 @@ rising-codes n [] p = tt
 rising-codes n (c ∷ cs) p = (below c cs (p .1), rising-codes c cs (p .1))
 
 codes-rise : RisingFrom 0 codes
-codes-rise =
-    (lit< tt, (lit< tt, (lit< tt, (lit< tt, (lit< tt, (lit< tt, (lit< tt, (lit< tt, (lit< tt, (lit< tt, (lit< tt, (lit< tt, (lit< tt, (lit< tt, (lit< tt, (lit< tt, (lit< tt, (lit< tt, (lit< tt, (lit< tt, (lit< tt, (lit< tt, (lit< tt, (lit< tt, (lit< tt, (lit< tt, tt))))))))))))))))))))))))))
+codes-rise = (
+  lit< tt,
+  (
+    lit< tt,
+    (
+      lit< tt,
+      (
+        lit< tt,
+        (
+          lit< tt,
+          (
+            lit< tt,
+            (
+              lit< tt,
+              (
+                lit< tt,
+                (
+                  lit< tt,
+                  (
+                    lit< tt,
+                    (
+                      lit< tt,
+                      (
+                        lit< tt,
+                        (
+                          lit< tt,
+                          (
+                            lit< tt,
+                            (
+                              lit< tt,
+                              (lit< tt, (lit< tt, (lit< tt, (lit< tt, (lit< tt, (lit< tt, (lit< tt, (lit< tt, (lit< tt, (lit< tt, (lit< tt, tt))))))))))),
+                            ),
+                          ),
+                        ),
+                      ),
+                    ),
+                  ),
+                ),
+              ),
+            ),
+          ),
+        ),
+      ),
+    ),
+  ),
+)
 
 -- in the order of the file, each once
 -- promise: no10.1 (the codes rise, so that each appears once)
@@ -228,9 +287,17 @@ bytes-by l r = go (eqb (length l) (length r)) refl (sameBytes l r) refl
 field-by : (c : ℕ) (l r : Reading) → fieldOf c l r ≡ fieldBy c (outline l) (outline r) (fieldOf c l r .place)
 unfolding fieldOf sameReading
 field-by c l r =
-    λ i. record { code = c; left = l .number; right = r .number; place = placeOf (l .bytes) (r .bytes); same = eqb (l .number) (r .number) && bytes-by (l .bytes) (r .bytes) i }
+    λ i. record {
+      code = c;
+      left = l .number;
+      right = r .number;
+      place = placeOf (l .bytes) (r .bytes);
+      same = eqb (l .number) (r .number)
+          && bytes-by (l .bytes) (r .bytes) i;
+    }
 
-fields-by : (cs : List ℕ) (ls rs : List Reading) → fieldsFrom cs ls rs ≡ fieldsBy cs (map outline ls) (map outline rs) (map (λ f. f .place) (fieldsFrom cs ls rs))
+fields-by : (cs : List ℕ) (ls rs : List Reading) →
+    fieldsFrom cs ls rs ≡ fieldsBy cs (map outline ls) (map outline rs) (map (λ f. f .place) (fieldsFrom cs ls rs))
 fields-by [] ls rs = refl
 fields-by (c ∷ cs) [] rs = refl
 fields-by (c ∷ cs) (l ∷ ls) [] = refl

@@ -1,4 +1,5 @@
--- Two whole records in which nothing is pending are equal exactly where no field differs. The unanswered polls are no field: in a whole record they follow from reach (RULES, No. 8).
+-- Two whole records in which nothing is pending are equal exactly where no field differs. The unanswered polls are no field: in a whole record they follow
+-- from reach (RULES, No. 8).
 -- Assumes nothing.
 use Prim.Native.Nat.{ℕ, zero, suc, _+_, _*_, _^_, _≤_, _<_}
 use mathlib.Core.Path.{_≡_, refl, sym, ap, subst, _∙_}
@@ -33,7 +34,20 @@ use Rattle.association.proofs.Whole.{none-retired}
 use Rattle.handover_groups.specs.Codes.{yesCode, yesOf, kindCode, triesCode, kindOf}
 use Rattle.handover_groups.proofs.OfCodes.{yes-kept, kind-kept}
 use Rattle.handover_file.proofs.Cookies.{AllKeep, cookies-keep}
-use Rattle.compare_fields.specs.Readings.{Reading, plain, bits64, versionNumber, settingsNumbers, stateNumbers, cookieReading, noCookie, heldOf, agedOf, ages, readingsOf}
+use Rattle.compare_fields.specs.Readings.{
+  Reading,
+  plain,
+  bits64,
+  versionNumber,
+  settingsNumbers,
+  stateNumbers,
+  cookieReading,
+  noCookie,
+  heldOf,
+  agedOf,
+  ages,
+  readingsOf,
+}
 use Rattle.compare_fields.specs.Fields.{listOf}
 use Rattle.compare_fields.proofs.Listed.{readings-equal, itself}
 
@@ -92,7 +106,8 @@ held-is cap s w = rw (in-range cap s w)
 
 -- ---- a record
 
-module _ (a b : Association) (v : Whole a) (w : Whole b) (f : Held a) (g : Held b) (none : a .state .request ≡ b .state .request) (e : readingsOf a ≡ readingsOf b) where
+module _ (a b : Association) (v : Whole a) (w : Whole b) (f : Held a) (g : Held b) (none : a .state .request ≡ b .state .request)
+    (e : readingsOf a ≡ readingsOf b) where
   at : (k : ℕ) → getD (readingsOf a) k (plain 0) ≡ getD (readingsOf b) k (plain 0)
   at k = ap (λ (l : List Reading). getD l k (plain 0)) e
 

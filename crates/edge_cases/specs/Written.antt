@@ -247,7 +247,15 @@ Right (writes kind c asked room n) = request.numberOf (request.requestOf kind (i
 Right (loads bytes a) = loadOf bytes ≡ loaded (Loaded false) a
 Right (saves a bytes) = fileOf a ≡ bytes
 Right (salvages bytes kept skipped places len) =
-    salvageOf bytes (length bytes) ≡ record { number = 0; kept = kept; skipped = skipped; gaps = length places; places = places ++ replicate (32 - length places) 0; len = len }
+    salvageOf bytes (length bytes) ≡ record {
+      number = 0;
+      kept = kept;
+      skipped = skipped;
+      gaps = length places;
+      places = places
+          ++ replicate (32 - length places) 0;
+      len = len;
+    }
 Right (cleans bytes clean) = cleanOf bytes ≡ clean
 Right (differ a b fields) = listOf a b ≡ fields
 Right (enters field bytes) = entryBytes field ≡ bytes

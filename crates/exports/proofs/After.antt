@@ -89,7 +89,8 @@ module _ (b : List ℕ) (y : Bytes b) (i : TimerInput) (buffer : List ℕ) where
       by true e =
           let q = rang-on e in
           let r = timerOf (unpacked b) i (length buffer) in
-          let n : T (leaves (timer-answer.numberOf (r .answer))) = subst (λ (k : TimerAnswer). T (leaves (timer-answer.numberOf k))) (ap (λ (c : timer.TimerCall). c .answer) q) t in
+          let n : T (leaves (timer-answer.numberOf (r .answer))) = subst (λ (k : TimerAnswer). T (leaves (timer-answer.numberOf k)))
+          (ap (λ (c : timer.TimerCall). c .answer) q) t in
           let same = ap packed (record-left (unpacked b) i buffer n) ∙ bytes-again b y e in
           let kept = pending-left (unpacked b) i buffer (λ z. subst (λ (k : ℕ). T (leaves k)) z n) .untouched in
           q ∙ ((λ j. timer.gave (r .answer) (same j) (kept j)) ∙ sym (ap (λ (c : timer.TimerCall). timer.gave (c .answer) b buffer) q))
@@ -120,7 +121,8 @@ module _ (b : List ℕ) (y : Bytes b) (read : ReplyRead) (t : Arrival) where
       by true e =
           let q = came-on e in
           let r = repliedOf (unpacked b) read t in
-          let n : T (turnsAway (reply-answer.numberOf (r .replied .answer))) = subst (λ (k : ReplyAnswer). T (turnsAway (reply-answer.numberOf k))) (ap (λ (c : reply.ReplyCall). c .replied .answer) q) z in
+          let n : T (turnsAway (reply-answer.numberOf (r .replied .answer))) = subst (λ (k : ReplyAnswer). T (turnsAway (reply-answer.numberOf k)))
+          (ap (λ (c : reply.ReplyCall). c .replied .answer) q) z in
           let same = ap packed (heard (unpacked b) read t (given (unpacked b) read t) .same n) ∙ bytes-again b y e in
           q ∙ ((λ j. reply.gave (r .replied) (same j)) ∙ sym (ap (λ (c : reply.ReplyCall). reply.gave (c .replied) b) q))
       by false e = let q = came-none e in q ∙ sym (ap (λ (c : reply.ReplyCall). reply.gave (c .replied) b) q)
@@ -133,7 +135,8 @@ Zeroed num b c = (num (c .answer) ≡ 0 → ⊥) → (num (c .answer) ≡ 31 →
 abbrev pub Stays : {A : Type 0} → (A → ℕ) → List ℕ → made.Call A → Type 0
 Stays num b c = num (c .answer) ≡ 31 → c .bytes ≡ b
 
-module _ {A : Type 0} (num : A → ℕ) (b : List ℕ) (cap number : ℕ) (said wrong : A) (d : Dropped) (a : Association) (is : num said ≡ number) (last : num wrong ≡ 31) where
+module _ {A : Type 0} (num : A → ℕ) (b : List ℕ) (cap number : ℕ) (said wrong : A) (d : Dropped) (a : Association) (is : num said ≡ number)
+    (last : num wrong ≡ 31) where
   zeroed : Zeroed num b (made.madeIn b cap number said wrong d a)
   zeroed =
       either (Zeroed num b) (eqb number 0)
@@ -174,7 +177,8 @@ module _ (s : Settings) (list b : List ℕ) where
   unfolding made.newCall
   new-wrong-size =
       let o = new.newOf s list in
-      stays made.newNumber b (s .capacity) (new.numberOf (o .answer)) (B.Said (o .answer)) B.WrongSize (o .dropped) (o .association) refl refl (new-never-31 (o .answer))
+      stays made.newNumber b (s .capacity) (new.numberOf (o .answer)) (B.Said (o .answer)) B.WrongSize (o .dropped) (o .association) refl refl
+      (new-never-31 (o .answer))
 
   -- promise: exports.4
   pub metered-refused : Zeroed made.meteredNumber b (made.meteredCall s list b)
@@ -188,7 +192,8 @@ module _ (s : Settings) (list b : List ℕ) where
   unfolding made.meteredCall
   metered-wrong-size =
       let o = metered.meteredOf s list in
-      stays made.meteredNumber b (s .capacity) (metered.numberOf (o .answer)) (M.Said (o .answer)) M.WrongSize (o .dropped) (o .association) refl refl (metered-never-31 (o .answer))
+      stays made.meteredNumber b (s .capacity) (metered.numberOf (o .answer)) (M.Said (o .answer)) M.WrongSize (o .dropped) (o .association) refl refl
+      (metered-never-31 (o .answer))
 
 -- ---- save: 32 and 60 leave each byte of the record and of the buffer
 
@@ -268,7 +273,8 @@ unlisted list out C.Broken z = refl
 unlisted list out C.TooLong z = refl
 
 -- promise: exports.10
-pub collect-refused : (decrypted out : List ℕ) → (collectedAs (collector.collectOf decrypted (length out)) .number ≡ 0 → ⊥) → collector.bufferOf decrypted out ≡ out
+pub collect-refused : (decrypted out : List ℕ) → (collectedAs (collector.collectOf decrypted (length out)) .number ≡ 0 → ⊥) →
+    collector.bufferOf decrypted out ≡ out
 unfolding collector.bufferOf
 collect-refused decrypted out z = unlisted (collector.listIn decrypted) out (collector.collectOf decrypted (length out)) z
 
@@ -280,7 +286,8 @@ unsent-packet packet out R.CookieOrCount z = refl
 
 -- promise: exports.10
 pub request-refused : (kind : SendKind) (poll : PollInterval) (id mark : ℕ) (uid cookie : List ℕ) (asked : ℕ) (out : List ℕ)
-    → (requestedAs (request.requestOf kind poll id mark uid cookie asked (length out)) .number ≡ 0 → ⊥) → request.bufferOf kind poll id mark uid cookie asked out ≡ out
+    → (requestedAs (request.requestOf kind poll id mark uid cookie asked (length out)) .number ≡ 0 → ⊥) →
+    request.bufferOf kind poll id mark uid cookie asked out ≡ out
 unfolding request.bufferOf
 request-refused kind poll id mark uid cookie asked out z =
     unsent-packet (request-spec.packetOf kind poll id mark uid cookie asked) out (request.requestOf kind poll id mark uid cookie asked (length out)) z

@@ -61,7 +61,8 @@ plan-refused cap repeats out z = refused-untouched cap repeats out (λ e. z (pla
 
 -- ---- places, written one by one
 
-pub widens : (p w : List ℕ) (i : ℕ) → i < length w → ((k : ℕ) → k < i → getD w k 0 ≡ getD p k 0) → (k : ℕ) → k < i + 1 → getD (set w i (getD p i 0)) k 0 ≡ getD p k 0
+pub widens : (p w : List ℕ) (i : ℕ) → i < length w → ((k : ℕ) → k < i → getD w k 0 ≡ getD p k 0) → (k : ℕ) → k < i + 1 →
+    getD (set w i (getD p i 0)) k 0 ≡ getD p k 0
 widens p w i h f k l = by (eqb k i) refl
   where
     by : (b : Bool) → eqb k i ≡ b → getD (set w i (getD p i 0)) k 0 ≡ getD p k 0

@@ -36,7 +36,8 @@ module _ (p : List ℕ) (least tail : ℕ) (h : 4 ≤ least) where
   says {at} n here q = says-at at n (stepAt p at least tail) refl q
   says {at} n (past e r) q = ap (λ w. walk.refusalOf (walkedOf w)) (turn at _ e) ∙ says n r q
 
-  on : (at n : ℕ) → ((next : ℕ) → at + 4 ≤ next → next ≤ length p → Says next n → Refused p least tail next n) → (s : Step) → stepAt p at least tail ≡ s → Says at n → Refused p least tail at n
+  on : (at n : ℕ) → ((next : ℕ) → at + 4 ≤ next → next ≤ length p → Says next n → Refused p least tail next n) → (s : Step) → stepAt p at least tail ≡ s →
+      Says at n → Refused p least tail at n
   on at n later (Field kind start len next) e q =
       let w = placed p at least tail h kind start len next e in
       let r = later next (omega arith) (w .within) (sym (ap (λ w. walk.refusalOf (walkedOf w)) (turn at (Field kind start len next) e)) ∙ q) in

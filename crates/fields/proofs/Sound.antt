@@ -1,4 +1,5 @@
--- The fields of a walk that ends lie one behind the other from its start to its end, each legal and within the bytes, and behind the end at most a tail is left;
+-- The fields of a walk that ends lie one behind the other from its start to its end, each legal and within the bytes, and behind the end at most a tail is
+-- left;
 -- any number parts a packet's fields into two groups; and `isPlace` says exactly the places of a packet's walk.
 -- Assumes nothing.
 use mathlib.Core.Path.{_≡_, refl, sym, subst, ap, _∙_}
@@ -11,7 +12,23 @@ use lib.Dec.{leb, eqb, lit≤}
 use lib.ListN.{length}
 use borrow.Author.Tests.{eq-eqb, eqb-true, lt-ltb, le-ltb, le-leb, leb-true, leb-false}
 use Rattle.words.proofs.Tests.{both}
-use Rattle.fields.specs.Walk.{Found, Walk, field, ends, broken, onStep, walkOf, packetWalk, decryptedWalk, walkedOf, whole, placeIn, isPlace, fieldsOf, between}
+use Rattle.fields.specs.Walk.{
+  Found,
+  Walk,
+  field,
+  ends,
+  broken,
+  onStep,
+  walkOf,
+  packetWalk,
+  decryptedWalk,
+  walkedOf,
+  whole,
+  placeIn,
+  isPlace,
+  fieldsOf,
+  between,
+}
 use Rattle.fields.specs.Sound.{One, InLine, Sound, Place}
 use Rattle.fields.specs.declared.Step.{Step}
 use Rattle.fields.specs.declared.Step.the-variants.{Field, End, Broken}
@@ -82,7 +99,8 @@ module _ (p : List ℕ) (first m : ℕ) where
     all : between first m fs ++ between m (length p) fs ≡ fs
     none : m ≤ at → between first m fs ≡ []
 
-  split-field : (t : Bool) (f : Found) (fs : List Found) (next : ℕ) → first ≤ f .at → f .at < next → f .at < length p → leb m (f .at) ≡ t → Split next fs → Split (f .at) (f ∷ fs)
+  split-field : (t : Bool) (f : Found) (fs : List Found) (next : ℕ) → first ≤ f .at → f .at < next → f .at < length p → leb m (f .at) ≡ t → Split next fs →
+      Split (f .at) (f ∷ fs)
   split-field true f fs next a b d e s =
       let h : m ≤ f .at = leb-true m (f .at) e in
       let n : between first m fs ≡ [] = s .none (omega arith) in
@@ -100,7 +118,8 @@ groups-split p m =
     (λ at e h. record { all = refl; none = λ _. refl })
     (λ at h. record { all = refl; none = λ _. refl })
     (λ at kind start len next w behind h.
-    split-field p 48 m (leb m at) (record { at = at; kind = kind; start = start; len = len }) (fieldsOf (walkOf p next 16 24)) next h (omega arith) (omega arith) refl
+    split-field p 48 m (leb m at) (record { at = at; kind = kind; start = start; len = len }) (fieldsOf (walkOf p next 16 24)) next h (omega arith)
+    (omega arith) refl
     (behind (omega arith)))
     48 (lit≤ tt) .all
 

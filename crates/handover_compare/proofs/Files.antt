@@ -1,4 +1,5 @@
--- The list of two files is empty exactly when the two loaded records are equal; and two files that have the capacity, and nothing of the retired kind, are then one file.
+-- The list of two files is empty exactly when the two loaded records are equal; and two files that have the capacity, and nothing of the retired kind, are
+-- then one file.
 -- Assumes nothing.
 use Prim.Native.Nat.{ℕ, _+_, _^_}
 use mathlib.Core.Path.{_≡_, refl, sym, ap, _∙_}

@@ -25,6 +25,7 @@ module _ (f g : List ℕ) (out : List ℕ) where
     right-mark : loadNumber (loadOf f .answer) ≡ 0 → loadNumber (loadOf g .answer) ≡ 61 → CompareGiven 61 (WrongMark Right) out
     right-length : loadNumber (loadOf f .answer) ≡ 0 → loadNumber (loadOf g .answer) ≡ 62 → CompareGiven 62 (WrongLength Right) out
     right-none : loadNumber (loadOf f .answer) ≡ 0 → loadNumber (loadOf g .answer) ≡ 63 → CompareGiven 63 (NoAssociation Right) out
-    short-buffer : loadNumber (loadOf f .answer) ≡ 0 → loadNumber (loadOf g .answer) ≡ 0 → length out < length (listBytes list) → CompareGiven 71 ShortBuffer out
+    short-buffer : loadNumber (loadOf f .answer) ≡ 0 → loadNumber (loadOf g .answer) ≡ 0 → length out < length (listBytes list) →
+        CompareGiven 71 ShortBuffer out
     listed : loadNumber (loadOf f .answer) ≡ 0 → loadNumber (loadOf g .answer) ≡ 0 → length (listBytes list) ≤ length out
         → CompareGiven 0 (Listed (length list)) (over (listBytes list) out)

@@ -171,7 +171,8 @@ fn compare_found(
     right: &[u8],
     out: &mut [u8],
 ) -> CompareAnswer
-    requires { ⌜ (stashFits (now left) ≡ true) × (stashKnown (l .capacity) (now left) ≡ true) × (stashFits (now right) ≡ true) × (stashKnown (r .capacity) (now right) ≡ true) ⌝ }
+    requires { ⌜ (stashFits (now left) ≡ true) × (stashKnown (l .capacity) (now left) ≡ true) × (stashFits (now right) ≡ true) ×
+        (stashKnown (r .capacity) (now right) ≡ true) ⌝ }
     ensures { λ x. ⌜ (x ≡ toldIn (madeOf l p (now (left .entry))) (madeOf r q (now (right .entry))) (length (now (out .entry))))
         × (now (out .exit) ≡ writtenIn (madeOf l p (now (left .entry))) (madeOf r q (now (right .entry))) (now (out .entry))) ⌝ }
 {
@@ -215,7 +216,8 @@ fn compare_right(l: Settings, p: State, left: &[u8], right: &[u8], out: &mut [u8
 // Compares two files. The left one is read first.
 // promise: no10.1, no10.5
 pub fn compare(left: &[u8], right: &[u8], out: &mut [u8]) -> CompareAnswer
-    ensures { λ x. ⌜ (x ≡ compareOf (now (left .entry)) (now (right .entry)) (length (now (out .entry)))) × (now (out .exit) ≡ outOf (now (left .entry)) (now (right .entry)) (now (out .entry))) ⌝ }
+    ensures { λ x. ⌜ (x ≡ compareOf (now (left .entry)) (now (right .entry)) (length (now (out .entry)))) ×
+        (now (out .exit) ≡ outOf (now (left .entry)) (now (right .entry)) (now (out .entry))) ⌝ }
 {
     let found = handover_read::read(left);
     let answer = found.answer;

@@ -1,4 +1,5 @@
--- A file that has the capacity and nothing of the retired kind, and is read with 0, is the file that the loaded record writes, so no two of them load as one record; a file of before, without the capacity, is read
+-- A file that has the capacity and nothing of the retired kind, and is read with 0, is the file that the loaded record writes, so no two of them load as one
+-- record; a file of before, without the capacity, is read
 -- as the file with 8 is; and a loaded record is whole, with nothing pending.
 -- Assumes nothing.
 use Prim.Native.Nat.{ℕ, zero, suc, _+_}

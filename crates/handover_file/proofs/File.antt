@@ -1,4 +1,5 @@
--- A written file is read as its record with nothing sent; apart from the pending request two whole records are equal exactly when their files are; and how long a file may be.
+-- A written file is read as its record with nothing sent; apart from the pending request two whole records are equal exactly when their files are; and how
+-- long a file may be.
 -- Assumes nothing.
 use Prim.Native.Nat.{ℕ, _+_, _*_, _^_, _≤_, _<_}
 use mathlib.Core.Path.{_≡_, refl, sym, ap, _∙_}
@@ -20,7 +21,19 @@ use Rattle.association.specs.Whole.{Whole}
 use Rattle.association.proofs.Whole.{of-whole, none-retired}
 use Rattle.handover_groups.specs.Settings.{settingsBytes, settingsOf}
 use Rattle.handover_groups.proofs.OfSettings.{SettingsFit, settings-back, settings-known, settings-long}
-use Rattle.handover_groups.proofs.OfState.{PollsFit, effort-back, effort-long, version-back, version-known, version-long, polls-back, polls-long, source-back, source-known, source-long}
+use Rattle.handover_groups.proofs.OfState.{
+  PollsFit,
+  effort-back,
+  effort-long,
+  version-back,
+  version-known,
+  version-long,
+  polls-back,
+  polls-long,
+  source-back,
+  source-known,
+  source-long,
+}
 use Rattle.handover_file.specs.declared.LoadAnswer.the-variants.{Loaded}
 use Rattle.handover_file.specs.declared.LoadOut.{LoadOut}
 use Rattle.handover_file.specs.Sections.{Fitting}
@@ -146,7 +159,14 @@ module _ (a : Association) (w : Whole a) (f : Fit a) where
   unfolding answers.loadIn
   loaded =
       let u = unsent-whole a w in
-      rw (known-back, record-back, settled-same (unsent a) (none-retired (unsent a) u), of-whole (unsent a) u, retired-none (unsent a) (none-retired (unsent a) u))
+      rw (
+        known-back,
+        record-back,
+        settled-same (unsent a) (none-retired (unsent a) u),
+        of-whole (unsent a) u,
+        retired-none (unsent a)
+            (none-retired (unsent a) u),
+      )
 
   -- reading a written file gives the record as it was, with nothing sent, and with nothing of the retired kind
   -- promise no12.6: The equality of No. 6 is over files with the byte of the capacity.
@@ -166,7 +186,8 @@ module _ (a : Association) (w : Whole a) (f : Fit a) where
 
 -- and one is as long: that of as many cookies as the capacity that fill their slots
 -- promise: no6.9
-pub file-as-long : (a : Association) → Whole a → a .stash .held ≡ a .settings .capacity → AllFill (cookies (a .settings .capacity) (a .stash)) → length (fileOf a) ≡ 64 + 726 * a .settings .capacity
+pub file-as-long : (a : Association) → Whole a → a .stash .held ≡ a .settings .capacity → AllFill (cookies (a .settings .capacity) (a .stash)) →
+    length (fileOf a) ≡ 64 + 726 * a .settings .capacity
 file-as-long a w h f = omega (arith, file-length a, stash-longest (a .settings .capacity) (a .stash) (w .stash) h f)
 
 same-record : (a b : Association) → Whole a → Fit a → Whole b → Fit b → fileOf a ≡ fileOf b → unsent a ≡ unsent b

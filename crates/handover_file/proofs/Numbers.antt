@@ -20,8 +20,37 @@ use Rattle.handover_file.specs.Sections.{Shape, Cut, missized, cutAs}
 use Rattle.handover_file.specs.File.{shapes, fileOf, known, recordIn, settled}
 use Rattle.handover_file.specs.Answers.{saveNumber, saveOf, loadNumber, onCut, loadOf}
 use Rattle.handover_file.specs.Numbers as N
-use Rattle.handover_file.specs.Numbers.{SaveGiven, not-whole, short-buffer, written, Faulty, no-mark, no-length, no-body, unfit, Begins, LoadGiven, wrong-mark, wrong-length, left-over, no-association, association}
-use Rattle.handover_file.proofs.Sections.{behind, cut-prefix, cut-joined, cut-none, cut-mark, cut-length, cut-body, cut-unfit, cut-over, behind-misplaced, behind-missized}
+use Rattle.handover_file.specs.Numbers.{
+  SaveGiven,
+  not-whole,
+  short-buffer,
+  written,
+  Faulty,
+  no-mark,
+  no-length,
+  no-body,
+  unfit,
+  Begins,
+  LoadGiven,
+  wrong-mark,
+  wrong-length,
+  left-over,
+  no-association,
+  association,
+}
+use Rattle.handover_file.proofs.Sections.{
+  behind,
+  cut-prefix,
+  cut-joined,
+  cut-none,
+  cut-mark,
+  cut-length,
+  cut-body,
+  cut-unfit,
+  cut-over,
+  behind-misplaced,
+  behind-missized,
+}
 use Rattle.handover_file.proofs.Outcome.{Marked, Outcome, all, over, mark, fault, outcome}
 use Rattle.handover_file.proofs.Settled.{load-tests}
 use Rattle.handover_file.proofs.File.{Fit, file-longest}
@@ -93,7 +122,8 @@ module _ (f : List ℕ) where
   LoadTold o = LoadGiven f (loadNumber (o .answer)) o
 
   told : (c : Cut) → Outcome shapes f c → LoadTold (onCut c)
-  told _ (all bs g e) = subst LoadTold (sym (load-tests bs)) (either LoadTold (known bs && wholeOf (settled (recordIn bs))) (association bs g e) (no-association bs g e))
+  told _ (all bs g e) = subst LoadTold (sym (load-tests bs))
+      (either LoadTold (known bs && wholeOf (settled (recordIn bs))) (association bs g e) (no-association bs g e))
   told _ (over bs l g h) = left-over bs l g h
   told _ (mark ps ts s bs l e g h d) = wrong-mark ps ts s bs l e g h d
   told _ (fault ps ts s bs l e g x) = wrong-length ps ts s bs l e g x

@@ -81,7 +81,8 @@ unsent a =
 -- promise: no6.7
 unfoldable pub known : List (List ℕ) → Bool
 known bs =
-    settingsKnown (getD bs 0 []) && (stashKnown (settingsOf (getD bs 0 []) .capacity) (getD bs 1 []) && (versionKnown (getD bs 3 []) && sourceKnown (getD bs 5 [])))
+    settingsKnown (getD bs 0 []) && (stashKnown (settingsOf (getD bs 0 []) .capacity) (getD bs 1 [])
+    && (versionKnown (getD bs 3 []) && sourceKnown (getD bs 5 [])))
 
 -- the state in four bodies, with nothing pending
 abbrev pub stateIn : List ℕ → List ℕ → List ℕ → List ℕ → State

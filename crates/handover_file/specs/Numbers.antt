@@ -47,9 +47,11 @@ module _ (f : List ℕ) where
   pub data LoadGiven : ℕ → LoadOut → Type 0 where
     wrong-mark : (ss ts : List Shape) (s : Shape) (bs : List (List ℕ)) (l : List ℕ) → shapes ≡ ss ++ (s ∷ ts) → Begins f ss bs l →
         2 ≤ length l → (be (part l 0 2) ≡ s .mark → ⊥) → LoadGiven 61 (refused WrongMark)
-    wrong-length : (ss ts : List Shape) (s : Shape) (bs : List (List ℕ)) (l : List ℕ) → shapes ≡ ss ++ (s ∷ ts) → Begins f ss bs l → Faulty s l → LoadGiven 62 (refused WrongLength)
+    wrong-length : (ss ts : List Shape) (s : Shape) (bs : List (List ℕ)) (l : List ℕ) → shapes ≡ ss ++ (s ∷ ts) → Begins f ss bs l → Faulty s l →
+        LoadGiven 62 (refused WrongLength)
     left-over : (bs : List (List ℕ)) (l : List ℕ) → Begins f shapes bs l → 0 < length l → LoadGiven 62 (refused WrongLength)
-    no-association : (bs : List (List ℕ)) → Fitting shapes bs → f ≡ joined shapes bs → known bs && wholeOf (settled (recordIn bs)) ≡ false → LoadGiven 63 (refused NoAssociation)
+    no-association : (bs : List (List ℕ)) → Fitting shapes bs → f ≡ joined shapes bs → known bs && wholeOf (settled (recordIn bs)) ≡ false →
+        LoadGiven 63 (refused NoAssociation)
     -- V4 replaces the retired kind, and the answer says whether that was there (RULES, No. 14)
     association : (bs : List (List ℕ)) → Fitting shapes bs → f ≡ joined shapes bs → known bs && wholeOf (settled (recordIn bs)) ≡ true →
         LoadGiven 0 (loaded (Loaded (retired (recordIn bs .settings) (recordIn bs .state))) (settled (recordIn bs)))

@@ -1,4 +1,5 @@
--- The settings' record: what is written has 27 bytes, is of a kind and is read back; 27 bytes whose codes are of a kind are written as they were read; 26 bytes are read as
+-- The settings' record: what is written has 27 bytes, is of a kind and is read back; 27 bytes whose codes are of a kind are written as they were read; 26
+-- bytes are read as
 -- those with the byte 8 behind them.
 -- Assumes nothing.
 use Prim.Native.Nat.{ℕ, suc, _+_, _^_, _≤_, _<_}
@@ -60,9 +61,11 @@ module _ (b : List ℕ) (n : length b ≡ 27) where
   first i h = sym (drop-cons b i 0 (omega arith))
 
   -- 27 bytes, field by field
-  fields : getD b 0 0 ∷ getD b 1 0 ∷ getD b 2 0 ∷ (part b 3 8 ++ (part b 11 8 ++ (getD b 19 0 ∷ getD b 20 0 ∷ getD b 21 0 ∷ (part b 22 4 ++ (getD b 26 8 ∷ []))))) ≡ b
+  fields : getD b 0 0 ∷ getD b 1 0 ∷ getD b 2 0
+      ∷ (part b 3 8 ++ (part b 11 8 ++ (getD b 19 0 ∷ getD b 20 0 ∷ getD b 21 0 ∷ (part b 22 4 ++ (getD b 26 8 ∷ []))))) ≡ b
   fields =
-      let end : getD b 26 8 ∷ [] ≡ drop 26 b = ap (λ (l : List ℕ). getD b 26 8 ∷ l) (sym (drop-of-length-le b {i = 27} (omega arith))) ∙ sym (drop-cons b 26 8 (omega arith)) in
+      let end : getD b 26 8 ∷ [] ≡ drop 26 b = ap (λ (l : List ℕ). getD b 26 8 ∷ l) (sym (drop-of-length-le b {i = 27} (omega arith)))
+      ∙ sym (drop-cons b 26 8 (omega arith)) in
       let last : part b 22 4 ++ (getD b 26 8 ∷ []) ≡ drop 22 b = ap (λ (l : List ℕ). part b 22 4 ++ l) end ∙ part-drop b 22 4 in
       let codes : getD b 19 0 ∷ getD b 20 0 ∷ getD b 21 0 ∷ (part b 22 4 ++ (getD b 26 8 ∷ [])) ≡ drop 19 b
       = ap (λ (l : List ℕ). getD b 19 0 ∷ getD b 20 0 ∷ getD b 21 0 ∷ l) last
@@ -106,7 +109,8 @@ module _ (b : List ℕ) (n : length b ≡ 26) where
   pub settings-old : settingsOf b ≡ settingsOf more
   unfolding settingsOf
   settings-old =
-      let end : getD b 26 8 ≡ getD more 26 8 = List·getD-eq-default b 8 {n = 26} (omega arith) ∙ sym (ap (λ (k : ℕ). getD more k 8) (sym n) ∙ getD-append-seam b 8 [] 8) in
+      let end : getD b 26 8 ≡ getD more 26 8 = List·getD-eq-default b 8 {n = 26} (omega arith)
+      ∙ sym (ap (λ (k : ℕ). getD more k 8) (sym n) ∙ getD-append-seam b 8 [] 8) in
       λ i. record {
         min = interval (signed (2 ^ 7) (sym (byte-same 0 (omega arith)) i));
         max = interval (signed (2 ^ 7) (sym (byte-same 1 (omega arith)) i));

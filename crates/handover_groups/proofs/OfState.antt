@@ -17,7 +17,18 @@ use Rattle.version.specs.declared.Version.{Version}
 use Rattle.association.specs.declared.Effort.{Effort}
 use Rattle.association.specs.declared.Polls.{Polls}
 use Rattle.association.specs.declared.Source.{Source}
-use Rattle.handover_groups.specs.State.{effortBytes, effortOf, versionBytes, versionOf, versionKnown, pollsBytes, pollsOf, sourceBytes, sourceOf, sourceKnown}
+use Rattle.handover_groups.specs.State.{
+  effortBytes,
+  effortOf,
+  versionBytes,
+  versionOf,
+  versionKnown,
+  pollsBytes,
+  pollsOf,
+  sourceBytes,
+  sourceOf,
+  sourceKnown,
+}
 use Rattle.handover_groups.proofs.OfCodes.{word, word-again, yes-kept, yes-again, kind-kept, kind-again}
 
 -- a byte, and what follows it

@@ -15,7 +15,8 @@ ghost use mathlib.Core.Path.{_≡_};
 ghost use lib.ListN.{getD};
 ghost use Rattle.handover_groups.specs.Codes.{yesCode, yesKnown, kindCode, triesCode, kindOf, kindKnown};
 ghost use Rattle.handover_groups.specs.Settings.{settingsBytes, settingsOf, settingsKnown};
-ghost use Rattle.handover_groups.specs.State.{effortBytes, effortOf, versionBytes, versionOf, versionKnown, pollsBytes, pollsOf, sourceBytes, sourceOf, sourceKnown};
+ghost use Rattle.handover_groups.specs.State.{effortBytes, effortOf, versionBytes, versionOf, versionKnown, pollsBytes};
+ghost use Rattle.handover_groups.specs.State.{pollsOf, sourceBytes, sourceOf, sourceKnown};
 
 // A byte, or zero if there is none.
 fn byte_at(b: &[u8], i: usize) -> u8

@@ -190,7 +190,8 @@ fn association_in(
     source: &[u8],
 ) -> LoadOut
     requires { ⌜ stashFits (now stash) ≡ true ⌝ }
-    ensures { λ r. ⌜ r ≡ loadIn (now (settings .entry) ∷ now (stash .entry) ∷ now (effort .entry) ∷ now (version .entry) ∷ now (polls .entry) ∷ now (source .entry) ∷ []) ⌝ }
+    ensures { λ r. ⌜ r ≡ loadIn (now (settings .entry) ∷ now (stash .entry) ∷ now (effort .entry) ∷ now (version .entry) ∷ now (polls .entry)
+        ∷ now (source .entry) ∷ []) ⌝ }
 {
     if !handover_groups::settings_known(settings) {
         return refused(LoadAnswer::NoAssociation);

@@ -18,7 +18,8 @@ no-group V3 p from to uid = refl
 no-group V4 p from to uid = refl
 
 -- promise: 8.3
-pub without-nts : (uid uid′ : List ℕ) (p : List ℕ) (end : ℕ) (decrypted decrypted′ : List ℕ) → readOf false uid p end decrypted ≡ readOf false uid′ p end decrypted′
+pub without-nts : (uid uid′ : List ℕ) (p : List ℕ) (end : ℕ) (decrypted decrypted′ : List ℕ) →
+    readOf false uid p end decrypted ≡ readOf false uid′ p end decrypted′
 unfolding readOf bytesRead
 without-nts uid uid′ p end decrypted decrypted′ = by (headerOf p)
   where

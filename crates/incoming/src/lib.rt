@@ -15,7 +15,8 @@ use time_types::NtpTimestamp;
 use time_types::PollInterval;
 use uid_groups::Uid;
 ghost use mathlib.Core.Path.{_≡_};
-ghost use Rattle.incoming.specs.Incoming.{leapCode, leapOf, isServer, isResponse, endValid, decryptedValid, groupOf, encryptedOf, valueOf, readOf, decodedOf};
+ghost use Rattle.incoming.specs.Incoming.{leapCode, leapOf, isServer, isResponse, endValid, decryptedValid};
+ghost use Rattle.incoming.specs.Incoming.{groupOf, encryptedOf, valueOf, readOf, decodedOf};
 
 // The leap kinds of a measurement: a header's four, and Unknown, which only the decoded form can carry.
 pub enum NtpLeapIndicator {

@@ -54,7 +54,8 @@ use Rattle.laws.proofs.Cookies as loaded
 
 unsaved-more : (ds : List (M.Done savingMachine)) (d : M.Done savingMachine) → unsaved (ds ++ d ∷ []) ≡ unsaved ds ++ (unsavedBy d ++ [])
 unsaved-more [] d = refl
-unsaved-more (x ∷ ds) d = ap (λ (l : List (M.Done machine)). unsavedBy x ++ l) (unsaved-more ds d) ∙ sym (append-assoc (unsavedBy x) (unsaved ds) (unsavedBy d ++ []))
+unsaved-more (x ∷ ds) d =
+    ap (λ (l : List (M.Done machine)). unsavedBy x ++ l) (unsaved-more ds d) ∙ sym (append-assoc (unsavedBy x) (unsaved ds) (unsavedBy d ++ []))
 
 none-more : {A : Type 0} (xs : List A) → xs ++ [] ≡ xs
 none-more [] = refl
@@ -64,7 +65,8 @@ module _ (P : List (M.Done machine) → Association → Type 0) (kept : KeptWith
     (idle : (done : List (M.Done machine)) (a : Association) (room : ℕ) → P done a → P done (saveOf a room .association)) where
   saving-kept : KeptWith savingMachine (λ done. P (unsaved done))
   saving-kept done a (M.timer (poll t)) p = rw (unsaved-more done (M.made savingMachine a (M.timer (poll t)))) (kept (unsaved done) a (M.timer t) p)
-  saving-kept done a (M.timer (save b)) p = rw (unsaved-more done (M.made savingMachine a (M.timer (save b))), none-more (unsaved done)) (idle (unsaved done) a (length b) p)
+  saving-kept done a (M.timer (save b)) p = rw (unsaved-more done (M.made savingMachine a (M.timer (save b))), none-more (unsaved done))
+      (idle (unsaved done) a (length b) p)
   saving-kept done a (M.reply r) p = rw (unsaved-more done (M.made savingMachine a (M.reply r))) (kept (unsaved done) a (M.reply r) p)
 
   -- holds along any log with saves
@@ -197,7 +199,8 @@ saving-handed (M.timer (save b) ∷ cs) a inside h =
     let k = save-holds a inside h (length b) in
     let more = unsaved (M.run savingMachine (M.step savingMachine a (M.timer (save b))) cs) in
     some-some (saving-handed cs (M.step savingMachine a (M.timer (save b))) (k .inside) (k .holds))
-    (subst (λ (g : Settings). SomeOf (k .inside ++ storedIn (g .nts) more) (inside ++ storedIn (a .settings .nts) more)) (sym (save-stash-alone a (length b) .settings))
+    (subst (λ (g : Settings). SomeOf (k .inside ++ storedIn (g .nts) more) (inside ++ storedIn (a .settings .nts) more))
+    (sym (save-stash-alone a (length b) .settings))
     (some-before (k .order) (storedIn (a .settings .nts) more)))
 saving-handed (M.reply r ∷ cs) a inside h = saving-call cs a inside h (M.reply r) (saving-handed cs (M.step machine a (M.reply r)))
 
@@ -205,7 +208,8 @@ saving-handed (M.reply r ∷ cs) a inside h = saving-call cs a inside h (M.reply
 -- promise: no6.11
 pub saving-cookie-order : (s : Settings) (list : List ℕ) (calls : List (M.Call savingRule)) →
     let done = unsaved (M.run savingMachine (newOf s list .association) calls) in SomeOf (handedOut done) (storedFrom s list done)
-saving-cookie-order s list calls = from-new s list (unsaved (M.run savingMachine (newOf s list .association) calls)) (saving-handed calls (newOf s list .association))
+saving-cookie-order s list calls =
+    from-new s list (unsaved (M.run savingMachine (newOf s list .association) calls)) (saving-handed calls (newOf s list .association))
 
 -- promise: no6.11
 pub saving-cookie-places : (s : Settings) (list : List ℕ) (calls : List (M.Call savingRule)) →

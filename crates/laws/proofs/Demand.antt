@@ -1,4 +1,5 @@
--- Demand 3 and No. 3 of the association, from a loaded one, of its logs and of runs of the code's calls: whatever a file is read as, nothing is pending and no reply was measured.
+-- Demand 3 and No. 3 of the association, from a loaded one, of its logs and of runs of the code's calls: whatever a file is read as, nothing is pending and
+-- no reply was measured.
 -- Assumes nothing.
 use mathlib.Core.Path.{_≡_, refl, ap}
 use mathlib.Core.Bool.{false}
@@ -27,7 +28,8 @@ Nothing o = (pendingIn (o .association .state .request) ≡ none) × (o .associa
 
 cut-nothing : (c : Cut) → Nothing (onCut c)
 unfolding loadIn recordIn settled settledState blankOf noPending
-cut-nothing (bodies bs) = either Nothing (known bs) (λ k. either Nothing (wholeOf (settled (recordIn bs))) (λ e. (refl, refl)) (λ e. (refl, refl))) (λ k. (refl, refl))
+cut-nothing (bodies bs) =
+    either Nothing (known bs) (λ k. either Nothing (wholeOf (settled (recordIn bs))) (λ e. (refl, refl)) (λ e. (refl, refl))) (λ k. (refl, refl))
 cut-nothing misplaced = (refl, refl)
 cut-nothing missized = (refl, refl)
 

@@ -1,4 +1,5 @@
--- How long the requests are that a timer's 20 asks for: at most 852 bytes, and a buffer of 852 holds each. Of a stash of a smaller capacity they are shorter (RULES, No. 12): no more
+-- How long the requests are that a timer's 20 asks for: at most 852 bytes, and a buffer of 852 holds each. Of a stash of a smaller capacity they are shorter
+-- (RULES, No. 12): no more
 -- cookies are asked for than the capacity.
 -- Assumes nothing.
 use mathlib.Core.Path.{_≡_, refl, sym, ap, _∙_}
@@ -107,7 +108,8 @@ module _ (cap : ℕ) where
 
   most-8 : 8 ≤ cap → 768 ≤ mostOf cap
   unfolding mostOf
-  most-8 h = rw (lt-leb cap 1 (omega arith), lt-leb cap 2 (omega arith), lt-leb cap 3 (omega arith), lt-leb cap 6 (omega arith), lt-leb cap 7 (omega arith)) (omega arith)
+  most-8 h = rw (lt-leb cap 1 (omega arith), lt-leb cap 2 (omega arith), lt-leb cap 3 (omega arith), lt-leb cap 6 (omega arith), lt-leb cap 7 (omega arith))
+      (omega arith)
 
   most-768 : mostOf cap ≤ 768
   unfolding mostOf
@@ -177,10 +179,12 @@ module _ (a : Association) (i : TimerInput) (room : ℕ) (kind : SendKind) (poll
   by-rule (sent-nts c p) e n =
       let l : getOf (a .settings .capacity) (a .stash) .slot .len ≡ len = cc in
       let q : askedWith (seenOf (a .settings .capacity) (a .stash)) ≡ count = cc in
-      rw (← l, ← q) (modest-asked cap (min (gapOf cap (getOf cap (a .stash) .stash)) 8) (getOf cap (a .stash) .slot .len) (omega arith) (omega (arith, gap-most cap (getOf cap (a .stash) .stash))) (λ z. omega (arith, p, z)))
+      rw (← l, ← q) (modest-asked cap (min (gapOf cap (getOf cap (a .stash) .stash)) 8) (getOf cap (a .stash) .slot .len) (omega arith)
+      (omega (arith, gap-most cap (getOf cap (a .stash) .stash))) (λ z. omega (arith, p, z)))
 
   -- where the timer sends a request of these numbers
-  module _ (sends : timerOf a i room .answer ≡ Sent kind poll len count) (upgrademark : ℕ) (cookie : List ℕ) (size : length (i .uid) ≡ 32) (long : length cookie ≡ len) where
+  module _ (sends : timerOf a i room .answer ≡ Sent kind poll len count) (upgrademark : ℕ) (cookie : List ℕ) (size : length (i .uid) ≡ 32)
+      (long : length cookie ≡ len) where
     modest : hasNts kind ≡ true → Modest cap (length cookie) count
     modest n = rw long (by-rule (given a i room) sends n)
 
@@ -198,9 +202,15 @@ module _ (a : Association) (i : TimerInput) (room : ℕ) (kind : SendKind) (poll
 
     -- and a buffer of so many bytes is never too short for it: what the timer asks for, and is not V5, is written
     -- promise: no12.7
-    pub capacity-written : isV5 kind ≡ false → (buffer : ℕ) → longestOf (a .settings .capacity) ≤ buffer → requestOf kind poll (i .id) upgrademark (i .uid) cookie count buffer ≡ Written (length (packetOf kind poll (i .id) upgrademark (i .uid) cookie count))
+    pub capacity-written : isV5 kind ≡ false → (buffer : ℕ) → longestOf (a .settings .capacity) ≤ buffer →
+        requestOf kind poll (i .id) upgrademark (i .uid) cookie count buffer ≡ Written (length (packetOf kind poll (i .id) upgrademark (i .uid) cookie count))
     unfolding requestOf
-    capacity-written v buffer h = rw (v, asked-well (hasNts kind) refl, le-ltb buffer (length (packetOf kind poll (i .id) upgrademark (i .uid) cookie count)) (omega (arith, capacity-longest)))
+    capacity-written v buffer h = rw (
+      v,
+      asked-well (hasNts kind) refl,
+      le-ltb buffer (length (packetOf kind poll (i .id) upgrademark (i .uid) cookie count))
+          (omega (arith, capacity-longest)),
+    )
       where
         asked-well : (t : Bool) → hasNts kind ≡ t → hasNts kind && not (askValid (length cookie) count) ≡ false
         asked-well true n =
@@ -209,12 +219,14 @@ module _ (a : Association) (i : TimerInput) (room : ℕ) (kind : SendKind) (poll
         asked-well false n = rw n
 
     -- promise: no1.6 (with 852 bytes of buffer that is never rejected, V5 apart), no12.7
-    pub timer-written : isV5 kind ≡ false → (buffer : ℕ) → 852 ≤ buffer → requestOf kind poll (i .id) upgrademark (i .uid) cookie count buffer ≡ Written (length (packetOf kind poll (i .id) upgrademark (i .uid) cookie count))
+    pub timer-written : isV5 kind ≡ false → (buffer : ℕ) → 852 ≤ buffer →
+        requestOf kind poll (i .id) upgrademark (i .uid) cookie count buffer ≡ Written (length (packetOf kind poll (i .id) upgrademark (i .uid) cookie count))
     timer-written v buffer h = capacity-written v buffer (omega (arith, most-768 cap))
 
 -- each is reached: by this number of cookies of this length
 abbrev pub Reached : (cap len asked : ℕ) → Type 0
-Reached cap len asked = (poll : PollInterval) (id upgrademark : ℕ) → length (packetOf NtsV4 poll id upgrademark (replicate 32 0) (replicate len 0) asked) ≡ longestOf cap
+Reached cap len asked = (poll : PollInterval) (id upgrademark : ℕ) →
+    length (packetOf NtsV4 poll id upgrademark (replicate 32 0) (replicate len 0) asked) ≡ longestOf cap
 
 -- promise: no12.7
 pub all-reached : Reached 1 724 1 × Reached 2 362 2 × Reached 3 241 3 × Reached 4 181 4 × Reached 5 181 4 × Reached 6 181 4 × Reached 7 103 7 × Reached 8 90 8

@@ -1,4 +1,5 @@
--- Among any nine timers in a row that were not refused, with no reply measured between the first and the ninth, one answers a reset or a demobilize (RULES, No. 14).
+-- Among any nine timers in a row that were not refused, with no reply measured between the first and the ninth, one answers a reset or a demobilize (RULES,
+-- No. 14).
 -- A sent poll shifts reach and adds one to tries: after eight of them reach is 0 and tries are at least 8, which no startup limit exceeds.
 -- Assumes nothing.
 use mathlib.Core.Path.{_≡_, refl, sym, ap, subst, _∙_}
@@ -135,7 +136,16 @@ unmeasured {k} a r u z =
 -- ---- a log from any record
 
 pub later : {D : log.Rule} (e : log.Entry D) {es : List (log.Entry D)} → GaveUp es → GaveUp (e ∷ es)
-later e g = record { older = e ∷ g .older; newer = g .newer; poll = g .poll; number = g .number; parts = ap (λ (l : List (log.Entry _)). e ∷ l) (g .parts); gave-up = g .gave-up }
+later e g =
+    record {
+      older = e ∷ g .older;
+      newer = g .newer;
+      poll = g .poll;
+      number = g .number;
+      parts = ap (λ (l : List (log.Entry _)). e ∷ l)
+          (g .parts);
+      gave-up = g .gave-up;
+    }
 
 -- after k polls that were sent and not answered, nine less k are enough
 abbrev Enough : ℕ → Association → List (M.Call rule) → Type 0
@@ -143,7 +153,8 @@ Enough k a calls = NoZero (M.logOf machine a calls) → 9 ≤ k + timersIn (M.lo
 
 -- one timer, before a log of which it is known
 pub first : {k : ℕ} {a : Association} {n : ℕ} {o : TimerOut} (t : TimerIn) (es : List (log.Entry rule)) → Unheard k (a .state .effort) → Turn k a n o →
-    ((j : ℕ) → Unheard j (o .association .state .effort) → 9 ≤ j + timersIn es → GaveUp es) → 9 ≤ k + timersIn (log.timed t n ∷ es) → GaveUp (log.timed t n ∷ es)
+    ((j : ℕ) → Unheard j (o .association .state .effort) → 9 ≤ j + timersIn es → GaveUp es) → 9 ≤ k + timersIn (log.timed t n ∷ es) →
+    GaveUp (log.timed t n ∷ es)
 first t es u (gives-up g) rest m = record { older = []; newer = es; poll = t; number = _; parts = refl; gave-up = g }
 first {k} t es u (leaves r e) rest m =
     let v = subst (λ (b : Association). Unheard k (b .state .effort)) (sym e) u in

@@ -1,4 +1,5 @@
--- A metered association answers any log as the plain one of the same settings and list does, and what is proved of logs from a new association is proved of its logs too (RULES, No. 11).
+-- A metered association answers any log as the plain one of the same settings and list does, and what is proved of logs from a new association is proved of
+-- its logs too (RULES, No. 11).
 -- Assumes nothing.
 use mathlib.Core.Path.{_≡_, ap, sym, _∙_}
 use mathlib.Core.List.{List, []}
@@ -41,10 +42,12 @@ module _ (s : Settings) (list : List ℕ) (met : numberOf (profileOf s list) ≡
 
   -- the order of the cookies (RULES, No. 14): those handed out are some of those stored, at places that rise
   -- promise: no14.9
-  pub metered-cookie-order : (calls : List (Call rule)) → let done = run machine (meteredOf s list .association) calls in SomeOf (handedOut done) (storedFrom s list done)
+  pub metered-cookie-order : (calls : List (Call rule)) → let done = run machine (meteredOf s list .association) calls in
+      SomeOf (handedOut done) (storedFrom s list done)
   metered-cookie-order calls = rw (same-run calls .0) (cookie-order s list calls)
 
-  pub metered-cookie-places : (calls : List (Call rule)) → let done = run machine (meteredOf s list .association) calls in Placed [] (handedOut done) (storedFrom s list done)
+  pub metered-cookie-places : (calls : List (Call rule)) → let done = run machine (meteredOf s list .association) calls in
+      Placed [] (handedOut done) (storedFrom s list done)
   metered-cookie-places calls = placed [] (metered-cookie-order calls)
 
   -- promise: no14.9

@@ -30,7 +30,24 @@ use Rattle.reply_clauses.specs.After.{Arrival, stepped, afterRateKiss}
 use Rattle.reply_rules.specs.Answer as reply
 use Rattle.reply.specs.declared.ReplyOut.{ReplyOut}
 use Rattle.reply.specs.Numbers as N
-use Rattle.reply.specs.Numbers.{not-whole, undecodable, broken-list, unexpected-version, never-sent, already-measured, late, no-match, rate, denied, denied-nts, ntsn, other-kiss, bad-stratum, not-server, measured}
+use Rattle.reply.specs.Numbers.{
+  not-whole,
+  undecodable,
+  broken-list,
+  unexpected-version,
+  never-sent,
+  already-measured,
+  late,
+  no-match,
+  rate,
+  denied,
+  denied-nts,
+  ntsn,
+  other-kiss,
+  bad-stratum,
+  not-server,
+  measured,
+}
 use Rattle.reply.proofs.Numbers.{given}
 use Rattle.reply.proofs.After.{Heard, heard, Paced, paced}
 use Rattle.log.specs.Machine as M
@@ -54,7 +71,8 @@ call-raises : (a : Association) (c : M.Call rule) → remoteOf a ≤ℤ remoteOf
 call-raises a (M.timer t) =
     let sent = eqb (timer.numberOf (timed a t .0 .0)) 20 in
     let polls = a .state .polls in
-    let e = ap (λ (p : Polls). p .remote) (rang a (t .poll) (length (t .buffer)) .polls) ∙ polled-remote sent (pollOf (t .poll .desired) (polls .remote)) polls in
+    let e = ap (λ (p : Polls). p .remote) (rang a (t .poll) (length (t .buffer)) .polls)
+    ∙ polled-remote sent (pollOf (t .poll .desired) (polls .remote)) polls in
     subst (λ (p : PollInterval). remoteOf a ≤ℤ p .0) (sym e) (≤ℤ-refl (remoteOf a))
 call-raises a (M.reply r) = paced a (read-by a r) (arrivalOf r) (given a (read-by a r) (arrivalOf r)) .least
 

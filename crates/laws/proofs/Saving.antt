@@ -50,7 +50,8 @@ settings-kept a (M.timer (save b)) = save-stash-alone a (length b) .settings
 settings-kept a (M.reply r) = laws .settings-kept a (M.reply r)
 
 pending-next : (a : Association) (c : Call savingRule) →
-    pendingIn (M.step savingMachine a c .state .request) ≡ next savingRule (a .settings) (pendingIn (a .state .request)) (M.note savingMachine (M.made savingMachine a c))
+    pendingIn (M.step savingMachine a c .state .request)
+    ≡ next savingRule (a .settings) (pendingIn (a .state .request)) (M.note savingMachine (M.made savingMachine a c))
 pending-next a (M.timer (poll t)) = laws .pending-next a (M.timer t)
 pending-next a (M.timer (save b)) = let u = unasked a (length b) in rw (u .not-sent, u .request)
 pending-next a (M.reply r) = laws .pending-next a (M.reply r)

@@ -27,14 +27,16 @@ use Rattle.laws.proofs.Rate.{read-by}
 
 -- over any log from any record, whole or not, refused calls and all
 -- promise: no8.5
-pub count-along : (a : Association) (calls : List (M.Call rule)) → unansweredIn (M.after machine a calls) ≡ countAfter (unansweredIn a) (M.logOf machine a calls)
+pub count-along : (a : Association) (calls : List (M.Call rule)) →
+    unansweredIn (M.after machine a calls) ≡ countAfter (unansweredIn a) (M.logOf machine a calls)
 count-along a [] = refl
 count-along a (M.timer t ∷ cs) =
     let next = M.step machine a (M.timer t) in
     count-along next cs ∙ ap (λ (n : ℕ). countAfter n (M.logOf machine next cs)) (rang a (t .poll) (length (t .buffer)) .unanswered)
 count-along a (M.reply r ∷ cs) =
     let next = M.step machine a (M.reply r) in
-    count-along next cs ∙ ap (λ (n : ℕ). countAfter n (M.logOf machine next cs)) (heard a (read-by a r) (arrivalOf r) (given a (read-by a r) (arrivalOf r)) .unanswered)
+    count-along next cs ∙ ap (λ (n : ℕ). countAfter n (M.logOf machine next cs))
+    (heard a (read-by a r) (arrivalOf r) (given a (read-by a r) (arrivalOf r)) .unanswered)
 
 -- from 8 on, where the association is new
 -- promise: no8.5
@@ -47,7 +49,8 @@ new-count-along s list e calls =
 
 -- and over any run of the code's calls
 -- promise: no8.5 (of the code's calls)
-pub code-counts : {a b : Association} {calls : List (M.Call rule)} {done : List (M.Done machine)} → Ran a calls done b → unansweredIn b ≡ countAfter (unansweredIn a) (M.logOf machine a calls)
+pub code-counts : {a b : Association} {calls : List (M.Call rule)} {done : List (M.Done machine)} → Ran a calls done b →
+    unansweredIn b ≡ countAfter (unansweredIn a) (M.logOf machine a calls)
 code-counts {a} {calls} r = rw (ran-is-run r .1) (count-along a calls)
 
 -- ---- and they are those of reach

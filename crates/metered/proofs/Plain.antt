@@ -1,4 +1,5 @@
--- A metered association is a plain one (RULES, No. 11): the call gives the check's number, on 0 the very record that `new` makes, and on any other number the blank one.
+-- A metered association is a plain one (RULES, No. 11): the call gives the check's number, on 0 the very record that `new` makes, and on any other number the
+-- blank one.
 -- So what is proved of every record that `new` gives is proved of every one that this call gives.
 -- Assumes nothing.
 use mathlib.Core.Path.{_≡_, refl, sym, ap, subst, _∙_}
@@ -73,7 +74,8 @@ module _ (s : Settings) (list : List ℕ) where
   pub metered-whole : numberOf (profileOf s list) ≡ 0 → Whole (meteredOf s list .association)
   metered-whole e = subst Whole (sym (same-record e)) (by (new-gives s list))
     where
-      by : ((new.numberOf (new.newOf s list .answer) ≡ 0) × Whole (new.newOf s list .association)) ⊎ ((new.numberOf (new.newOf s list .answer) ≡ 0 → ⊥) × (new.newOf s list .association ≡ blankOf)) →
+      by : ((new.numberOf (new.newOf s list .answer) ≡ 0) × Whole (new.newOf s list .association))
+          ⊎ ((new.numberOf (new.newOf s list .answer) ≡ 0 → ⊥) × (new.newOf s list .association ≡ blankOf)) →
           Whole (new.newOf s list .association)
       by (inl w) = w .1
       by (inr w) = absurd (w .0 (plain-made e))
@@ -108,5 +110,6 @@ of-new s list = by (eqb (numberOf (profileOf s list)) 0) refl
 
 -- so what holds of every record of the plain call holds of every one of this call: proved once over both
 -- promise: no11.4 (what holds of every record of the plain call holds of every one of this call)
-pub once-over-both : (P : Association → Type 0) → ((s : Settings) (list : List ℕ) → P (new.newOf s list .association)) → (s : Settings) (list : List ℕ) → P (meteredOf s list .association)
+pub once-over-both : (P : Association → Type 0) → ((s : Settings) (list : List ℕ) → P (new.newOf s list .association)) → (s : Settings) (list : List ℕ) →
+    P (meteredOf s list .association)
 once-over-both P p s list = let o = of-new s list in subst P (sym (o .same)) (p (o .settings) (o .list))

@@ -13,9 +13,40 @@ use Rattle.association.specs.Record.{wholeOf, withState, withStash}
 use Rattle.incoming.specs.declared.Reply.{Reply}
 use Rattle.incoming.specs.declared.ReplyRead.{ReplyRead}
 use Rattle.incoming.specs.declared.ReplyRead.the-variants as R
-use Rattle.reply_rules.specs.declared.ReplyAnswer.the-variants.{Measured, Undecodable, UnexpectedVersion, NeverSent, AlreadyMeasured, Expired, NoMatch, Rate, Denied, DeniedNts, Ntsn, OtherKiss, BadStratum, NotServer, NotWhole, BrokenList}
+use Rattle.reply_rules.specs.declared.ReplyAnswer.the-variants.{
+  Measured,
+  Undecodable,
+  UnexpectedVersion,
+  NeverSent,
+  AlreadyMeasured,
+  Expired,
+  NoMatch,
+  Rate,
+  Denied,
+  DeniedNts,
+  Ntsn,
+  OtherKiss,
+  BadStratum,
+  NotServer,
+  NotWhole,
+  BrokenList,
+}
 use Rattle.reply.specs.declared.ReplyOut.{ReplyOut}
-use Rattle.reply_clauses.specs.After.{Arrival, live, noLive, neverSent, alreadyMeasured, expired, answers, denies, stepped, afterRateKiss, afterDenial, afterMeasured, measurementOf}
+use Rattle.reply_clauses.specs.After.{
+  Arrival,
+  live,
+  noLive,
+  neverSent,
+  alreadyMeasured,
+  expired,
+  answers,
+  denies,
+  stepped,
+  afterRateKiss,
+  afterDenial,
+  afterMeasured,
+  measurementOf,
+}
 use Rattle.cookielist.specs.List.{listBroken}
 use Rattle.reply.specs.Reply.{told, out}
 
@@ -105,4 +136,7 @@ module _ (a : Association) (read : ReplyRead) (t : Arrival) where
     not-server : {r : Reply} → Ranked r → r .server ≡ false → Given 11 (out NotServer (withState a (stepped (a .state))))
     -- with NTS the cookies are stored in order, and what fell out is reported
     measured : {r : Reply} → Ranked r → r .server ≡ true →
-        Given 0 (told (Measured (measurementOf r (t .t1) (t .t4) (t .time))) (cond (a .settings .nts) (droppedOf (a .settings .capacity) (a .stash) (t .list)) noneDropped) (withStash (withState a (afterMeasured (stepped (a .state)) r)) (cond (a .settings .nts) (storeListOf (a .settings .capacity) (a .stash) (t .list)) (a .stash))))
+        Given 0 (told (Measured (measurementOf r (t .t1) (t .t4) (t .time)))
+        (cond (a .settings .nts) (droppedOf (a .settings .capacity) (a .stash) (t .list)) noneDropped)
+        (withStash (withState a (afterMeasured (stepped (a .state)) r))
+        (cond (a .settings .nts) (storeListOf (a .settings .capacity) (a .stash) (t .list)) (a .stash))))

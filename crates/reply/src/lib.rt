@@ -115,7 +115,8 @@ pub fn reply(
     t4: NtpTimestamp,
     time: u64,
 ) -> Replied
-    ensures { λ r. ⌜ (r ≡ replyOf (now (a .entry)) (now (packet .entry)) end (now (decrypted .entry)) (arrival (now (list .entry)) t1 t4 time) .replied) × (now (a .exit) ≡ replyOf (now (a .entry)) (now (packet .entry)) end (now (decrypted .entry)) (arrival (now (list .entry)) t1 t4 time) .association) ⌝ }
+    ensures { λ r. ⌜ (r ≡ replyOf (now (a .entry)) (now (packet .entry)) end (now (decrypted .entry)) (arrival (now (list .entry)) t1 t4 time) .replied) ×
+        (now (a .exit) ≡ replyOf (now (a .entry)) (now (packet .entry)) end (now (decrypted .entry)) (arrival (now (list .entry)) t1 t4 time) .association) ⌝ }
 {
     let old = *a;
     let out = reply_core(old, packet, end, decrypted, list, t1, t4, time);
@@ -133,7 +134,8 @@ pub fn reply_decoded(
     t4: NtpTimestamp,
     time: u64,
 ) -> Replied
-    ensures { λ r. ⌜ (r ≡ replyDecodedOf (now (a .entry)) d (arrival (now (list .entry)) t1 t4 time) .replied) × (now (a .exit) ≡ replyDecodedOf (now (a .entry)) d (arrival (now (list .entry)) t1 t4 time) .association) ⌝ }
+    ensures { λ r. ⌜ (r ≡ replyDecodedOf (now (a .entry)) d (arrival (now (list .entry)) t1 t4 time) .replied) ×
+        (now (a .exit) ≡ replyDecodedOf (now (a .entry)) d (arrival (now (list .entry)) t1 t4 time) .association) ⌝ }
 {
     let old = *a;
     let out = reply_decoded_core(old, d, list, t1, t4, time);

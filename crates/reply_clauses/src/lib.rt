@@ -16,7 +16,8 @@ use time_types::NtpTimestamp;
 use time_types::PollInterval;
 ghost use mathlib.Core.Path.{_≡_};
 ghost use mathlib.Core.Bool.{_||_};
-ghost use Rattle.reply_clauses.specs.After.{neverSent, alreadyMeasured, expired, answers, stepped, afterRateKiss, afterDenial, raised, afterMeasured, measurementOf};
+ghost use Rattle.reply_clauses.specs.After.{neverSent, alreadyMeasured, expired, answers, stepped, afterRateKiss};
+ghost use Rattle.reply_clauses.specs.After.{afterDenial, raised, afterMeasured, measurementOf};
 
 // What a measured reply says about the clocks.
 pub struct Measurement {

@@ -7,7 +7,24 @@ use Prim.Native.Nat.{ℕ}
 use lib.Dec.{eqb}
 use Rattle.association.specs.Actions.{Action, updateSystem, demobilize}
 use Rattle.reply_rules.specs.declared.ReplyAnswer.{ReplyAnswer}
-use Rattle.reply_rules.specs.declared.ReplyAnswer.the-variants.{Measured, Undecodable, UnexpectedVersion, NeverSent, AlreadyMeasured, Expired, NoMatch, Rate, Denied, DeniedNts, Ntsn, OtherKiss, BadStratum, NotServer, NotWhole, BrokenList}
+use Rattle.reply_rules.specs.declared.ReplyAnswer.the-variants.{
+  Measured,
+  Undecodable,
+  UnexpectedVersion,
+  NeverSent,
+  AlreadyMeasured,
+  Expired,
+  NoMatch,
+  Rate,
+  Denied,
+  DeniedNts,
+  Ntsn,
+  OtherKiss,
+  BadStratum,
+  NotServer,
+  NotWhole,
+  BrokenList,
+}
 
 abbrev pub numberOf : ReplyAnswer → ℕ
 -- measured

@@ -17,9 +17,38 @@ use Rattle.incoming.specs.declared.ReplyRead.{ReplyRead}
 use Rattle.incoming.specs.declared.ReplyRead.the-variants as R
 use Rattle.incoming.specs.Incoming.{readOf}
 use Rattle.reply_rules.specs.declared.ReplyAnswer.{ReplyAnswer}
-use Rattle.reply_rules.specs.declared.ReplyAnswer.the-variants.{Measured, Undecodable, UnexpectedVersion, NeverSent, AlreadyMeasured, Expired, NoMatch, Rate, Denied, DeniedNts, Ntsn, OtherKiss, BadStratum, NotServer, NotWhole, BrokenList}
+use Rattle.reply_rules.specs.declared.ReplyAnswer.the-variants.{
+  Measured,
+  Undecodable,
+  UnexpectedVersion,
+  NeverSent,
+  AlreadyMeasured,
+  Expired,
+  NoMatch,
+  Rate,
+  Denied,
+  DeniedNts,
+  Ntsn,
+  OtherKiss,
+  BadStratum,
+  NotServer,
+  NotWhole,
+  BrokenList,
+}
 use Rattle.reply_rules.specs.declared.Verdict.{Verdict}
-use Rattle.reply_clauses.specs.After.{Arrival, neverSent, alreadyMeasured, expired, answers, denies, stepped, afterRateKiss, afterDenial, afterMeasured, measurementOf}
+use Rattle.reply_clauses.specs.After.{
+  Arrival,
+  neverSent,
+  alreadyMeasured,
+  expired,
+  answers,
+  denies,
+  stepped,
+  afterRateKiss,
+  afterDenial,
+  afterMeasured,
+  measurementOf,
+}
 
 -- the answer and the next state, with no cookie stored
 abbrev pub leaves : ReplyAnswer → State → Verdict

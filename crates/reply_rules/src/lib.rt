@@ -212,7 +212,8 @@ pub fn judge_packet(
     t4: NtpTimestamp,
     time: u64,
 ) -> Verdict
-    ensures { λ r. ⌜ r ≡ verdictOf settings s seen (readWith settings s (now (packet .entry)) end (now (decrypted .entry))) (arrival (now (list .entry)) t1 t4 time) ⌝ }
+    ensures { λ r. ⌜ r ≡ verdictOf settings s seen (readWith settings s (now (packet .entry)) end (now (decrypted .entry)))
+        (arrival (now (list .entry)) t1 t4 time) ⌝ }
 {
     if !association::whole_seen(settings, seen, s) {
         return Verdict {

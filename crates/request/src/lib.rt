@@ -214,7 +214,8 @@ fn write_plain(front: [u8; 48], out: &mut [u8]) -> Requested
 // Writes a packet of a header and the fields of NTS.
 fn write_nts(front: [u8; 48], uid: [u8; 32], cookie: &[u8], asked: u8, out: &mut [u8]) -> Requested
     requires { ⌜ askValid (length (now cookie)) asked ≡ true ⌝ }
-    ensures { λ r. ⌜ (r ≡ answerFor (withFields front uid (now (cookie .entry)) asked) (now (out .entry))) × (now (out .exit) ≡ bufferFor (withFields front uid (now (cookie .entry)) asked) (now (out .entry))) ⌝ }
+    ensures { λ r. ⌜ (r ≡ answerFor (withFields front uid (now (cookie .entry)) asked) (now (out .entry))) ×
+        (now (out .exit) ≡ bufferFor (withFields front uid (now (cookie .entry)) asked) (now (out .entry))) ⌝ }
 {
     let len = field_length(cookie.len());
     let new = asked as usize;
@@ -237,7 +238,8 @@ pub fn write_request(
     asked: u8,
     out: &mut [u8],
 ) -> Requested
-    ensures { λ r. ⌜ (r ≡ requestOf kind poll id upgrademark uid (now (cookie .entry)) asked (length (now (out .entry)))) × (now (out .exit) ≡ bufferOf kind poll id upgrademark uid (now (cookie .entry)) asked (now (out .entry))) ⌝ }
+    ensures { λ r. ⌜ (r ≡ requestOf kind poll id upgrademark uid (now (cookie .entry)) asked (length (now (out .entry)))) ×
+        (now (out .exit) ≡ bufferOf kind poll id upgrademark uid (now (cookie .entry)) asked (now (out .entry))) ⌝ }
 {
     if is_v5(kind) {
         return Requested::VersionFive;

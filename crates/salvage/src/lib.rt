@@ -82,7 +82,8 @@ fn record_at(list: &[u8], at: usize) -> Found
 // Copies a record's bytes to an offset of the buffer, and returns the offset after them.
 fn put_bytes(out: &mut [u8], to: usize, piece: &[u8]) -> usize
     requires { ⌜ to + length (now piece) ≤ length (now out) ⌝ }
-    ensures { λ r. ⌜ (r ≡ to + length (now (piece .entry))) × (now (out .exit) ≡ take to (now (out .entry)) ++ now (piece .entry) ++ drop (to + length (now (piece .entry))) (now (out .entry))) ⌝ }
+    ensures { λ r. ⌜ (r ≡ to + length (now (piece .entry))) ×
+        (now (out .exit) ≡ take to (now (out .entry)) ++ now (piece .entry) ++ drop (to + length (now (piece .entry))) (now (out .entry))) ⌝ }
 {
     let n = piece.len();
     bytes::copy(piece, &mut out[to..]);

@@ -1,4 +1,5 @@
--- What RATE makes of the remote minimum: it is at least the old one and at least the last poll, and the crate's rule gives less exactly where the old one is above the limit and the last poll.
+-- What RATE makes of the remote minimum: it is at least the old one and at least the last poll, and the crate's rule gives less exactly where the old one is
+-- above the limit and the last poll.
 -- Assumes nothing.
 use mathlib.Core.Path.{_≡_, refl}
 use mathlib.Core.Bool.{Bool, true, false}

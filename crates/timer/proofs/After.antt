@@ -32,7 +32,8 @@ pub record Rang (a : Association) (i : TimerInput) (n : ℕ) (o : TimerOut) : Ty
   pub settings : o .association .settings ≡ a .settings
   pub source : o .association .state .source ≡ a .state .source
   pub request : o .association .state .request ≡ cond (eqb n 20) (pendingOf (a .settings .nts) (a .settings .window) i) (a .state .request)
-  pub polls : o .association .state .polls ≡ cond (eqb n 20) (record { last = pollOf (i .desired) (a .state .polls .remote); remote = a .state .polls .remote }) (a .state .polls)
+  pub polls : o .association .state .polls
+      ≡ cond (eqb n 20) (record { last = pollOf (i .desired) (a .state .polls .remote); remote = a .state .polls .remote }) (a .state .polls)
   pub unanswered : o .association .state .effort .unanswered ≡ cond (triesPoll n) (min (a .state .effort .unanswered + 1) 8) (a .state .effort .unanswered)
   pub version : o .association .state .version ≡ cond (triesPoll n) (fallenBackOf (a .state .version) (a .state .effort .unanswered)) (a .state .version)
   pub same : T (leaves n) → o .association ≡ a
@@ -41,14 +42,94 @@ pub record Rang (a : Association) (i : TimerInput) (n : ℕ) (o : TimerOut) : Ty
 module _ (a : Association) (i : TimerInput) (room : ℕ) where
   rung : {n : ℕ} {o : TimerOut} → Given a i room n o → Rang a i n o
   unfolding triedOf polled sentOf
-  rung (not-whole w) = record { settings = refl; source = refl; request = refl; polls = refl; unanswered = refl; version = refl; same = λ _. refl; nothing = λ _. refl }
-  rung (short-buffer w s) = record { settings = refl; source = refl; request = refl; polls = refl; unanswered = refl; version = refl; same = λ _. refl; nothing = λ _. refl }
-  rung (demobilize c o d) = record { settings = refl; source = refl; request = refl; polls = refl; unanswered = refl; version = refl; same = λ _. refl; nothing = λ _. refl }
-  rung (reset c o d) = record { settings = refl; source = refl; request = refl; polls = refl; unanswered = refl; version = refl; same = λ _. refl; nothing = λ _. refl }
-  rung (no-cookie t n h) = record { settings = refl; source = refl; request = refl; polls = refl; unanswered = refl; version = refl; same = absurd; nothing = λ _. refl }
-  rung (too-large k z) = record { settings = refl; source = refl; request = refl; polls = refl; unanswered = refl; version = refl; same = absurd; nothing = λ _. refl }
-  rung (sent t n) = record { settings = refl; source = refl; request = refl; polls = refl; unanswered = refl; version = refl; same = absurd; nothing = λ u. absurd (u refl) }
-  rung (sent-nts k z) = record { settings = refl; source = refl; request = refl; polls = refl; unanswered = refl; version = refl; same = absurd; nothing = λ u. absurd (u refl) }
+  rung (not-whole w) = record {
+    settings = refl;
+    source = refl;
+    request = refl;
+    polls = refl;
+    unanswered = refl;
+    version = refl;
+    same = λ _. refl;
+    nothing
+        = λ _. refl;
+  }
+  rung (short-buffer w s) = record {
+    settings = refl;
+    source = refl;
+    request = refl;
+    polls = refl;
+    unanswered = refl;
+    version = refl;
+    same = λ _. refl;
+    nothing
+        = λ _. refl;
+  }
+  rung (demobilize c o d) = record {
+    settings = refl;
+    source = refl;
+    request = refl;
+    polls = refl;
+    unanswered = refl;
+    version = refl;
+    same = λ _. refl;
+    nothing
+        = λ _. refl;
+  }
+  rung (reset c o d) = record {
+    settings = refl;
+    source = refl;
+    request = refl;
+    polls = refl;
+    unanswered = refl;
+    version = refl;
+    same = λ _. refl;
+    nothing
+        = λ _. refl;
+  }
+  rung (no-cookie t n h) = record {
+    settings = refl;
+    source = refl;
+    request = refl;
+    polls = refl;
+    unanswered = refl;
+    version = refl;
+    same = absurd;
+    nothing
+        = λ _. refl;
+  }
+  rung (too-large k z) = record {
+    settings = refl;
+    source = refl;
+    request = refl;
+    polls = refl;
+    unanswered = refl;
+    version = refl;
+    same = absurd;
+    nothing
+        = λ _. refl;
+  }
+  rung (sent t n) = record {
+    settings = refl;
+    source = refl;
+    request = refl;
+    polls = refl;
+    unanswered = refl;
+    version = refl;
+    same = absurd;
+    nothing = λ u.
+        absurd (u refl);
+  }
+  rung (sent-nts k z) = record {
+    settings = refl;
+    source = refl;
+    request = refl;
+    polls = refl;
+    unanswered = refl;
+    version = refl;
+    same = absurd;
+    nothing = λ u.
+        absurd (u refl);
+  }
 
   -- promise: no8.3 (its `unanswered`)
   pub rang : Rang a i (numberOf (timerOf a i room .answer)) (timerOf a i room)

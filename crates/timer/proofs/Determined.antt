@@ -1,4 +1,5 @@
--- Each public function's contract determines its result, the record that it leaves behind the reference, and each byte of the lent buffer: any two that it allows are equal.
+-- Each public function's contract determines its result, the record that it leaves behind the reference, and each byte of the lent buffer: any two that it
+-- allows are equal.
 -- Assumes nothing.
 use mathlib.Core.Path.{refl, sym, ap, _∙_}
 use mathlib.Core.List.{List}

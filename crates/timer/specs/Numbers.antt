@@ -51,4 +51,5 @@ module _ (a : Association) (i : TimerInput) (room : ℕ) where
         Given 24 (out CookieTooLarge (withStash (withState a (triedOf (a .state))) (getOf (a .settings .capacity) (a .stash) .stash)))
     sent : Tried → a .settings .nts ≡ false → Given 20 (decided a (sendOf (a .settings) (triedOf (a .state)) i 0 0 false))
     sent-nts : Taken → 0 < askedWith (seenOf (a .settings .capacity) (a .stash)) →
-        Given 20 (decided a (sendOf (a .settings) (triedOf (a .state)) i (getOf (a .settings .capacity) (a .stash) .slot .len) (askedWith (seenOf (a .settings .capacity) (a .stash))) true))
+        Given 20 (decided a (sendOf (a .settings) (triedOf (a .state)) i (getOf (a .settings .capacity) (a .stash) .slot .len)
+        (askedWith (seenOf (a .settings .capacity) (a .stash))) true))

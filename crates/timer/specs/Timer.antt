@@ -26,7 +26,8 @@ oldest a = getOf (a .settings .capacity) (a .stash) .slot
 -- the record after a decision: the settings, the stash without its oldest cookie if that is taken, and the next state
 -- promise: no12.2
 abbrev pub decided : Association → Decision → TimerOut
-decided a d = out (d .answer) (record { settings = a .settings; stash = cond (d .takes) (getOf (a .settings .capacity) (a .stash) .stash) (a .stash); state = d .state })
+decided a d =
+    out (d .answer) (record { settings = a .settings; stash = cond (d .takes) (getOf (a .settings .capacity) (a .stash) .stash) (a .stash); state = d .state })
 
 -- promise: 10.1, no12.2
 unfoldable pub timerOf : Association → TimerInput → ℕ → TimerOut

@@ -37,7 +37,8 @@ fn hand_out(slot: Slot, buffer: &mut [u8])
 
 // Carries out a decision: stores the next state and, if the decision takes a cookie, moves the oldest to the buffer.
 fn decided(a: Association, decision: Decision, buffer: &mut [u8]) -> TimerOut
-    ensures { λ r. ⌜ (r ≡ decided a decision) × (now (buffer .exit) ≡ cond (decision .takes) (handedOf (oldest a) (now (buffer .entry))) (now (buffer .entry))) ⌝ }
+    ensures { λ r. ⌜ (r ≡ decided a decision) ×
+        (now (buffer .exit) ≡ cond (decision .takes) (handedOf (oldest a) (now (buffer .entry))) (now (buffer .entry))) ⌝ }
 {
     let answer = decision.answer;
     let state = decision.state;

@@ -64,7 +64,8 @@ deadlineOf time window = min (time + window) (2 ^ 64 - 1)
 --     edit: timer_rules/the_remote_minimum_is_forgotten
 -- promise: no3.1
 unfoldable pub pendingOf : Bool → ℕ → TimerInput → Pending
-pendingOf nts window i = record { present = true; id = i .id; uid = cond nts (i .uid) (replicate 32 0); deadline = deadlineOf (i .time) window; answered = false }
+pendingOf nts window i =
+    record { present = true; id = i .id; uid = cond nts (i .uid) (replicate 32 0); deadline = deadlineOf (i .time) window; answered = false }
 
 -- last poll is max(desired, remote minimum)
 -- promise: 10.6

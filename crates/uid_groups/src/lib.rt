@@ -62,7 +62,8 @@ fn field_at(p: &[u8], at: usize, decrypted: bool) -> Step
 
 // What the uid fields that start at `from` or later and before `to` say. The walk starts at `first`, over decrypted fields or otherwise over a V4 packet.
 fn uid_among(p: &[u8], decrypted: bool, first: usize, from: usize, to: usize, uid: [u8; 32]) -> Uid
-    ensures { λ r. ⌜ r ≡ uidOf uid (bodiesOf uidKind (now (p .entry)) (between from to (fieldsOf (walkOf (now (p .entry)) first (leastOf decrypted) (tailOf decrypted))))) ⌝ }
+    ensures { λ r. ⌜ r ≡ uidOf uid (bodiesOf uidKind (now (p .entry))
+        (between from to (fieldsOf (walkOf (now (p .entry)) first (leastOf decrypted) (tailOf decrypted))))) ⌝ }
 {
     let mut seen = Uid::Absent;
     let mut at = first;

@@ -1,4 +1,5 @@
--- A field that is found has the body that its step names: exactly that part of the packet, also where it ends at the packet's last byte; and bytes past the end have none.
+-- A field that is found has the body that its step names: exactly that part of the packet, also where it ends at the packet's last byte; and bytes past the
+-- end have none.
 -- Assumes nothing.
 use mathlib.Core.Path.{_≡_, refl, _∙_, ap}
 use mathlib.Core.Bool.{Bool, true, false}
