@@ -84,6 +84,7 @@ stepped s =
 
 -- 5: RATE: remote minimum becomes the largest of the old one, min(old + 1, max) and the last poll (RULES, No. 7)
 -- promise 11.4: Number 5: RATE.
+--     edit: time_types/rate_forgets_the_last_poll
 unfoldable pub afterRateKiss : Settings → State → State
 afterRateKiss g s =
     record {

@@ -29,15 +29,11 @@ uid-in-requires-3 c κs = search needs
 returns : tie.Need-returns
 unfolding decodedIn
 returns c =
-    let c3 = c .before .before .before in
-    let c6 = c3 .before .before .before in
-    let c9 = c6 .before .before .before in
-    let c12 = c9 .before .before .before in
-    let d = c12 .args .d in
+    let d = c .before .before .before .before .before .before .before .before .before .before .before .before .args .d in
     let fit : SFits w8 (d .precision) = search needs in
     λ i. record {
-      leap = c6 .leap-in .ensures i;
-      mode = c3 .before .before .mode-in .ensures i;
+      leap = c .before .before .before .before .before .before .leap-in .ensures i;
+      mode = c .before .before .before .before .before .mode-in .ensures i;
       stratum = d .stratum;
       poll = d .poll;
       precision = toZ-ofZ fit i;
@@ -46,7 +42,7 @@ returns c =
       receive = d .receive;
       transmit = d .transmit;
       cookie = d .cookie;
-      kisses = c3 .before .kisses-in .ensures i;
+      kisses = c .before .before .before .before .kisses-in .ensures i;
       authenticated = c .before .before .before .uid-in .ensures i;
       encrypted = c .before .before .uid-in2 .ensures i;
       untrusted = c .before .uid-in3 .ensures i;
