@@ -32,6 +32,7 @@ class Mode(NamedTuple):
 
 FAR = Option('--far', 'LENGTH', 'the offset above which a box is doubtful: 1s by default')
 NOT_UP = 'if a box is not up'
+NEVER = 'never, such a box is unreadable'
 FOLDER = 'In a FOLDER the files `*.drill` are read.'
 
 MODES = (
@@ -42,7 +43,7 @@ MODES = (
     Mode('--explain', (('[--far LENGTH] FILE', 'the log in plain words: when, what was asked, what was answered and why, what changed in the record'),), LOGS,
          (FAR,)),
     Mode('--page', (('[--far LENGTH] FILE|FOLDER.. >MORNING.html', 'one page for a whole fleet: totals, a table and a strip for each log, to look at in a browser and to print'),), LOGS,
-         (FAR,), three=NOT_UP, more=(FOLDER,)),
+         (FAR,), one=NEVER, three=NOT_UP, more=(FOLDER,)),
     Mode('--watch', (('FOLDER --page OUT.html [--every SECONDS] [--far LENGTH]',
                       'the same page for a folder whose logs grow, made again and again until Ctrl-C; in a browser it reloads itself'),), FOLDERS,
          (Option('--page', 'OUT.html', 'where the page is written, in one step', offers=('*.html',)),
@@ -52,11 +53,11 @@ MODES = (
                'A box whose log has not grown for longer than its poll interval allows says `not heard since`.',
                'Ctrl-C ends it with status 0, and leaves a last page that does not reload.')),
     Mode('--summary', (('[--json|--csv] [--since OLD.json] [--far LENGTH] FILE|FOLDER..',
-                        'a row for each box: up, doubtful, lost, never or unreadable, why, and what to do; for people, or for a console'),), LOGS,
+                        'a row for each box, the worst first: unreadable, never, lost, doubtful or up, and why; for people, or for a program'),), LOGS,
          (Option('--json', '', 'the rows as an array of objects'),
           Option('--csv', '', 'the rows as a table with a header'),
           Option('--since', 'OLD.json', 'say which boxes are newly down, recovered, new and missing since an earlier --json', offers=('*.json',)),
-          FAR), three=NOT_UP, more=(FOLDER, 'docs/DRILL.md, "What became of a box", has the rules, and the section after it the keys.')),
+          FAR), one=NEVER, three=NOT_UP, more=(FOLDER, 'docs/DRILL.md has the rules ("What became of a box"), the keys and an example of two days ("A summary of many boxes").')),
     Mode('--capture', (('FILE.pcap [--box ADDRESS] [--server ADDRESS] [--port N].. >FILE.drill',
                         'make a log from a capture (pcap or pcapng) of a box\'s NTP traffic'),
                        ('FILE.pcap --all FOLDER [--box ADDRESS].. [--server ADDRESS] [--port N]..',
@@ -107,9 +108,10 @@ TITLE = 'replay a log of calls against the proved association'
 LANGUAGE = 'A log has a command to a line; empty lines and lines that begin with # are skipped:'
 FORMS = 'Times may be written as 03:00:00, 5s or 250ms, wall clocks as 2026-11-15T03:00:00.04Z, addresses as 192.0.2.1.'
 PAPERS = 'docs/DRILL.md says what each key takes, docs/NUMBERS.md what each number means; drills/ has logs to start from.'
-FIRST_RUN = 'The first run proves and builds the program, which takes some minutes.'
+FIRST_RUN = 'The first run proves and builds the program: it needs rt, and takes about ten minutes on two cores. --ready says whether that is done.'
 STREAMS = 'Answers go to standard output, all else to standard error.'
-ZERO, TWO = 'if every line was answered', 'on bad usage, if reading or writing failed, or if a capture gives no log'
+ZERO = 'if every line was answered, and with --page and --summary every box is up'
+TWO = 'on bad usage, if reading or writing failed, if there is no log to read or it has no command, or if a capture gives no log'
 
 
 # What the man page has beside the options.
@@ -132,7 +134,8 @@ EXAMPLES = (
 
 def one_words() -> str:
     """when ./drill ends with 1"""
-    return 'if a line was answered `error` (%s)' % '; '.join('%s: %s' % (mode.word, mode.one) for mode in MODES if mode.one)
+    modes = {mode.one: [other.word for other in MODES if other.one == mode.one] for mode in MODES if mode.one}
+    return 'if a line was answered `error` (%s)' % '; '.join('%s: %s' % (', '.join(words), when) for when, words in modes.items())
 
 
 def three_words() -> str:
