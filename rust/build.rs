@@ -1,11 +1,11 @@
-//! Finds the proved static library for the target, and holds it to this crate before it is linked.
+//! Finds the proved static library for the target, and checks it against this crate before it is linked.
 //!
-//! 1. `RECKONSTILE_LIB` names the library, or the folder that it lies in.
-//! 2. Else, in the repository, `tools/library` gives it: it proves and makes what is missing or stale.
-//! 3. Else, in a release, it lies beside this crate, in `lib/TARGET`.
+//! 1. `RECKONSTILE_LIB` names the library, or its folder.
+//! 2. Else, in the repository, `tools/library` names it: it proves and makes what is missing or stale.
+//! 3. Else, in a release, it is beside this crate, in `lib/TARGET`.
 //!
-//! Beside a library lie the header and PROOF, which says what it was proved from. Refused is a library whose bytes are not those that PROOF names, one whose
-//! header or PROOF is of another revision of the interface than this crate, and in the repository one that was proved from other sources than `crates/` has.
+//! Beside a library are the header and PROOF, which says what it was proved from. A library is rejected if its bytes are not those that PROOF names, if its
+//! header or PROOF is of another revision of the interface than this crate, and in the repository if it was proved from other sources than those of `crates/`.
 use std::fs;
 use std::path::{Path, PathBuf};
 use std::process::{exit, Command};
@@ -53,7 +53,7 @@ fn made(tool: &Path, target: &str) -> PathBuf {
     }
 }
 
-/// The library for a target among those that lie beside this crate, by what PROOF says of each.
+/// The library for a target among those beside this crate, by their PROOF.
 fn beside(folder: &Path, target: &str) -> PathBuf {
     let mut there = Vec::new();
     let entries = fs::read_dir(folder).map(|all| all.flatten().map(|entry| entry.path()).collect::<Vec<_>>());
@@ -76,19 +76,19 @@ fn beside(folder: &Path, target: &str) -> PathBuf {
 
 // ---- whether it is the right one
 
-/// What PROOF says under a word; nothing where it has no such line.
+/// What PROOF says under a word; empty if it has no such line.
 fn value(proof: &str, word: &str) -> String {
     let line = proof.lines().find(|line| line.split(' ').next() == Some(word));
     line.map(|line| line[word.len()..].trim().to_string()).unwrap_or_default()
 }
 
-/// The number of eight hexadecimal digits behind a mark in a text.
+/// The number of eight hexadecimal digits after a mark in a text.
 fn revision(text: &str, mark: &str) -> Option<u32> {
     let at = text.find(mark)? + mark.len();
     u32::from_str_radix(text.get(at..at + 8)?, 16).ok()
 }
 
-/// Stops unless a library is the one that PROOF names, of this crate's revision, and where `crates` are the sources that are there, proved from them.
+/// Stops unless a library is the one that PROOF names, of this crate's revision, and proved from the sources in `crates`, if they are given.
 fn hold(file: &Path, crates: Option<&Path>) {
     let folder = file.parent().unwrap_or(Path::new("."));
     let (proof_at, header_at) = (folder.join("PROOF"), folder.join("reckonstile.h"));
@@ -167,7 +167,7 @@ fn main() {
         .ancestors()
         .find(|at| !released.is_dir() && at.join("tools/library").is_file() && at.join("crates.txt").is_file());
     if let Some(root) = repository {
-        // Without these cargo would not ask again after a change, and would link a stale library without a word.
+        // Without these cargo would not run this again after a change, and would silently link a stale library.
         MADE_OF.iter().for_each(|name| println!("cargo:rerun-if-changed={}", root.join(name).display()));
     }
     let (found, crates) = match (std::env::var_os("RECKONSTILE_LIB"), repository) {
@@ -177,10 +177,10 @@ fn main() {
             });
             (file, repository)
         }
-        (None, Some(root)) => (made(&root.join("tools/library"), &variable("TARGET")), None), // made of the sources that are there
+        (None, Some(root)) => (made(&root.join("tools/library"), &variable("TARGET")), None), // made from the present sources
         (None, None) => (beside(&released, &variable("TARGET")), None),
     };
-    // The oracle is built by this file, too, over libraries of which nothing is proved.
+    // This file also builds the oracle, with libraries that are not proved.
     if variable("CARGO_PKG_NAME") == "reckonstile" {
         hold(&found, crates);
     }

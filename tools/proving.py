@@ -170,7 +170,7 @@ class Estimate:
     def proved(self, name: str, seconds: Optional[float], now: float) -> None:
         """a crate was proved, in so many seconds; None: it was proved already"""
         before = self.rest(now)
-        batch = next((batch for batch in self.plan if name in batch), [])
+        batch: Sequence[str] = next((batch for batch in self.plan if name in batch), [])
         self.ended.add(name)
         expected = self.expected.get(name)
         if seconds is None:

@@ -1,9 +1,9 @@
-/* One poll, measured. An association is made, its request written, and the reply to it measured; the server's reply is made here, so that nothing is sent.
+/* One poll, measured: makes an association, writes its request, and measures the reply. The server's reply is made here, so nothing is sent.
    examples/cmake has a client that sends. Against an installed release:
 
      cc $(pkg-config --cflags reckonstile) measure.c $(pkg-config --libs reckonstile) -o measure && ./measure
 
-   prints `measured: offset 1.250 s, delay 0.500 s, stratum 2`. docs/EMBEDDING.md has what each argument is. */
+   prints `measured: offset 1.250 s, delay 0.500 s, stratum 2`. docs/EMBEDDING.md explains each argument. */
 #include <reckonstile.h>
 #include <stdio.h>
 #include <string.h>
@@ -20,10 +20,10 @@ static void put_timestamp(uint8_t *at, uint64_t t) {
 }
 
 int main(void) {
-    static uint8_t record[RECKONSTILE_BYTES(1)]; /* the association: any bytes of the caller's, at any address */
+    static uint8_t record[RECKONSTILE_BYTES(1)]; /* the association: bytes of the caller's, at any address */
     static uint8_t request[RECKONSTILE_REQUEST_BYTES];
-    static const struct reckonstile_uid uid; /* counts with NTS only */
-    uint8_t nothing = 0; /* where a length is 0 the pointer still has to be one */
+    static const struct reckonstile_uid uid; /* used only with NTS */
+    uint8_t nothing = 0; /* if a length is 0, the pointer must still be valid */
 
     if (!RECKONSTILE_CHECK()) return stop("reckonstile.h and the library are of different revisions; the library's is", reckonstile_revision());
 
@@ -31,7 +31,7 @@ int main(void) {
     struct reckonstile_new_answer made = reckonstile_new(record, sizeof record, settings, &nothing, 0);
     if (made.number != RECKONSTILE_OK) return stop("new", made.number);
 
-    /* It is time to poll. The id has to be 64 random bits, drawn anew for each poll; here the reply has to be made for it. */
+    /* It is time to poll. The id must be 64 random bits, drawn anew for each poll; here it is fixed, since the reply is made for it. */
     uint64_t id = 0x0123456789ABCDEFu, time = 1000000000u;
     struct reckonstile_timer_answer timer = reckonstile_timer(record, sizeof record, time, 6, id, uid, &nothing, 0);
     if (timer.number != RECKONSTILE_SENT) return stop("timer", timer.number);

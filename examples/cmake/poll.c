@@ -1,4 +1,4 @@
-/* poll ADDRESS [PORT]: asks an NTP server once, without NTS, and prints what was measured. It sets no clock. CMakeLists.txt beside it says how it is built;
+/* poll ADDRESS [PORT]: polls an NTP server once, without NTS, and prints what was measured. It sets no clock. CMakeLists.txt beside it says how to build it;
    rust/examples/connector.rs is a whole client, with NTS. */
 #define _POSIX_C_SOURCE 200809L
 #include <arpa/inet.h>
@@ -11,7 +11,7 @@
 #include <unistd.h>
 
 #define SECOND 4294967296.0 /* units of a duration */
-#define WINDOW 5u           /* seconds that a reply is waited for */
+#define WINDOW 5u           /* seconds to wait for a reply */
 
 static void stop(const char *what, unsigned number) {
     fprintf(stderr, "poll: %s: %u (docs/NUMBERS.md says what it means)\n", what, number);
@@ -45,8 +45,8 @@ static uint64_t random_bits(void) {
 
 int main(int argc, char **argv) {
     static uint8_t record[RECKONSTILE_BYTES(1)], packet[RECKONSTILE_REQUEST_BYTES];
-    static const struct reckonstile_uid uid; /* counts with NTS only */
-    uint8_t nothing = 0; /* where a length is 0 the pointer still has to be one */
+    static const struct reckonstile_uid uid; /* used only with NTS */
+    uint8_t nothing = 0; /* if a length is 0, the pointer must still be valid */
     struct sockaddr_in server = { .sin_family = AF_INET, .sin_port = htons((uint16_t)atoi(argc > 2 ? argv[2] : "123")) };
     if (argc < 2 || inet_pton(AF_INET, argv[1], &server.sin_addr) != 1) {
         fputs("usage: poll ADDRESS [PORT], with an IPv4 address\n", stderr);
@@ -70,7 +70,7 @@ int main(int argc, char **argv) {
 
     uint64_t t1 = wall_clock(); /* right before it is sent */
     if (send(socket_, packet, (size_t)request.length, 0) < 0) fail("send");
-    for (;;) { /* a datagram that is not measured changes nothing that counts: the right one may still come */
+    for (;;) { /* after a datagram that is not measured, the right one may still come */
         ssize_t length = recv(socket_, packet, sizeof packet, 0);
         uint64_t t4 = wall_clock();
         if (length < 0) fail("no reply");

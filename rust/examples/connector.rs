@@ -1,15 +1,15 @@
-//! The loop of a real box: resolve the server, poll by the timer, write the request, send it, receive, hand the reply in, take the measurement, ask whether the source
-//! may be used, wait for the next poll.
+//! The loop of a real box: resolve the server, call the timer, write the request, send it, receive, hand over the reply, take the measurement, ask whether the
+//! source may be used, wait for the next poll.
 //!
 //!     connector SERVER[:PORT] [--polls N] [--desired EXPONENT] [--log FILE] [--nts KEYS]
 //!
-//! An IPv6 address stands in brackets, with its port: `[2001:db8::1]:123`. Its identifier is made here (`md5/mod.rs`).
+//! Write an IPv6 address in brackets, with its port: `[2001:db8::1]:123`. Its identifier is computed here (`md5/mod.rs`).
 //!
-//! `--polls` ends it after so many polls. `--desired` is what a clock steering would ask for (6: every 64 s). `--log` writes every call in the drill's language, with its
-//! answer as a comment, so that a bad morning can be replayed: `./drill FILE`. `--nts` (with the feature `nettle`) reads what a key exchange gave: lines
-//! `to-server HEX`, `to-client HEX` and `cookie HEX`; the file is read again whenever keys have to be exchanged again.
+//! `--polls` ends it after N polls. `--desired` is the exponent that a clock steering would want (6: every 64 s). `--log` writes every call in the drill's
+//! language, with its answer as a comment, so that a bad morning can be replayed: `./drill FILE`. `--nts` (with the feature `nettle`) reads the results of a
+//! key exchange: lines `to-server HEX`, `to-client HEX` and `cookie HEX`; the file is read again whenever keys must be exchanged again.
 //!
-//! Without NTS there is nothing here but the standard library.
+//! Without NTS it uses only the standard library.
 use reckonstile::{
     Action, Association, Bloom, Measurement, NtpInstant, NtpTimestamp, Opened, Poll, PollInterval, PollIntervalLimits,
     ReplyRefused, SendKind, Settings, Times, COOKIE_BYTES, REQUEST_BYTES,
@@ -56,7 +56,7 @@ fn options() -> Result<Options, Box<dyn Error>> {
     Ok(found)
 }
 
-/// Random bytes from the kernel. The identifiers of a request must not repeat and must not be foreseen.
+/// Random bytes from the kernel. The identifiers of a request must neither repeat nor be predictable.
 fn random<const N: usize>() -> Result<[u8; N], Box<dyn Error>> {
     let mut bytes = [0; N];
     File::open("/dev/urandom")?.read_exact(&mut bytes)?;
@@ -92,7 +92,7 @@ struct Link<'a> {
     log: &'a mut Log,
 }
 
-/// The uptime clock: nanoseconds from the program's start. A box that suspends takes `CLOCK_BOOTTIME` instead (docs/EMBEDDING.md).
+/// The uptime clock: nanoseconds from the program's start. A box that suspends needs `CLOCK_BOOTTIME` instead (docs/EMBEDDING.md).
 fn uptime(start: Instant) -> NtpInstant {
     NtpInstant::since_start(start)
 }
@@ -101,7 +101,7 @@ impl<'a> Link<'a> {
     /// Looks the server up, and begins with a new association.
     fn new(options: &Options, log: &'a mut Log) -> Result<Self, Box<dyn Error>> {
         let address = options.server.to_socket_addrs()?.next().ok_or("the server has no address")?;
-        // A connected socket gives only what comes from the server's address and port.
+        // A connected socket receives only from the server's address and port.
         let socket = match address.is_ipv4() {
             true => UdpSocket::bind((Ipv4Addr::UNSPECIFIED, 0))?,
             false => UdpSocket::bind((Ipv6Addr::UNSPECIFIED, 0))?,
@@ -110,7 +110,7 @@ impl<'a> Link<'a> {
         let nts = options.keys.as_deref().map(Nts::read).transpose()?;
         let list = nts.as_ref().map(Nts::list).unwrap_or_default();
         let settings = Settings {
-            // The crate's limits, but for a poll interval below the usual ones where one is asked for.
+            // The default limits; the lower one is reduced if `--desired` is below it.
             poll_interval_limits: PollIntervalLimits {
                 min: PollInterval::new(options.desired.as_log().clamp(0, 4)),
                 ..PollIntervalLimits::default()
@@ -119,7 +119,7 @@ impl<'a> Link<'a> {
             source: md5::identifier(address.ip()),
             ..Settings::default()
         };
-        // Which setting it is, where one is outside its range: the number alone, 30, does not say it.
+        // Which setting is outside its range, if one is: the number alone, 30, does not say it.
         settings.check()?;
         let (association, dropped) = Association::new(&settings, &list)?;
         let limits = settings.poll_interval_limits;
@@ -140,7 +140,7 @@ impl<'a> Link<'a> {
         Ok(Link { association, socket, nts, t1: NtpTimestamp::default(), log })
     }
 
-    /// The timer went off: polls, and says how long to wait for the next poll, or what else is to be done.
+    /// The timer went off: polls, and returns how long to wait for the next poll, or what else to do.
     fn poll(&mut self, start: Instant, desired: PollInterval) -> Result<Result<Duration, Action>, Box<dyn Error>> {
         let (id, uid) = (u64::from_be_bytes(random()?), random::<32>()?);
         let mut buffer = [0; COOKIE_BYTES];
@@ -160,12 +160,12 @@ impl<'a> Link<'a> {
                 if let Some(nts) = &self.nts {
                     nts.seal(&mut packet, random()?)?;
                 }
-                // T1 is taken here, when all that takes time is done and nothing is left but to send: not when the timer went off, and not when a packet is put
-                // into or taken from a queue of the program's own. If it lay in a queue for q after T1, the delay would be q too long and the offset q/2 too
-                // large, and no call could tell. Where the packet can still wait behind this line (a modem, a full socket), take the kernel's timestamp of
-                // the transmission (SO_TIMESTAMPING) instead, and keep it here when it is there.
+                // T1 is taken here, when everything that takes time is done and only sending is left: not when the timer went off, and not when a packet
+                // enters or leaves a queue of the program's own. If it waited in a queue for q after T1, the delay would be q too long and the offset q/2 too
+                // large, and no call could detect it. If the packet can still wait after this line (a modem, a full socket), use the kernel's timestamp of
+                // the transmission (SO_TIMESTAMPING) instead, and keep that.
                 self.t1 = NtpTimestamp::now();
-                // A packet that cannot be sent is a packet lost; the timer sees to it.
+                // A packet that cannot be sent counts as lost; the timer handles it.
                 let _ = self.socket.send(&packet);
                 let answer = sent(&poll);
                 let wait = stretched(poll.poll.as_system_duration())?;
@@ -180,7 +180,7 @@ impl<'a> Link<'a> {
         }
     }
 
-    /// Waits for a datagram, and hands it in. Nothing came in time: `None`.
+    /// Waits for a datagram, and hands it over. `None` if nothing came in time.
     fn receive(&mut self, start: Instant, patience: Duration) -> Result<Option<Action>, Box<dyn Error>> {
         let mut datagram = [0; 2048];
         self.socket.set_read_timeout(Some(patience.max(Duration::from_millis(1))))?;
@@ -190,9 +190,9 @@ impl<'a> Link<'a> {
         let times = Times { t1: self.t1, t4, time: uptime(start) };
         let bytes = &datagram[..length];
         if bytes.first().is_some_and(|first| first >> 3 & 7 == 5) {
-            return Ok(None); // V5 is not spoken here: it cannot be decoded, so there is nothing to hand in
+            return Ok(None); // this program does not decode V5, so there is nothing to hand over
         }
-        // What of it is authenticated: nothing here passes the place by hand.
+        // Which part of it is authenticated: nothing here passes the end by hand.
         let (mut decrypted, mut list) = ([0; 2048], [0; 2048]);
         let opened = match &mut self.nts {
             Some(nts) => nts.open(bytes, &mut decrypted, &mut list)?,
@@ -225,7 +225,7 @@ impl<'a> Link<'a> {
         }
     }
 
-    /// Whether the source may be used; asked after each poll and each measured reply.
+    /// Whether the source may be used; called after each poll and each measured reply.
     fn accept(&mut self) -> Result<(), Box<dyn Error>> {
         let number =
             self.association.accept(LOCAL_STRATUM, &[], Bloom::NoFilter).map_or_else(|refused| refused.number(), |()| 0);
@@ -233,7 +233,7 @@ impl<'a> Link<'a> {
     }
 }
 
-/// Where the clock steering would take the measurement: `offset` is what our clock lacks, `delay` how far off it may be twice over.
+/// Where the clock steering would take the measurement: `offset` is what to add to our clock, and half of `delay` is its uncertainty.
 fn steer(m: &Measurement) {
     println!(
         "measured: our clock lacks {:+.6} s, round trip {:.6} s, stratum {}",
@@ -243,7 +243,7 @@ fn steer(m: &Measurement) {
     );
 }
 
-/// A wait stretched by a random factor from 1.01 to 1.05, so that polls are hard to foretell.
+/// A wait stretched by a random factor from 1.01 to 1.05, so that polls are hard to predict.
 fn stretched(wait: Duration) -> Result<Duration, Box<dyn Error>> {
     let part = f64::from(u16::from_be_bytes(random()?)) / f64::from(u16::MAX);
     Ok(wait.mul_f64(1.01 + 0.04 * part))

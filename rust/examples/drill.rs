@@ -1,7 +1,7 @@
-//! The drill's language (docs/DRILL.md) answered through this crate: `tests/embed` holds its answers to the drill's, and `tests/live` polls a server with it. It reads
-//! logs without bad lines from standard input and answers a line at a time. What the drill does not show is looked at here: a refusal leaves record and buffer as they
-//! were, nothing is written past what is handed out, `look` says what the bytes say, and `Settings::check` finds a fault exactly where there is a 30; else the
-//! answer ends with `CHANGED`.
+//! Answers the drill's language (docs/DRILL.md) through this crate: `tests/embed` compares its answers with the drill's, and `tests/live` polls a server with
+//! it. It reads logs without bad lines from standard input and answers a line at a time. It also checks what the drill does not show: a refusal leaves record
+//! and buffer unchanged, nothing is written past what is returned, `look` says what the bytes say, and `Settings::check` finds a fault exactly if there is a
+//! 30. If not, the answer ends with `CHANGED`.
 use reckonstile::{
     check_calendar, collect, compare, plan_calendar, salvage, write_request, Association, Bloom, CheckRefused, CompareRefused,
     DecodedReply, Difference, Kisses, LoadRefused, Measurement, NtpDuration, NtpInstant, NtpLeapIndicator, NtpTimestamp,
@@ -127,7 +127,7 @@ fn kind_name(kind: SendKind) -> &'static str {
     }
 }
 
-/// `CHANGED` where something is not as it was.
+/// `CHANGED` if something is not as it was.
 fn kept(same: bool) -> &'static str {
     if same {
         ""
@@ -140,7 +140,7 @@ fn filled(bytes: &[u8]) -> bool {
     bytes.iter().all(|b| *b == FILL)
 }
 
-/// A field that differs, as the drill tells it.
+/// A field that differs, as the drill prints it.
 fn difference(d: &Difference) -> String {
     let name = match d.code {
         1 => "min",
@@ -227,7 +227,7 @@ macro_rules! of {
     };
 }
 
-/// A call on the record: as many bytes of it are lent as its capacity has.
+/// A call on the record: it gets as many bytes as the capacity has.
 macro_rules! on {
     ($drill:expr, $a:ident => $body:expr) => {
         of!($drill.capacity(), N => {
@@ -240,12 +240,12 @@ macro_rules! on {
 struct Drill {
     /// The record, with room for eight slots.
     image: Vec<u8>,
-    /// Numbers of `read` and `held` that were poked and that no byte holds: 255 stands for them, which is not whole either.
+    /// Numbers of `read` and `held` that were poked and do not fit into a byte: 255 replaces them, which is not whole either.
     far: [u64; 2],
 }
 
 impl Drill {
-    /// The capacity, where it is one and nothing stands past its slots. Else there is no such record: then all eight slots are lent, and have to be refused.
+    /// The capacity, if it is valid and nothing is past its slots. Else there is no such record: then all eight slots are lent, and must be rejected.
     fn capacity(&self) -> usize {
         let named = usize::from(self.image[26]);
         let past = self.image.get(92 + 726 * named..).is_some_and(|past| past.iter().all(|byte| *byte == 0));
@@ -265,7 +265,7 @@ impl Drill {
         (&row[..724], u16::from_be_bytes([row[724], row[725]]))
     }
 
-    /// What is made or loaded; nothing where that was refused.
+    /// What is made or loaded; nothing if that was rejected.
     fn becomes(&mut self, bytes: &[u8]) {
         self.image = vec![0; MOST];
         self.image[..bytes.len()].copy_from_slice(bytes);
@@ -571,7 +571,7 @@ impl Drill {
             "-" => Vec::new(),
             repeats => repeats.split(',').map(number).collect(),
         };
-        // One start more than there are repeats: the last stays as it was.
+        // One start more than there are repeats: the last must stay unchanged.
         let mut buffer = vec![u16::MAX; repeats.len() + 1];
         let said = match plan_calendar(p.number("cap"), &repeats, &mut buffer) {
             Ok(starts) => {
@@ -657,7 +657,7 @@ impl Drill {
             byte(31),
             byte(26)
         );
-        // As many bytes as the capacity has, and no unknown code: whether the numbers go together is another question.
+        // As many bytes as the capacity has, and no unknown code; the numbers may still contradict each other.
         let version = |at: usize| byte(at) <= 3 && (byte(at) == 1 || byte(at + 1) == 0);
         let codes = version(19) && version(32) && [21, 41, 42, 43].into_iter().all(|at| byte(at) <= 1);
         let readable = codes && self.capacity() == usize::from(byte(26));

@@ -1,10 +1,10 @@
-//! What the calls answer: each answer is an enum, and `number` gives the number that docs/EMBEDDING.md, the header and the drill have for it.
+//! What the calls answer: each answer is an enum, and `number` returns the number that docs/NUMBERS.md, the header and the drill have for it.
 use crate::ffi;
 use crate::numbers;
 use crate::time::{NtpDuration, NtpInstant, NtpTimestamp, PollInterval};
 use core::fmt;
 
-/// Makes an enum of refusals with their numbers, from one table: the number and its words stand beside each variant. The tables are made of numbers.toml.
+/// Makes an enum of refusals from a table of variants with number and words. The tables are made from numbers.toml.
 macro_rules! numbered {
     ($(#[$meta:meta])* $name:ident { $($variant:ident = $number:literal, $words:literal;)* }) => {
         $(#[$meta])*
@@ -61,7 +61,7 @@ numbered! {
     NewRefused {
         // tools/numbers: variants NewRefused
         BadSettings = 30, "a setting is outside its range, or an unknown code";
-        WrongSize = 31, "the record has not the bytes of its capacity";
+        WrongSize = 31, "the record does not have the size of its capacity";
         BrokenList = 33, "with NTS, the cookie list is broken";
         RetiredStart = 38, "the start version is upgrading, which is retired";
         // tools/numbers: end
@@ -69,7 +69,7 @@ numbered! {
 }
 
 numbered! {
-    /// Why there is no metered association: the first rule of the profile for links that are paid by the packet that settings or cookie list break.
+    /// Why there is no metered association: the first rule of the profile, for links that are paid by the packet, that settings or cookie list break.
     ///
     /// ```
     /// use reckonstile::{Association, MeteredRefused, Settings};
@@ -80,7 +80,7 @@ numbered! {
     MeteredRefused {
         // tools/numbers: variants MeteredRefused
         BadSettings = 30, "a setting is outside its range, or an unknown code";
-        WrongSize = 31, "the record has not the bytes of its capacity";
+        WrongSize = 31, "the record does not have the size of its capacity";
         BrokenList = 33, "with NTS, the cookie list is broken";
         LowPollMin = 34, "the lower poll limit is below 8";
         HighStartup = 35, "the startup limit is over 3";
@@ -100,12 +100,12 @@ numbered! {
     /// ```
     TimerRefused {
         // tools/numbers: variants TimerRefused
-        Reset = 21, "no answer to so many polls: look the server up again and begin with a new association";
+        Reset = 21, "no answer to that many polls: look the server up again and begin with a new association";
         Demobilize = 22, "no answer, and service was denied: stop talking to this server";
         NoCookie = 23, "no cookie is left: exchange keys again and begin with a new association";
         CookieTooLarge = 24, "the cookie is too large to send: exchange keys again and begin with a new association";
         WrongSize = 31, "with NTS, the buffer for the cookie has fewer than 724 bytes";
-        NotWhole = 32, "the record was not made by a call, or not all of it is lent";
+        NotWhole = 32, "the record was not made by a call, or is not lent whole";
         // tools/numbers: end
     }
 }
@@ -119,27 +119,27 @@ numbered! {
     /// assert_eq!(ReplyRefused::DeniedNts.action(), Action::Demobilize);
     /// assert_eq!(ReplyRefused::NoMatch.action(), Action::Nothing);
     /// assert_eq!(ReplyRefused::NoMatch.to_string(), "it answers another request (4)");
-    /// // Why no request was live, for whoever reads the log; the caller does nothing on any of the three.
+    /// // Why no request was live, for a reader of the log; the caller does nothing on any of the three.
     /// let no_live = [ReplyRefused::NeverSent, ReplyRefused::AlreadyMeasured, ReplyRefused::Expired];
     /// assert_eq!(no_live.map(ReplyRefused::number), [12, 13, 14]);
     /// assert_eq!(no_live.map(ReplyRefused::action), [Action::Nothing; 3]);
     /// ```
     ReplyRefused {
         // tools/numbers: variants ReplyRefused
-        Undecodable = 1, "the packet cannot be decoded, `end` is 0 or no place of a field, or a decoded reply has an unknown code";
-        UnexpectedVersion = 2, "the packet is of a version that is not expected";
+        Undecodable = 1, "the packet cannot be decoded, `end` is 0 or not the place of a field, or a decoded reply has an unknown code";
+        UnexpectedVersion = 2, "the packet has an unexpected version";
         NoMatch = 4, "it answers another request";
-        Rate = 5, "the server asks for slower polls, which the next ones are";
-        Denied = 6, "service is denied, which is noted";
+        Rate = 5, "the server asks for slower polls, and the next ones are slower";
+        Denied = 6, "service is denied, and the record notes it";
         DeniedNts = 7, "service is denied, and with NTS that is believed: stop talking to this server";
-        Ntsn = 8, "the server could not make use of the cookie (NTSN)";
+        Ntsn = 8, "the server could not use the cookie (NTSN)";
         OtherKiss = 9, "the server declines with some other kiss code";
         BadStratum = 10, "the reply has a stratum over 16";
-        NotServer = 11, "the reply does not come from a server (its mode is another)";
+        NotServer = 11, "the reply does not come from a server (by its mode)";
         NeverSent = 12, "nothing was sent yet";
         AlreadyMeasured = 13, "the last poll was answered already";
         Expired = 14, "too late: the deadline of the request has passed";
-        NotWhole = 32, "the record was not made by a call, or not all of it is lent";
+        NotWhole = 32, "the record was not made by a call, or is not lent whole";
         BrokenList = 33, "with NTS, the cookie list is broken";
         // tools/numbers: end
     }
@@ -154,7 +154,7 @@ numbered! {
     /// ```
     AcceptRefused {
         // tools/numbers: variants AcceptRefused
-        NotWhole = 32, "the record was not made by a call, or not all of it is lent";
+        NotWhole = 32, "the record was not made by a call, or is not lent whole";
         HighStratum = 40, "the source's stratum is not below our own (16: nothing was measured yet)";
         Loop = 41, "the source gets its time from us";
         Unreachable = 42, "none of the last eight polls was answered";
@@ -171,7 +171,7 @@ numbered! {
     /// ```
     LookRefused {
         // tools/numbers: variants LookRefused
-        NotWhole = 32, "the bytes are no record: another number of them than the capacity's, or an unknown code";
+        NotWhole = 32, "the bytes are not a record: their number is not the capacity's, or a code is unknown";
         // tools/numbers: end
     }
 }
@@ -185,14 +185,14 @@ numbered! {
     /// ```
     CollectRefused {
         // tools/numbers: variants CollectRefused
-        Undecodable = 1, "the decrypted bytes are no whole fields";
+        Undecodable = 1, "the decrypted bytes are not whole fields";
         WrongSize = 31, "the list is longer than the buffer";
         // tools/numbers: end
     }
 }
 
 numbered! {
-    /// Why no request is written; the buffer stays as it was.
+    /// Why no request is written; the buffer is unchanged.
     ///
     /// ```
     /// use reckonstile::RequestRefused;
@@ -200,7 +200,7 @@ numbered! {
     /// ```
     RequestRefused {
         // tools/numbers: variants RequestRefused
-        VersionFive = 50, "a request of version 5 is the caller's to write, and one of an unknown kind is none";
+        VersionFive = 50, "the caller writes requests of version 5 itself; or the kind is unknown";
         ShortRequestBuffer = 51, "the packet is longer than the buffer";
         CookieOrCount = 52, "the cookie has over 724 bytes, or the number asked for is not 1 to 8";
         // tools/numbers: end
@@ -208,7 +208,7 @@ numbered! {
 }
 
 numbered! {
-    /// Why no hand-over file is written; association and buffer stay as they were.
+    /// Why no hand-over file is written; association and buffer are unchanged.
     ///
     /// ```
     /// use reckonstile::{Association, SaveRefused, Settings};
@@ -217,14 +217,14 @@ numbered! {
     /// ```
     SaveRefused {
         // tools/numbers: variants SaveRefused
-        NotWhole = 32, "the record was not made by a call, or not all of it is lent";
+        NotWhole = 32, "the record was not made by a call, or is not lent whole";
         ShortFileBuffer = 60, "the buffer is shorter than the file";
         // tools/numbers: end
     }
 }
 
 numbered! {
-    /// Why a hand-over file is not loaded: the first fault in the file, or else that it is no association.
+    /// Why a hand-over file is not loaded: the first fault in the file, or that its contents are not an association.
     ///
     /// ```
     /// use reckonstile::{Association, LoadRefused, Settings, FILE_BYTES};
@@ -238,21 +238,21 @@ numbered! {
     /// ```
     LoadRefused {
         // tools/numbers: variants LoadRefused
-        WrongSize = 31, "the record has not the bytes of the file's capacity";
-        WrongMark = 61, "a record of the file does not have the mark that is due there";
+        WrongSize = 31, "the record does not have the size of the file's capacity";
+        WrongMark = 61, "a record of the file has a wrong mark";
         WrongLength = 62, "a record of the file has a wrong length, or bytes are missing or left over";
-        NoAssociation = 63, "a code in the file is of no kind, or what it says is no whole association";
+        NoAssociation = 63, "the file has an unknown code, or its contents are not a whole association";
         // tools/numbers: end
     }
 }
 
-/// Why two hand-over files are not compared; nothing is written. Where both files are refused it is the left one that is told.
+/// Why two hand-over files are not compared; nothing is written. If both files are rejected, it is the left one.
 ///
 /// ```
 /// use reckonstile::{compare, CompareRefused, LoadRefused};
 /// let refused = compare(b"no file", b"", &mut []).unwrap_err();
 /// assert_eq!((refused, refused.number()), (CompareRefused::Left(LoadRefused::WrongMark), 61));
-/// assert_eq!(refused.to_string(), "the left file: a record of the file does not have the mark that is due there (61)");
+/// assert_eq!(refused.to_string(), "the left file: a record of the file has a wrong mark (61)");
 /// ```
 #[derive(Clone, Copy, Debug, PartialEq, Eq, Hash)]
 #[non_exhaustive]
@@ -278,7 +278,7 @@ impl CompareRefused {
         }
     }
 
-    /// The number, as docs/NUMBERS.md has it.
+    /// The number, as in docs/NUMBERS.md.
     #[must_use]
     pub fn number(self) -> u32 {
         match self {
@@ -324,7 +324,7 @@ numbered! {
     }
 }
 
-/// Makes an enum of a calendar's refusals, from one table: of each the number, the entry or minute that it names where it names one, and its words.
+/// Makes an enum of a calendar's refusals from a table: for each its number, the entry or minute that it names, if any, and its words.
 macro_rules! naming {
     ($(#[$meta:meta])* $name:ident { $($variant:ident $({ $place:ident })? = $number:literal, $words:literal;)* }) => {
         $(#[$meta])*
@@ -409,7 +409,7 @@ naming! {
         WrongSize = 31, "the buffer has fewer starts than there are entries";
         TooMany = 80, "more than 64 entries";
         BadRepeat { entry } = 81, "a repeat that is 0 or does not divide 1440";
-        NoFit { entry } = 84, "no start fits behind those placed before";
+        NoFit { entry } = 84, "no start fits after those placed before";
         // tools/numbers: end
     }
 }
@@ -424,7 +424,7 @@ naming! {
 #[non_exhaustive]
 #[must_use]
 pub enum Action {
-    /// Nothing; the timer that is set stays set.
+    /// Nothing; the timer stays set.
     Nothing,
     /// Look the server up again, with NTS exchange keys again, and begin with a new association.
     Reset,
@@ -434,7 +434,7 @@ pub enum Action {
     Caller,
 }
 
-/// What each refusal of an enum asks for, from one table.
+/// What each refusal of an enum asks the caller to do, from one table.
 macro_rules! acting {
     ($name:ident { $($variant:ident => $action:ident;)* }) => {
         impl $name {
@@ -534,7 +534,7 @@ impl SendKind {
     }
 }
 
-/// A poll to send (20): the timer is to be set again for `poll`, and the source's acceptance asked again, since its reach has changed.
+/// A poll to send (20). Set the timer again for `poll`, and call `accept` again, since the reach has changed.
 ///
 /// ```
 /// use reckonstile::{Association, NtpInstant, PollInterval, SendKind, Settings};
@@ -550,7 +550,7 @@ pub struct Poll<'b> {
     pub kind: SendKind,
     /// Its poll interval, which is also how long to wait for the next timer.
     pub poll: PollInterval,
-    /// With NTS the cookie to send, in the buffer that the timer was lent; else empty.
+    /// With NTS the cookie to send, in the timer's buffer; else empty.
     pub cookie: &'b [u8],
     /// With NTS how many new cookies to ask for, 1 to 8; else 0.
     pub asked: u8,
@@ -614,8 +614,8 @@ impl NtpLeapIndicator {
     }
 }
 
-/// What fell out of the stash while cookies were stored: the oldest, as many as did not fit. With NTS a log is the better for it: cookies are lost where a server
-/// sends more than were asked for. Without NTS nothing does.
+/// Which cookies were dropped from the stash while others were stored: the oldest, as many as did not fit. Log it with NTS: the server sends more than it was
+/// asked for. Without NTS nothing is dropped.
 ///
 /// ```
 /// use reckonstile::{cookie_list, Association, Dropped, Settings};
@@ -629,12 +629,11 @@ impl NtpLeapIndicator {
 pub struct Dropped {
     /// How many cookies.
     pub count: u64,
-    /// Their lengths, summed; one over 724 bytes, of which nothing is kept, counts its length too.
+    /// The sum of their lengths, with the lengths of those over 724 bytes, of which nothing is kept.
     pub bytes: u64,
 }
 
-/// What a measured reply (0) says: the fields, units and names of the crate's `Measurement`, for its clock steering, and what
-/// fell out of the stash.
+/// What a measured reply (0) says: the fields, units and names of `ntp-proto`'s `Measurement`, for its clock steering, and what was dropped from the stash.
 ///
 /// ```
 /// use reckonstile::Measurement;
@@ -646,11 +645,11 @@ pub struct Dropped {
 pub struct Measurement {
     /// The round trip, without the time that the server took.
     pub delay: NtpDuration,
-    /// What our wall clock lacks: positive where it is slow.
+    /// What to add to our wall clock: positive if it is slow.
     pub offset: NtpDuration,
     /// Our wall clock half way between T1 and T4.
     pub localtime: NtpTimestamp,
-    /// The time at which the reply was handed in.
+    /// The `time` at which the reply was handed over.
     pub monotime: NtpInstant,
     /// The source's stratum.
     pub stratum: u8,
@@ -662,7 +661,7 @@ pub struct Measurement {
     pub leap: NtpLeapIndicator,
     /// The precision of the source's clock, as an exponent of two, in seconds.
     pub precision: i8,
-    /// With NTS, what fell out while the reply's cookies were stored.
+    /// With NTS, what was dropped while the reply's cookies were stored.
     pub dropped: Dropped,
 }
 

@@ -17,13 +17,13 @@ use std::boxed::Box;
 /// The longest cookie that is kept, and with NTS the least room of the timer's buffer.
 pub const COOKIE_BYTES: usize = 724;
 
-/// A buffer of this size holds any request that the timer asks for; with NTS the caller's authenticator comes behind it.
+/// A buffer of this size holds any request that the timer asks for; with NTS the caller's authenticator follows it.
 pub const REQUEST_BYTES: usize = 852;
 
 /// A buffer of this size holds the hand-over file of any association.
 pub const FILE_BYTES: usize = 5872;
 
-/// What the source last said of itself.
+/// What the source last said about itself.
 ///
 /// ```
 /// use reckonstile::{Association, Settings};
@@ -47,14 +47,14 @@ pub struct Source {
 pub struct View {
     /// The settings, which no call changes.
     pub settings: ffi::Settings,
-    /// What the calls change, but for the cookies.
+    /// What the calls change, except the cookies.
     pub state: ffi::State,
 }
 
 /// When a request left, when its reply came, and the time at which the reply is handed in.
 ///
-/// T1 is the wall clock right before the packet is handed to the network: not when the timer went off, and not when the packet was put into a queue, or the
-/// offset is wrong by half of the time that it lay there. T4 is the wall clock when the reply came in, before anything else is done with it.
+/// T1 is the wall clock right before the packet is handed to the network: not when the timer went off, and not when the packet entered a queue, or the offset
+/// is wrong by half of the time that it waited there. T4 is the wall clock when the reply came in, before anything else is done with it.
 ///
 /// ```no_run
 /// use reckonstile::{NtpInstant, NtpTimestamp, Times};
@@ -80,7 +80,7 @@ pub struct Times {
     pub time: NtpInstant,
 }
 
-/// What the caller's Bloom filter (V5) says of us.
+/// What the caller's Bloom filter (V5) says about us.
 #[derive(Clone, Copy, Debug, Default, PartialEq, Eq, Hash)]
 pub enum Bloom {
     /// There is no filter.
@@ -93,7 +93,7 @@ pub enum Bloom {
 }
 
 impl<const SLOTS: usize> fmt::Debug for Association<SLOTS> {
-    /// Settings, state and how many cookies there are; of a cookie no byte.
+    /// Settings, state and how many cookies there are; no byte of a cookie.
     fn fmt(&self, f: &mut fmt::Formatter<'_>) -> fmt::Result {
         let mut shown = f.debug_struct("Association");
         match self.look() {
@@ -105,16 +105,16 @@ impl<const SLOTS: usize> fmt::Debug for Association<SLOTS> {
 }
 
 impl<const SLOTS: usize> Association<SLOTS> {
-    /// A new association (0), made where it is to lie; with NTS `list` has the cookies of the key exchange, as [`cookie_list`] writes them, and else it is not
-    /// looked at. Beside it, what of that list did not fit. Call [`Association::timer`] at once.
+    /// Makes a new association (0) in `place`, and returns with it what of the list did not fit. With NTS `list` has the cookies of the key exchange, as
+    /// [`cookie_list`] writes them; without NTS it is not read. Call [`Association::timer`] at once.
     ///
     /// # Errors
-    /// [`NewRefused`]: of 30 [`Settings::check`] says the setting. 31 and 38 are for other callers: types and settings here cannot name them.
+    /// [`NewRefused`]: for 30 [`Settings::check`] names the setting. 31 and 38 do not occur here: types and settings exclude them.
     ///
     /// ```
     /// use reckonstile::{Association, Settings};
     /// use std::mem::MaybeUninit;
-    /// // Two slots: 1,544 bytes, which may as well lie in a `static`.
+    /// // Two slots: 1,544 bytes, which may also be in a `static`.
     /// let mut place = MaybeUninit::<Association<2>>::uninit();
     /// let (a, _) = Association::new_in(&mut place, &Settings::default(), &[]).unwrap();
     /// assert_eq!((a.as_bytes().len(), a.cookies()), (1544, 0));
@@ -130,7 +130,7 @@ impl<const SLOTS: usize> Association<SLOTS> {
         }
     }
 
-    /// [`Association::new_in`], on the heap: it is made there, and never goes over the stack.
+    /// [`Association::new_in`], on the heap: it is made there, and never passes over the stack.
     ///
     /// # Errors
     /// As [`Association::new_in`].
@@ -139,11 +139,11 @@ impl<const SLOTS: usize> Association<SLOTS> {
         ffi::boxed(|place| Self::new_in(place, settings, list).map(|(_, dropped)| dropped))
     }
 
-    /// A new association for a link that is paid by the packet (0): what [`Association::new_in`] gives, where settings and list meet the metered profile.
-    /// No poll that it sends has an exponent below 8.
+    /// Makes a new association for a link that is paid by the packet (0): that of [`Association::new_in`], if settings and list meet the metered profile. No
+    /// poll that it sends has an exponent below 8.
     ///
     /// # Errors
-    /// [`MeteredRefused`]; 31 and 36 are for other callers.
+    /// [`MeteredRefused`]; 31 and 36 do not occur here.
     pub fn metered_in<'a>(
         place: &'a mut MaybeUninit<Self>,
         settings: &Settings,
@@ -167,7 +167,7 @@ impl<const SLOTS: usize> Association<SLOTS> {
     /// Whether settings and list meet the metered profile, as [`Association::metered_in`] would say.
     ///
     /// # Errors
-    /// [`MeteredRefused`], as [`Association::metered_in`] would give it.
+    /// [`MeteredRefused`], as from [`Association::metered_in`].
     pub fn profile(settings: &Settings, list: &[u8]) -> Result<(), MeteredRefused> {
         match ffi::profile(settings.numbers(SLOTS), list) {
             0 => Ok(()),
@@ -175,14 +175,14 @@ impl<const SLOTS: usize> Association<SLOTS> {
         }
     }
 
-    /// All bytes become zero. Such an association is not whole: every call on it answers 32.
+    /// Sets all bytes to zero. Such an association is not whole: every call on it answers 32.
     pub fn blank(&mut self) {
         ffi::blank(self.bytes_mut());
     }
 
-    /// It is time to poll. `desired` is the poll interval that the clock steering asks for; `id` and, with NTS, `uid` are drawn at random anew for each call. With NTS
-    /// the cookie is written to `buffer`, of at least [`COOKIE_BYTES`]; without NTS it may be empty. On 20 write the request, send it, keep T1, and call again
-    /// after the poll interval.
+    /// Call it when it is time to poll. `desired` is the poll interval that the clock steering wants; `id` and, with NTS, `uid` are drawn at random anew for
+    /// each call. With NTS the cookie is written to `buffer`, of at least [`COOKIE_BYTES`]; without NTS it may be empty. On 20 write the request, send it,
+    /// keep T1, and call again after the poll interval.
     ///
     /// # Errors
     /// [`TimerRefused`], whose `action` says what to do.
@@ -206,19 +206,19 @@ impl<const SLOTS: usize> Association<SLOTS> {
         }
     }
 
-    /// Writes the request that a timer's 20 asks for, with the `id` and `uid` that the timer was given, and gives its length. With NTS the caller's authenticator
-    /// goes behind it, made over all of it. [`REQUEST_BYTES`] are enough.
+    /// Writes the request that a timer's 20 asks for, with the `id` and `uid` that the timer got, and returns its length. With NTS the caller appends its
+    /// authenticator, made over the whole request. [`REQUEST_BYTES`] are enough.
     ///
     /// # Errors
-    /// [`RequestRefused`]: of V5, or a short buffer.
+    /// [`RequestRefused`]: the request is of V5, or the buffer is too short.
     pub fn write_request(&self, poll: &Poll<'_>, id: u64, uid: [u8; 32], out: &mut [u8]) -> Result<usize, RequestRefused> {
         write_request(poll.kind, poll.poll, id, self.upgrade_mark(), uid, poll.cookie, poll.asked, out)
     }
 
-    /// Hands in a reply of V3 or V4. On 0 the measurement goes to the clock steering, and acceptance is asked again.
+    /// Hands over a reply of V3 or V4. On 0 hand the measurement to the clock steering, and call [`Association::accept`] again.
     ///
     /// # Errors
-    /// [`ReplyRefused`]: 12, 13 and 14 say why no request is live. Its `action` says what to do, which is nothing for most.
+    /// [`ReplyRefused`]: 12, 13 and 14 say why no request is live. Its `action` says what to do: for most of them nothing.
     pub fn reply(&mut self, reply: &Opened<'_>, times: Times) -> Result<Measurement, ReplyRefused> {
         measured(&ffi::reply(
             self.bytes_mut(),
@@ -232,7 +232,7 @@ impl<const SLOTS: usize> Association<SLOTS> {
         ))
     }
 
-    /// Hands in a reply of V5, decoded by the caller; with NTS `list` has its new cookies.
+    /// Hands over a reply of V5, decoded by the caller; with NTS `list` has its new cookies.
     ///
     /// # Errors
     /// [`ReplyRefused`], as for [`Association::reply`].
@@ -260,7 +260,8 @@ impl<const SLOTS: usize> Association<SLOTS> {
         ))
     }
 
-    /// Whether the source may be used (0), given our own stratum, our own identifiers and the Bloom filter's word. Ask after each 20 and after each measured reply.
+    /// Whether the source may be used (0), given our own stratum, our own identifiers and what the Bloom filter says. Call it after each 20 and each measured
+    /// reply.
     ///
     /// # Errors
     /// [`AcceptRefused`]: not for now, or the record is not whole.
@@ -277,10 +278,10 @@ impl<const SLOTS: usize> Association<SLOTS> {
         }
     }
 
-    /// Settings and state as numbers. Numbers that do not go together are shown too: where another call answers 32, they say what is wrong.
+    /// Settings and state as numbers. Numbers that contradict each other are shown too: if another call answers 32, they say what is wrong.
     ///
     /// # Errors
-    /// [`LookRefused`], where the bytes are no record of this type: an unknown code, or another capacity.
+    /// [`LookRefused`], if the bytes are not a record of this type: an unknown code, or another capacity.
     ///
     /// ```
     /// # use reckonstile::*;
@@ -296,8 +297,8 @@ impl<const SLOTS: usize> Association<SLOTS> {
         }
     }
 
-    /// Writes the association to a hand-over file, at power-down, and gives the file's length (docs/HANDOVER.md). Its cookies are the file's then, and this
-    /// association has none; all else of it is as it was. [`FILE_BYTES`] are enough. The NTS keys are not in the file.
+    /// Writes the association to a hand-over file, at power-down, and returns the file's length (docs/HANDOVER.md). The cookies are then only in the file; all
+    /// else of this association is unchanged. [`FILE_BYTES`] are enough. The NTS keys are not in the file.
     ///
     /// # Errors
     /// [`SaveRefused`]; then nothing is written, and nothing has changed.
@@ -309,7 +310,7 @@ impl<const SLOTS: usize> Association<SLOTS> {
     /// let mut file = [0; FILE_BYTES];
     /// let length = old.save(&mut file).unwrap();
     /// assert_eq!((length, &file[..2], old.cookies()), (69, &b"SE"[..], 0));
-    /// // The box that is swapped in: the same association, as long as nothing was sent.
+    /// // In the new box: the same association, as long as nothing was sent.
     /// assert_eq!(Association::<8>::load(&file[..length]).unwrap().0.as_bytes(), before);
     /// ```
     pub fn save(&mut self, out: &mut [u8]) -> Result<usize, SaveRefused> {
@@ -320,12 +321,12 @@ impl<const SLOTS: usize> Association<SLOTS> {
         }
     }
 
-    /// The association of a hand-over file, with nothing sent yet, made where it is to lie; call [`Association::timer`] at once. Load a file once, in one box: a
-    /// cookie has one owner, and no call can tell a second time. Beside it, whether the file had the retired version, upgrading, as start version or as version:
-    /// that is V4 now.
+    /// Makes the association of a hand-over file in `place`, with nothing sent yet. Call [`Association::timer`] at once. Load a file once, in one box: a
+    /// cookie has one owner, and no call detects a second load. The `bool` says whether the file had the retired version, upgrading, as start version or as
+    /// version: that is V4 now.
     ///
     /// # Errors
-    /// [`LoadRefused`]: the first fault of the file; then 31, where the file is of an association with another number of slots.
+    /// [`LoadRefused`]: the first fault in the file; or 31, if the file is of an association with another number of slots.
     ///
     /// ```
     /// use reckonstile::{Association, ProtocolVersion, Settings, FILE_BYTES};
@@ -352,12 +353,12 @@ impl<const SLOTS: usize> Association<SLOTS> {
         ffi::boxed(|place| Self::load_in(place, file).map(|(_, retired)| retired))
     }
 
-    /// The state; of bytes that no call has made that of zeros.
+    /// The state; that of zeros, if no call made the bytes.
     fn state(&self) -> ffi::State {
         ffi::look(self.as_bytes()).state
     }
 
-    /// What the source last said of itself.
+    /// What the source last said about itself.
     #[must_use]
     pub fn source(&self) -> Source {
         let state = self.state();
@@ -395,7 +396,7 @@ impl<const SLOTS: usize> Association<SLOTS> {
         self.state().unanswered
     }
 
-    /// The unique identifier of the pending request, where one is pending: what a V5 reply's fields are held to.
+    /// The unique identifier of the pending request, if one is pending: a V5 reply's fields are compared with it.
     #[must_use]
     pub fn pending_uid(&self) -> Option<[u8; 32]> {
         let state = self.state();
@@ -439,10 +440,10 @@ pub fn write_request(
     }
 }
 
-/// Writes the cookies among decrypted fields as a list into `out`, and gives its length. An `out` as long as `decrypted` is enough.
+/// Writes the cookies among decrypted fields as a list into `out`, and returns its length. An `out` as long as `decrypted` is enough.
 ///
 /// # Errors
-/// [`CollectRefused`]; then nothing is written, and the reply is handed in with an empty list.
+/// [`CollectRefused`]; then nothing is written: hand over the reply with an empty list.
 ///
 /// ```
 /// let mut out = [0; 8];
@@ -457,7 +458,7 @@ pub fn collect(decrypted: &[u8], out: &mut [u8]) -> Result<usize, CollectRefused
     }
 }
 
-/// Writes cookies as a list into `out` (of each cookie the mark C0 0E, two bytes of length, and its bytes), and gives its length, or nothing where it does not fit.
+/// Writes cookies as a list into `out` (for each the mark C0 0E, two bytes of length, and its bytes), and returns its length, or `None` if it does not fit.
 ///
 /// ```
 /// let mut out = [0; 16];
@@ -479,7 +480,7 @@ pub fn cookie_list<'a>(cookies: impl IntoIterator<Item = &'a [u8]>, out: &mut [u
     Some(at)
 }
 
-/// The revision of the library that is linked, which is [`REVISION`](crate::REVISION) where library and crate are of one revision.
+/// The revision of the linked library: [`REVISION`](crate::REVISION), if library and crate are of one revision.
 ///
 /// ```
 /// assert_eq!(reckonstile::revision(), reckonstile::REVISION);

@@ -3,7 +3,7 @@ use crate::answers::NtpLeapIndicator;
 use crate::ffi;
 use crate::time::{NtpDuration, NtpTimestamp, PollInterval};
 
-/// What a group of extension fields says of the unique identifier of the request.
+/// What a group of extension fields says about the unique identifier of the request.
 #[derive(Clone, Copy, Debug, Default, PartialEq, Eq, Hash)]
 pub enum Uid {
     /// No field of that type is among them.
@@ -15,7 +15,7 @@ pub enum Uid {
     Disagree,
 }
 
-/// Which kisses a V5 reply is, as docs/EMBEDDING.md says.
+/// Which kisses a V5 reply has (docs/EMBEDDING.md says when).
 #[derive(Clone, Copy, Debug, Default, PartialEq, Eq, Hash)]
 pub struct Kisses {
     /// Poll more slowly.
@@ -30,7 +30,7 @@ pub struct Kisses {
     pub any: bool,
 }
 
-/// A V5 reply, which the caller decodes (docs/EMBEDDING.md: what each field is).
+/// A V5 reply, which the caller decodes (docs/EMBEDDING.md says what each field is).
 #[derive(Clone, Copy, Debug, PartialEq, Eq)]
 pub struct DecodedReply {
     /// The leap indicator.

@@ -1,15 +1,15 @@
-//! The library as C sees it (`include/reckonstile.h`), and the only `unsafe` of this crate: each call once, behind a safe function that hands over what the
-//! library's contract asks for and nothing else.
+//! The library as C sees it (`include/reckonstile.h`), and the only `unsafe` of this crate: each call once, in a safe function that passes what the library's
+//! contract requires and nothing else.
 //!
-//! What it asks for: a record is bytes that are lent to this call alone, which an exclusive (or, for `accept` and `look`, a shared) slice is; a slice is a
-//! pointer that is not null and a length, which every slice of Rust is, an empty one too; what is read and what is written does not overlap, which the borrow checker
-//! sees to. Every struct is of numbers, for which any bytes are a value. No call keeps a pointer, allocates, or unwinds.
+//! The contract requires: a record is bytes that are lent to this call alone, as an exclusive (or, for `accept` and `look`, a shared) slice is; a slice is a
+//! pointer that is not null and a length, as every slice of Rust is, an empty one too; what is read and what is written do not overlap, which the borrow
+//! checker ensures. Every struct is of numbers, for which any bytes are a value. No call keeps a pointer, allocates, or unwinds.
 #![allow(unsafe_code)]
 
 use crate::identifiers::ReferenceId;
 use core::mem::{align_of, offset_of, size_of, MaybeUninit};
 
-/// The revision of the C interface that this crate is written for; [`crate::revision`] gives the library's. `tools/revision` computes it.
+/// The revision of the C interface that this crate is written for; [`crate::revision`] returns the library's. `tools/revision` computes it.
 pub const REVISION: u32 = 0xBCF81C62;
 
 /// The bytes of a record before its cookies.
@@ -38,7 +38,7 @@ pub struct Settings {
     pub spare: u8,
     /// 0 beside the versions that stay.
     pub left: u8,
-    /// After so many polls with no answer the association gives up.
+    /// After this many polls with no answer the association gives up.
     pub startup: u8,
     /// The least poll exponent.
     pub min: i8,
@@ -46,7 +46,7 @@ pub struct Settings {
     pub max: i8,
 }
 
-/// What the calls change of a record, but for its cookies.
+/// What the calls change in a record, except its cookies.
 #[repr(C)]
 #[derive(Clone, Copy, Debug, Default, PartialEq, Eq)]
 pub struct State {
@@ -66,7 +66,7 @@ pub struct State {
     pub left: u8,
     /// The source's stratum; 16 until a reply is measured.
     pub stratum: u8,
-    /// 1 where service was denied since the last measured reply.
+    /// 1 if service was denied since the last measured reply.
     pub denial: u8,
     /// Polls since the last that was answered, 0 to 8: the zeros at the low end of `reach`. A new association has 8.
     pub unanswered: u8,
@@ -76,16 +76,16 @@ pub struct State {
     pub deadline: u64,
     /// Its unique identifier; zero without NTS.
     pub uid: [u8; 32],
-    /// 1 where a reply was measured since the last sent poll, which is never so while a request is pending; else 0.
+    /// 1 if a reply was measured since the last sent poll, which is never so while a request is pending; else 0.
     pub answered: u32,
-    /// 1 where a request is pending; where not, `id`, `deadline` and `uid` are zero.
+    /// 1 if a request is pending; if not, `id`, `deadline` and `uid` are zero.
     pub present: u32,
 }
 
-/// An association with one server: its record, in bytes that lie where the caller put them.
+/// An association with one server: its record, in bytes that the caller owns.
 ///
-/// `SLOTS` is how many cookies it holds, 1 to 8, and decides how long it is ([`Association::BYTES`]). It is made in place, by [`Association::new_in`] and its
-/// like, or on the heap ([`Association::new`], with the feature `std`), and neither copied nor cloned: a cookie has one owner.
+/// `SLOTS` is how many cookies it holds, 1 to 8, and determines its size ([`Association::BYTES`]). It is made in place (by [`Association::new_in`] and
+/// others) or on the heap ([`Association::new`], with the feature `std`), and is neither copied nor cloned: a cookie has one owner.
 ///
 /// ```compile_fail
 /// // Nine slots are one too many.
@@ -254,7 +254,7 @@ pub(crate) struct Scheduled {
     pub place: u64,
 }
 
-// The layout that the library has; another one stops the build. `tests/embed` holds the header to the same numbers and to the library's own answers.
+// The library's layout; another one stops the build. `tests/embed` compares the header with the same numbers and with the library's own answers.
 const _: () = {
     assert!(
         size_of::<Settings>() == 32
@@ -383,7 +383,7 @@ mod c {
     }
 }
 
-/// A length or a place of an answer. It counts bytes or entries of a slice that was lent, so that it fits.
+/// A length or a place of an answer. It counts bytes or entries of a slice that was lent, so it fits.
 pub(crate) const fn size(n: u64) -> usize {
     n as usize
 }
@@ -393,7 +393,7 @@ pub(crate) fn revision() -> u32 {
     unsafe { c::reckonstile_revision() }
 }
 
-/// Stands before every other call. In debug builds the first of them asks the library itself whether it is of this crate's revision; the build has asked its PROOF.
+/// Runs before every other call. In debug builds the first call asks the library whether it is of this crate's revision; the build has checked its PROOF.
 #[inline]
 fn held() {
     #[cfg(debug_assertions)]
@@ -416,8 +416,8 @@ impl<const SLOTS: usize> Association<SLOTS> {
         HEAD + ROW * SLOTS
     };
 
-    /// The record as bytes, for looking at (docs/EMBEDDING.md has the layout). They hold the cookies, which are secrets, and are a format of one revision:
-    /// [`Association::save`] writes one to store.
+    /// The record as bytes, to look at (docs/EMBEDDING.md has the layout). They hold the cookies, which are secrets, and their format is that of one
+    /// revision: to store an association use [`Association::save`].
     #[must_use]
     pub fn as_bytes(&self) -> &[u8] {
         // SAFETY: the struct is `BYTES` bytes without padding, as asserted there, and is lent as long as the slice.
@@ -440,8 +440,8 @@ impl<const SLOTS: usize> Association<SLOTS> {
         unsafe { core::slice::from_raw_parts_mut(core::ptr::from_mut(self).cast(), Self::BYTES) }
     }
 
-    /// The association in bytes that the caller has, where there are [`Association::BYTES`] of them. They may be any bytes: where no call of this revision has
-    /// made them, every call answers 32 and changes nothing.
+    /// The association in the caller's bytes, if there are [`Association::BYTES`] of them. They may be any bytes: if no call of this revision made them, every
+    /// call answers 32 and changes nothing.
     ///
     /// ```
     /// # use reckonstile::*;
@@ -513,7 +513,7 @@ pub(crate) fn boxed<const SLOTS: usize, T, E>(
 ) -> Result<(std::boxed::Box<Association<SLOTS>>, T), E> {
     let mut place = std::boxed::Box::new_uninit();
     let made = make(&mut place)?;
-    // SAFETY: `make` was answered 0, so that every byte is written.
+    // SAFETY: `make` was answered 0, so every byte is written.
     Ok((unsafe { place.assume_init() }, made))
 }
 
@@ -550,7 +550,7 @@ pub(crate) fn reply(
     time: u64,
 ) -> Replied {
     held();
-    // SAFETY: `record` is lent exclusively, so none of the three slices, which are only read, lies in it.
+    // SAFETY: `record` is lent exclusively, so none of the three slices, which are only read, overlaps with it.
     unsafe {
         c::reckonstile_reply(
             record.as_mut_ptr(),
@@ -571,7 +571,7 @@ pub(crate) fn reply(
 
 pub(crate) fn reply_decoded(record: &mut [u8], d: Decoded, list: &[u8], t1: u64, t4: u64, time: u64) -> Replied {
     held();
-    // SAFETY: `record` is lent exclusively, so the list, which is only read, does not lie in it.
+    // SAFETY: `record` is lent exclusively, so the list, which is only read, does not overlap with it.
     unsafe { c::reckonstile_reply_decoded(record.as_mut_ptr(), record.len(), d, list.as_ptr(), list.len(), t1, t4, time) }
 }
 

@@ -1,8 +1,8 @@
-//! Identifiers of sources, by which loops are seen.
+//! Identifiers of sources, by which loops are detected.
 
-/// An identifier of a source: of an IPv4 address its four bytes, of an IPv6 address the first four bytes of its MD5 digest (RFC 5905, section 7.3).
+/// An identifier of a source: for an IPv4 address its four bytes, for an IPv6 address the first four bytes of its MD5 digest (RFC 5905, section 7.3).
 ///
-/// MD5 is the caller's, as every digest and cipher; docs/EMBEDDING.md has an address worked through, and `examples/connector.rs` a client that does it.
+/// The caller computes MD5, as every digest and cipher; docs/EMBEDDING.md has an example, and `examples/connector.rs` is a client that does it.
 ///
 /// ```
 /// use reckonstile::ReferenceId;

@@ -1,13 +1,14 @@
-//! An NTP client association for Rust: the one of the crate `ntp-proto` 1.9.0, carried over to Rattle and proved there to follow its rules, and here linked as a
+//! An NTP client association for Rust: that of the crate `ntp-proto` 1.9.0, ported to Rattle and proved there to follow its rules. Here it is linked as a
 //! static library.
 //!
-//! The proof ends at the library's calls. This crate is what lies around them, is tested and not proved, and adds no behaviour: it has names and types for the
-//! numbers, and lets nothing be passed that the library's contract does not allow. docs/EMBEDDING.md has the order of calls, what is handed
-//! over and what to do on each number; `examples/connector.rs` is a whole client.
+//! The proof ends at the library's calls. This crate wraps them; it is tested, not proved, and adds no behaviour. It has names and types for the numbers, and
+//! passes only what the library's contract allows. docs/EMBEDDING.md has the order of calls, their arguments, and what to do on each number;
+//! `examples/connector.rs` is a whole client.
 //!
-//! No dependencies. Without the feature `std` the crate is `no_std` and allocates nothing; `std` (on by default) adds conversions from and to `std::time`, and
-//! associations on the heap. The library is the one that `RECKONSTILE_LIB` names; else in a release the one beside this crate, and in the repository the one that
-//! is made for the target that is built for, where docs/BOARDS.md has it. One of another revision, a changed one and a stale one are refused.
+//! The crate has no dependencies. Without the feature `std` it is `no_std` and allocates nothing; `std` (on by default) adds conversions from and to
+//! `std::time`, and associations on the heap. It links the library that `RECKONSTILE_LIB` names; else, in a release, the one beside this crate, and in the
+//! repository the one that is made for the target (docs/BOARDS.md lists the targets). A library of another revision, a changed one and a stale one are
+//! rejected.
 #![no_std]
 #![deny(missing_docs, unsafe_code)]
 #![warn(unsafe_op_in_unsafe_fn)]

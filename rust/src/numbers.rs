@@ -5,26 +5,26 @@
 /// salvage: salvaged. plan_calendar: planned. load: loaded. compare: compared. look: shown. field_at: a field, or the end. blank: cleared.
 pub const OK: u32 = 0;
 
-/// reply, reply_decoded: the packet cannot be decoded, `end` is 0 or no place of a field, or a decoded reply has an unknown code. collect: the decrypted bytes
-/// are no whole fields. field_at: a broken field.
+/// reply, reply_decoded: the packet cannot be decoded, `end` is 0 or not the place of a field, or a decoded reply has an unknown code. collect: the decrypted
+/// bytes are not whole fields. field_at: a broken field.
 pub const UNDECODABLE: u32 = 1;
 
-/// reply, reply_decoded: the packet is of a version that is not expected.
+/// reply, reply_decoded: the packet has an unexpected version.
 pub const UNEXPECTED_VERSION: u32 = 2;
 
 /// reply, reply_decoded: it answers another request.
 pub const NO_MATCH: u32 = 4;
 
-/// reply, reply_decoded: the server asks for slower polls, which the next ones are.
+/// reply, reply_decoded: the server asks for slower polls, and the next ones are slower.
 pub const RATE: u32 = 5;
 
-/// reply, reply_decoded: service is denied, which is noted.
+/// reply, reply_decoded: service is denied, and the record notes it.
 pub const DENIED: u32 = 6;
 
 /// reply, reply_decoded: service is denied, and with NTS that is believed: stop talking to this server.
 pub const DENIED_NTS: u32 = 7;
 
-/// reply, reply_decoded: the server could not make use of the cookie (NTSN).
+/// reply, reply_decoded: the server could not use the cookie (NTSN).
 pub const NTSN: u32 = 8;
 
 /// reply, reply_decoded: the server declines with some other kiss code.
@@ -33,7 +33,7 @@ pub const OTHER_KISS: u32 = 9;
 /// reply, reply_decoded: the reply has a stratum over 16.
 pub const BAD_STRATUM: u32 = 10;
 
-/// reply, reply_decoded: the reply does not come from a server (its mode is another).
+/// reply, reply_decoded: the reply does not come from a server (by its mode).
 pub const NOT_SERVER: u32 = 11;
 
 /// reply, reply_decoded: nothing was sent yet.
@@ -48,7 +48,7 @@ pub const EXPIRED: u32 = 14;
 /// timer: send the poll, and set the timer again.
 pub const SENT: u32 = 20;
 
-/// timer: no answer to so many polls: look the server up again and begin with a new association.
+/// timer: no answer to that many polls: look the server up again and begin with a new association.
 pub const RESET: u32 = 21;
 
 /// timer: no answer, and service was denied: stop talking to this server.
@@ -63,12 +63,12 @@ pub const COOKIE_TOO_LARGE: u32 = 24;
 /// new, metered, profile: a setting is outside its range, or an unknown code.
 pub const BAD_SETTINGS: u32 = 30;
 
-/// new, metered: the record has not the bytes of its capacity. timer: with NTS, the buffer for the cookie has fewer than 724 bytes. collect: the list is
-/// longer than the buffer. plan_calendar: the buffer has fewer starts than there are entries. load: the record has not the bytes of the file's capacity.
+/// new, metered: the record does not have the size of its capacity. timer: with NTS, the buffer for the cookie has fewer than 724 bytes. collect: the list is
+/// longer than the buffer. plan_calendar: the buffer has fewer starts than there are entries. load: the record does not have the size of the file's capacity.
 pub const WRONG_SIZE: u32 = 31;
 
-/// timer, reply, reply_decoded, accept, save: the record was not made by a call, or not all of it is lent. look: the bytes are no record: another number of
-/// them than the capacity's, or an unknown code.
+/// timer, reply, reply_decoded, accept, save: the record was not made by a call, or is not lent whole. look: the bytes are not a record: their number is not
+/// the capacity's, or a code is unknown.
 pub const NOT_WHOLE: u32 = 32;
 
 /// new, metered, profile, reply, reply_decoded: with NTS, the cookie list is broken.
@@ -98,7 +98,7 @@ pub const LOOP: u32 = 41;
 /// accept: none of the last eight polls was answered.
 pub const UNREACHABLE: u32 = 42;
 
-/// write_request: a request of version 5 is the caller's to write, and one of an unknown kind is none.
+/// write_request: the caller writes requests of version 5 itself; or the kind is unknown.
 pub const VERSION_FIVE: u32 = 50;
 
 /// write_request: the packet is longer than the buffer.
@@ -110,13 +110,13 @@ pub const COOKIE_OR_COUNT: u32 = 52;
 /// save: the buffer is shorter than the file.
 pub const SHORT_FILE_BUFFER: u32 = 60;
 
-/// load, compare: a record of the file does not have the mark that is due there.
+/// load, compare: a record of the file has a wrong mark.
 pub const WRONG_MARK: u32 = 61;
 
 /// load, compare: a record of the file has a wrong length, or bytes are missing or left over.
 pub const WRONG_LENGTH: u32 = 62;
 
-/// load, compare: a code in the file is of no kind, or what it says is no whole association.
+/// load, compare: the file has an unknown code, or its contents are not a whole association.
 pub const NO_ASSOCIATION: u32 = 63;
 
 /// salvage: the buffer is shorter than the damaged list.
@@ -137,5 +137,5 @@ pub const LATE_START: u32 = 82;
 /// check_calendar: more polls than the cap.
 pub const OVER_CAP: u32 = 83;
 
-/// plan_calendar: no start fits behind those placed before.
+/// plan_calendar: no start fits after those placed before.
 pub const NO_FIT: u32 = 84;

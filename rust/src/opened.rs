@@ -1,4 +1,4 @@
-//! A reply of V3 or V4 with what the caller's cipher made of it: the authenticated end, the decrypted bytes and the new cookies (docs/EMBEDDING.md).
+//! A reply of V3 or V4, opened by the caller's cipher: the authenticated end, the decrypted bytes and the new cookies (docs/EMBEDDING.md).
 use crate::ffi;
 use core::fmt;
 
@@ -12,7 +12,7 @@ const AUTHENTICATOR: u32 = 0x0404;
 ///
 /// ```
 /// use reckonstile::{Open, Opened};
-/// /// A stand-in for a cipher: what it opens, it has to find behind its tag as it is.
+/// /// A stand-in for a cipher: a tag of one byte, and the text as it is.
 /// struct Tag(u8);
 /// impl Open for Tag {
 ///     type Error = ();
@@ -37,21 +37,21 @@ const AUTHENTICATOR: u32 = 0x0404;
 /// assert_eq!(Opened::walk(&packet, &mut Tag(8), &mut decrypted, &mut list).unwrap().end(), 0);
 /// ```
 pub trait Open {
-    /// Why something does not open. Whatever it is, the reply is refused (1); a cipher that wants it logged keeps it.
+    /// Why something does not open. Whatever it is, the reply is rejected (1); to log it, keep it in the cipher.
     type Error;
 
-    /// Opens one field: deciphers `ciphertext` into `decrypted`, where it holds over the `associated` bytes and the `nonce`, and gives how many bytes it wrote.
-    /// `decrypted` is as long as the ciphertext at least.
+    /// Opens one field: checks it over the `associated` bytes and the `nonce`, decrypts `ciphertext` into `decrypted`, and returns how many bytes it wrote.
+    /// `decrypted` is at least as long as the ciphertext.
     ///
     /// # Errors
-    /// Where it does not hold. What is in `decrypted` is not looked at then.
+    /// If the check fails. What is in `decrypted` is then ignored.
     fn open(&mut self, associated: &[u8], nonce: &[u8], ciphertext: &[u8], decrypted: &mut [u8]) -> Result<usize, Self::Error>;
 }
 
-/// A reply of V3 or V4, with what of it is authenticated. [`Association::reply`](crate::Association::reply) takes it.
+/// A reply of V3 or V4, with the part of it that is authenticated, for [`Association::reply`](crate::Association::reply).
 ///
-/// With NTS [`Opened::walk`] makes it, without [`Opened::plain`]. Nothing else does, so that nobody passes the authenticated end by hand: fields before it are
-/// believed, and one that lies too far behind lets anybody's packet be measured.
+/// With NTS [`Opened::walk`] makes it, without NTS [`Opened::plain`]. Nothing else does, so nobody passes the authenticated end by hand: fields before it are
+/// believed, and with an end that is too late anybody's packet is measured.
 #[derive(Clone, Copy, PartialEq, Eq)]
 #[must_use]
 pub struct Opened<'a> {
@@ -86,9 +86,9 @@ pub enum OpenFault {
     Authenticator,
     /// An authenticator does not open: it is of another key, or the packet was changed.
     Cipher,
-    /// What was deciphered is not whole fields.
+    /// The decrypted bytes are not whole fields.
     Decrypted,
-    /// An authenticator is met without NTS.
+    /// There is an authenticator without NTS.
     WithoutNts,
 }
 
@@ -125,7 +125,7 @@ struct Field<'a> {
     body: &'a [u8],
 }
 
-/// The fields of a packet, as the association reads them: none where it is not of V4.
+/// The fields of a packet, as the association reads them: none if it is not of V4.
 struct Fields<'a> {
     packet: &'a [u8],
     at: Option<usize>,
@@ -166,7 +166,7 @@ fn sealed(body: &[u8]) -> Option<(&[u8], &[u8])> {
 }
 
 impl<'a> Opened<'a> {
-    /// A reply to an association without NTS. A packet that has an authenticator is refused (1).
+    /// A reply to an association without NTS. A packet that has an authenticator is rejected (1).
     ///
     /// ```
     /// use reckonstile::{OpenFault, Opened};
@@ -184,11 +184,11 @@ impl<'a> Opened<'a> {
         Opened { end: if fault.is_some() { 0 } else { HEADER }, packet, decrypted: &[], list: &[], fault }
     }
 
-    /// A reply to an association with NTS: opens each authenticator in order, and finds the new cookies among what was encrypted. Two buffers are lent, each as
-    /// long as the packet at least. Where one does not open, or is broken, or what it held is, the packet is refused (1).
+    /// A reply to an association with NTS: opens each authenticator in order, and finds the new cookies in the decrypted bytes. Lend two buffers, each at
+    /// least as long as the packet. If an authenticator does not open or is broken, or its decrypted bytes are broken, the packet is rejected (1).
     ///
     /// # Errors
-    /// [`ShortScratch`], where a buffer is shorter than the packet.
+    /// [`ShortScratch`], if a buffer is shorter than the packet.
     pub fn walk<C: Open + ?Sized>(
         packet: &'a [u8],
         cipher: &mut C,
@@ -222,7 +222,7 @@ impl<'a> Opened<'a> {
             let (nonce, ciphertext) = sealed(field.body).ok_or(OpenFault::Authenticator)?;
             let rest = &mut decrypted[length..];
             let wrote = cipher.open(&packet[..field.at], nonce, ciphertext, rest).map_err(|_| OpenFault::Cipher)?;
-            // Its fields have to be whole by themselves, before they stand behind those of the authenticator before: joined, two broken ones may be one field.
+            // Its fields must be whole by themselves, before they are appended to those of the authenticator before: joined, two broken ones may be one field.
             let text = rest.get(..wrote).ok_or(OpenFault::Cipher)?;
             if ffi::collect(text, list).number != 0 {
                 return Err(OpenFault::Decrypted);
@@ -236,7 +236,7 @@ impl<'a> Opened<'a> {
         Ok((end, length, ffi::size(said.length)))
     }
 
-    /// A call of a log, replayed: its authenticated end is what stands in the log. A client has no use for it.
+    /// A call of a log, replayed: its authenticated end is that of the log. A client has no use for it.
     #[doc(hidden)]
     pub const fn replayed(packet: &'a [u8], end: usize, decrypted: &'a [u8], list: &'a [u8]) -> Self {
         Opened { packet, end, decrypted, list, fault: None }
@@ -248,13 +248,13 @@ impl<'a> Opened<'a> {
         self.packet
     }
 
-    /// The authenticated end: where the last authenticator starts, 48 where there is none, 0 where the packet is refused.
+    /// The authenticated end: where the last authenticator starts, 48 if there is none, 0 if the packet is rejected.
     #[must_use]
     pub const fn end(&self) -> usize {
         self.end
     }
 
-    /// The decrypted bytes of the authenticators, one behind the other.
+    /// The decrypted bytes of the authenticators, one after the other.
     #[must_use]
     pub const fn decrypted(&self) -> &'a [u8] {
         self.decrypted
@@ -266,7 +266,7 @@ impl<'a> Opened<'a> {
         self.list
     }
 
-    /// Why the packet is refused, where it is: for a log.
+    /// Why the packet is rejected, if it is: for a log.
     #[must_use]
     pub const fn fault(&self) -> Option<OpenFault> {
         self.fault

@@ -5,7 +5,7 @@ use crate::time::PollIntervalLimits;
 use core::fmt;
 use core::time::Duration;
 
-/// The version that an association speaks. The crate's fourth, `V4UpgradingToV5`, is retired: whether a server speaks V5 is told, and not asked for.
+/// The version that an association speaks. A fourth of `ntp-proto`'s, `V4UpgradingToV5`, is retired: the caller says whether a server speaks V5.
 ///
 /// ```
 /// use reckonstile::{Association, ProtocolVersion, Settings};
@@ -17,7 +17,7 @@ use core::time::Duration;
 pub enum ProtocolVersion {
     /// NTPv4.
     V4,
-    /// NTPv5 that was agreed on; two polls without an answer make it V4. A new association has had no answer, so that its first poll is of V4.
+    /// NTPv5 that was agreed on; two polls without an answer make it V4. A new association has had no answer, so its first poll is of V4.
     UpgradedToV5,
     /// NTPv5.
     V5,
@@ -41,8 +41,8 @@ impl ProtocolVersion {
     }
 }
 
-/// The settings of an association. The default has the crate's own numbers, with V4 and no NTS. How many cookies are held is not among
-/// them: that is the type's `SLOTS` ([`crate::Association`]).
+/// The settings of an association. The default has `ntp-proto`'s numbers, with V4 and no NTS. How many cookies are held is not a setting here, but the type's
+/// `SLOTS` ([`crate::Association`]).
 ///
 /// ```
 /// use reckonstile::{ReferenceId, Settings};
@@ -53,7 +53,7 @@ impl ProtocolVersion {
 pub struct Settings {
     /// The limits of the poll interval: 0 <= min <= max <= 17.
     pub poll_interval_limits: PollIntervalLimits,
-    /// After so many polls with no answer the association gives up: 1 to 8.
+    /// After this many polls with no answer the association gives up: 1 to 8.
     pub startup_tries: u8,
     /// How long a request stays live: above 0, up to 60 s.
     pub poll_window: Duration,
@@ -63,7 +63,7 @@ pub struct Settings {
     pub version: ProtocolVersion,
     /// Whether the association uses NTS.
     pub nts: bool,
-    /// The source's own identifier, made of its address.
+    /// The source's own identifier, made from its address.
     pub source: ReferenceId,
 }
 
@@ -82,10 +82,10 @@ impl Default for Settings {
 }
 
 impl Settings {
-    /// Which setting is outside its range, where a new association is refused with 30: the first in the order of [`SettingsFault`].
+    /// Which setting is outside its range, if a new association is rejected with 30: the first in the order of [`SettingsFault`].
     ///
     /// # Errors
-    /// [`SettingsFault`], exactly where `new`, `metered` and `profile` answer 30.
+    /// [`SettingsFault`], exactly if `new`, `metered` and `profile` answer 30.
     ///
     /// ```
     /// use reckonstile::{Settings, SettingsFault};
@@ -107,7 +107,7 @@ impl Settings {
         faults.into_iter().find(|(wrong, _)| *wrong).map_or(Ok(()), |(_, fault)| Err(fault))
     }
 
-    /// As the library takes them, with the capacity of the association that is made.
+    /// The settings as the library takes them, with the capacity of the association that is made.
     pub(crate) fn numbers(&self, capacity: usize) -> ffi::Settings {
         ffi::Settings {
             window: u64::try_from(self.poll_window.as_nanos()).unwrap_or(u64::MAX),

@@ -33,7 +33,7 @@ impl NtpTimestamp {
         NtpTimestamp(((seconds as u64) << 32).wrapping_add(fraction))
     }
 
-    /// This clock's reading by the machine's clock, now. Take it right before a request is handed to the network, and right after a reply came.
+    /// The machine's wall clock, now. Take it right before a request is handed to the network, and right after a reply came.
     ///
     /// ```
     /// # use reckonstile::NtpTimestamp;
@@ -47,7 +47,7 @@ impl NtpTimestamp {
         std::time::SystemTime::now().into()
     }
 
-    /// How much later this reading is than another, of the same clock and less than 68 years apart.
+    /// How much later this reading is than another one of the same clock, less than 68 years apart.
     ///
     /// ```
     /// # use reckonstile::NtpTimestamp;
@@ -106,7 +106,7 @@ impl NtpDuration {
         self.0
     }
 
-    /// In seconds, as near as an `f64` comes.
+    /// In seconds, as close as an `f64` gets.
     #[must_use]
     pub fn to_seconds(self) -> f64 {
         self.0 as f64 / (1u64 << 32) as f64
@@ -129,7 +129,7 @@ impl NtpDuration {
         ((self.0 >> 32) as i32, (((self.0 as u64 & 0xffff_ffff) * NANOS as u64) >> 32) as u32)
     }
 
-    /// From a `Duration`, held at the largest value.
+    /// From a `Duration`; one that is too large becomes the largest value.
     ///
     /// ```
     /// # use reckonstile::NtpDuration;
@@ -182,8 +182,8 @@ impl NtpInstant {
         self.0
     }
 
-    /// The time since `start`, which the program takes once. On Linux this clock stands still while the machine is suspended; a box that suspends wants
-    /// `CLOCK_BOOTTIME` here, or a reply that was held meanwhile comes in time.
+    /// The time since `start`, which the program takes once. On Linux this clock stops while the machine is suspended. A box that suspends needs
+    /// `CLOCK_BOOTTIME` instead, or a reply that was held meanwhile counts as in time.
     ///
     /// ```
     /// # use reckonstile::NtpInstant;
@@ -222,8 +222,8 @@ impl PollInterval {
         self.0
     }
 
-    /// How long to wait for the next poll, before the caller stretches it by a random factor from 1.01 to 1.05 (docs/EMBEDDING.md): an exponent below 0 is taken as
-    /// 0, one above 31 as 31.
+    /// How long to wait for the next poll, before the caller stretches it by a random factor from 1.01 to 1.05 (docs/EMBEDDING.md): an exponent below 0 is
+    /// taken as 0, one above 31 as 31.
     #[must_use]
     pub const fn as_system_duration(self) -> Duration {
         let exponent = if self.0 < 0 {

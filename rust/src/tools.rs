@@ -1,5 +1,4 @@
-//! The tools beside the association, which neither read nor change a record: two hand-over files compared, salvage of a damaged cookie list, and the poll
-//! calendar of a modem.
+//! The tools, which neither read nor change a record: comparison of two hand-over files, salvage of a damaged cookie list, and the poll calendar of a modem.
 use crate::answers::{CheckRefused, CompareRefused, PlanRefused, SalvageRefused};
 use crate::ffi;
 
@@ -21,11 +20,11 @@ const ENTRY_BYTES: usize = 19;
 pub struct Difference {
     /// Which field it is; 32 to 39 are the cookies, the oldest first.
     pub code: u8,
-    /// Its reading in the left file: a number, a signed one as 64-bit two's complement, of a cookie its length or [`NO_COOKIE`].
+    /// Its reading in the left file: a number, a signed one as 64-bit two's complement; for a cookie its length or [`NO_COOKIE`].
     pub left: u64,
     /// And in the right file.
     pub right: u64,
-    /// Of two cookies, where the first stored byte differs, or the shorter one ends; else 0.
+    /// For two cookies, where the first stored byte differs, or the shorter one ends; else 0.
     pub place: u16,
 }
 
@@ -38,7 +37,7 @@ pub struct Differences<'b> {
 }
 
 impl Differences<'_> {
-    /// How many fields differ; none where the two loaded records are equal.
+    /// How many fields differ; none if the two loaded records are equal.
     #[must_use]
     pub fn len(&self) -> usize {
         self.list.len() / ENTRY_BYTES
@@ -63,11 +62,11 @@ impl Differences<'_> {
 }
 
 /// Compares two hand-over files, of boxes that behave differently: an entry for each field that differs is written to `out`, in the file's order. Of a cookie
-/// only the length and a place are told. A buffer of [`LIST_BYTES`] is always enough. What is loaded is compared: a file of before has capacity 8, and the
+/// only the length and a place are written. A buffer of [`LIST_BYTES`] is always enough. What is loaded is compared: a file without a capacity has 8, and the
 /// retired version is V4.
 ///
 /// # Errors
-/// [`CompareRefused`]: of the left file, then of the right one, then of the buffer; then nothing is written.
+/// [`CompareRefused`]: for the left file, then for the right one, then for the buffer. Nothing is written.
 ///
 /// ```
 /// use reckonstile::{compare, Association, Settings, LIST_BYTES};
@@ -107,22 +106,22 @@ pub struct Salvaged<'b> {
 }
 
 impl Salvaged<'_> {
-    /// Where the gaps start in the damaged list, in order; of the first 32 gaps, since further ones are only counted.
+    /// Where the first 32 gaps start in the damaged list, in order; further ones are only counted.
     #[must_use]
     pub fn places(&self) -> &[usize] {
         self.places.get(..self.told).unwrap_or(&self.places)
     }
 }
 
-/// Makes a damaged cookie list clean: what is left of it is written to `out`, which has to be as long as the list. Each place is tried in turn: where a mark (C0 0E),
-/// a length of two bytes and that many bytes fit, and the end or another mark follows, the record is kept; else one byte is skipped. A list without damage comes
+/// Cleans a damaged cookie list: what is left of it is written to `out`, which must be as long as the list. Each place is tried in turn: if a mark (C0 0E), a
+/// length of two bytes and that many bytes fit, and the end or another mark follows, the record is kept; else one byte is skipped. A list without damage comes
 /// out byte for byte.
 ///
 /// # Errors
 /// [`SalvageRefused`]; then nothing is written.
 ///
 /// ```
-/// // Two cookies, and a byte between them that flash has put there.
+/// // Two cookies, and between them a byte that flash has added.
 /// let damaged = *b"\xc0\x0e\0\x01a\xff\xc0\x0e\0\x02bc";
 /// let mut out = [0; 12];
 /// let salvaged = reckonstile::salvage(&damaged, &mut out).unwrap();
@@ -145,7 +144,7 @@ pub fn salvage<'b>(list: &[u8], out: &'b mut [u8]) -> Result<Salvaged<'b>, Salva
 }
 
 /// Whether a calendar of polls keeps to a modem's cap: entry k polls at minute m of the day, 0 to 1439, exactly if m modulo `repeats[k]` is `starts[k]`, and no
-/// minute may have more polls than `cap`. The lists are of the same length, up to [`ENTRIES`]; where they are not, the calendar is refused.
+/// minute may have more polls than `cap`. The lists are of the same length, up to [`ENTRIES`]; if they are not, the calendar is rejected.
 ///
 /// # Errors
 /// [`CheckRefused`], with the lowest entry or minute.
@@ -164,8 +163,8 @@ pub fn check_calendar(cap: u8, starts: &[u16], repeats: &[u16]) -> Result<(), Ch
     }
 }
 
-/// Places entries one by one, each at the earliest start that fits behind those before, and gives the starts, which it writes to the beginning of the buffer; it
-/// has to have room for as many as there are repeats. It does not look back, so that an entry may be refused where another plan exists. [`check_calendar`]
+/// Places entries one by one, each at the earliest start that fits after those before it, and returns the starts, which it writes to the beginning of the
+/// buffer; the buffer needs a start for each repeat. It does not look back, so an entry may be rejected although another plan exists. [`check_calendar`]
 /// accepts what is planned.
 ///
 /// # Errors

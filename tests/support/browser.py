@@ -9,17 +9,18 @@ import shutil
 import subprocess
 import tempfile
 import time
+from typing import Any, Dict, List, Optional
 
 PATIENCE = 600  # seconds: a machine that is busy otherwise is slow, and that is no fault of the page
 
 
 class Browser:
-    def __init__(self):
+    def __init__(self) -> None:
         self.profile = tempfile.mkdtemp(prefix='browser.')
         (read, self.into), (self.out, write) = os.pipe(), os.pipe()
         ends = [fcntl.fcntl(fd, fcntl.F_DUPFD, 20) for fd in (read, write)]
 
-        def place():
+        def place() -> None:
             os.dup2(ends[0], 3)
             os.dup2(ends[1], 4)
         self.process = subprocess.Popen(['chromium', '--headless=new', '--no-sandbox', '--disable-gpu', '--hide-scrollbars', '--no-first-run', '--disable-extensions',
@@ -27,17 +28,18 @@ class Browser:
                                         stdin=subprocess.DEVNULL, stdout=subprocess.DEVNULL, stderr=subprocess.DEVNULL, preexec_fn=place, pass_fds=(3, 4))
         for fd in (read, write, *ends):
             os.close(fd)
-        self.number, self.piece, self.events = 0, b'', []
+        self.number, self.piece = 0, b''
+        self.events: List[Dict[str, Any]] = []
         targets = self.call('Target.getTargets', session=None)['targetInfos']
         page = next(t for t in targets if t['type'] == 'page')
         self.session = self.call('Target.attachToTarget', session=None, targetId=page['targetId'], flatten=True)['sessionId']
         for domain in ('Page', 'Runtime', 'Log'):
             self.call(domain + '.enable')
 
-    def call(self, method, session='', **params):
+    def call(self, method: str, session: Optional[str] = '', **params: Any) -> Dict[str, Any]:
         """what the browser answers"""
         self.number += 1
-        message = dict(id=self.number, method=method, params=params)
+        message: Dict[str, Any] = dict(id=self.number, method=method, params=params)
         if session is not None:
             message['sessionId'] = self.session
         octets = json.dumps(message).encode() + b'\0'
@@ -51,7 +53,7 @@ class Browser:
                 return found['result']
             self.events.append(found)
 
-    def message(self):
+    def message(self) -> Dict[str, Any]:
         until = time.monotonic() + PATIENCE
         while b'\0' not in self.piece:
             if not select.select([self.out], [], [], max(0, until - time.monotonic()))[0]:
@@ -63,23 +65,23 @@ class Browser:
         one, self.piece = self.piece.split(b'\0', 1)
         return json.loads(one)
 
-    def run(self, script):
+    def run(self, script: str) -> Any:
         """the value of an expression on the page"""
         found = self.call('Runtime.evaluate', expression=script, returnByValue=True, awaitPromise=True)
         if 'exceptionDetails' in found:
             raise RuntimeError('%s: %s' % (script[:80], found['exceptionDetails'].get('exception', {}).get('description', found['exceptionDetails'])))
         return found['result'].get('value')
 
-    def size(self, width, height=900):
+    def size(self, width: int, height: int = 900) -> None:
         self.call('Emulation.setDeviceMetricsOverride', width=width, height=height, deviceScaleFactor=1, mobile=False)
 
-    def dark(self, dark):
+    def dark(self, dark: bool) -> None:
         self.call('Emulation.setEmulatedMedia', media='', features=[dict(name='prefers-color-scheme', value='dark' if dark else 'light')])
 
-    def scripts(self, on):
+    def scripts(self, on: bool) -> None:
         self.call('Emulation.setScriptExecutionDisabled', value=not on)
 
-    def open(self, path, ready='document.documentElement.dataset.ready'):
+    def open(self, path: str, ready: str = 'document.documentElement.dataset.ready') -> float:
         """opens a page; gives back the seconds until its script has done what it does at first"""
         begun = time.monotonic()
         self.call('Page.navigate', url='about:blank')
@@ -87,7 +89,7 @@ class Browser:
         self.until(ready + ' && location.protocol === "file:"')
         return time.monotonic() - begun
 
-    def until(self, script, patience=PATIENCE):
+    def until(self, script: str, patience: float = PATIENCE) -> bool:
         end = time.monotonic() + patience
         while time.monotonic() < end:
             try:
@@ -99,37 +101,37 @@ class Browser:
             time.sleep(0.05)
         return False
 
-    def key(self, name):
+    def key(self, name: str) -> None:
         codes = dict(Tab=9, Enter=13, ArrowLeft=37, ArrowUp=38, ArrowRight=39, ArrowDown=40, Home=36, End=35)
         more = dict(text='\r') if name == 'Enter' else {}
         self.call('Input.dispatchKeyEvent', type='keyDown', key=name, code=name, windowsVirtualKeyCode=codes[name], **more)
         self.call('Input.dispatchKeyEvent', type='keyUp', key=name, code=name, windowsVirtualKeyCode=codes[name])
 
-    def write(self, text):
+    def write(self, text: str) -> None:
         self.call('Input.insertText', text=text)
 
-    def click(self, selector):
+    def click(self, selector: str) -> None:
         x, y = self.run('(function(){var e=document.querySelector(%s);e.scrollIntoView({block:"center"});var r=e.getBoundingClientRect();return [r.left+r.width/2,r.top+r.height/2]})()'
                         % json.dumps(selector))
         for kind in ('mousePressed', 'mouseReleased'):
             self.call('Input.dispatchMouseEvent', type=kind, x=x, y=y, button='left', clickCount=1)
 
-    def point(self, x, y):
+    def point(self, x: float, y: float) -> None:
         self.call('Input.dispatchMouseEvent', type='mouseMoved', x=x, y=y)
 
-    def shot(self, path):
+    def shot(self, path: str) -> None:
         with open(path, 'wb') as f:
             f.write(base64.b64decode(self.call('Page.captureScreenshot', format='png')['data']))
 
-    def printed(self, path):
+    def printed(self, path: str) -> None:
         with open(path, 'wb') as f:
             f.write(base64.b64decode(self.call('Page.printToPDF', printBackground=True)['data']))
 
-    def faults(self):
+    def faults(self) -> List[Dict[str, Any]]:
         """what the page's script did wrong so far"""
         return [e['params'] for e in self.events if e.get('method') == 'Runtime.exceptionThrown']
 
-    def close(self):
+    def close(self) -> None:
         try:
             self.call('Browser.close', session=None)
             self.process.wait(30)

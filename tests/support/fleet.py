@@ -3,6 +3,7 @@ says itself what became of the box. Nothing here asks the scripts that are teste
 import random
 import struct
 from collections.abc import Callable, Iterator
+from typing import Any
 
 DAY = 46339 * 86400      # 2026-11-15 in seconds since 1900
 MARK = '4e54503544524654'
@@ -21,9 +22,12 @@ class Log:
         self.ident = 0
         self.nts = False
         self.counts = dict(sent=0, answered=0, late=0, foreign=0)
-        self.first = self.last = self.heard = None         # first and last offset, and the tick of the last measured reply, in seconds
-        self.risen = None                                  # the tick of the accept that began the last good state
-        self.heard_at = self.risen_at = None               # the true times of these two, in seconds since 1900
+        self.first: float | None = None                    # the first and the last offset, and the tick of the last measured reply, in seconds
+        self.last: float | None = None
+        self.heard: float | None = None
+        self.risen: float | None = None                    # the tick of the accept that began the last good state
+        self.heard_at: float | None = None                 # the true times of these two, in seconds since 1900
+        self.risen_at: float | None = None
         self.fresh = False                                 # since a reboot nothing was measured
 
     def say(self, line: str, number: int | None) -> None:
@@ -113,11 +117,11 @@ class Log:
 
     # -- what happens again and again
 
-    def round(self, **reply) -> None:
+    def round(self, **reply: Any) -> None:
         self.poll()
         self.reply(**reply)
 
-    def up(self, rounds: int = 3, asks: bool = True, **reply) -> None:
+    def up(self, rounds: int = 3, asks: bool = True, **reply: Any) -> None:
         """the source is measured and accepted, and polled on"""
         self.round(**reply)
         self.accept(rises=True)
@@ -184,7 +188,7 @@ def box_file(reach: int = 1, source: tuple[int, ...] = (192, 0, 2, 1)) -> str:
 # ---- up
 
 @story
-def comes_up(log, dice):
+def comes_up(log: Log, dice: random.Random) -> Truth:
     log.new()
     log.up(dice.randrange(6))
     log.noise(dice)
@@ -192,14 +196,14 @@ def comes_up(log, dice):
 
 
 @story
-def comes_up_and_is_not_asked_again(log, dice):
+def comes_up_and_is_not_asked_again(log: Log, dice: random.Random) -> Truth:
     log.new()
     log.up(4, asks=False)
     return UP
 
 
 @story
-def comes_up_after_a_reset(log, dice):
+def comes_up_after_a_reset(log: Log, dice: random.Random) -> Truth:
     log.new()
     log.poll()
     log.silence(2)
@@ -213,7 +217,7 @@ def comes_up_after_a_reset(log, dice):
 
 
 @story
-def comes_up_after_replies_that_were_refused(log, dice):
+def comes_up_after_replies_that_were_refused(log: Log, dice: random.Random) -> Truth:
     log.new()
     log.reply(12)
     log.poll()
@@ -227,7 +231,7 @@ def comes_up_after_replies_that_were_refused(log, dice):
 
 
 @story
-def is_not_accepted_at_first(log, dice):
+def is_not_accepted_at_first(log: Log, dice: random.Random) -> Truth:
     log.new()
     log.round()
     log.loop()
@@ -240,7 +244,7 @@ def is_not_accepted_at_first(log, dice):
 
 
 @story
-def loses_its_source_and_has_it_again(log, dice):
+def loses_its_source_and_has_it_again(log: Log, dice: random.Random) -> Truth:
     log.new()
     log.up()
     log.loop()
@@ -253,7 +257,7 @@ def loses_its_source_and_has_it_again(log, dice):
 
 
 @story
-def is_reset_and_comes_up_again(log, dice):
+def is_reset_and_comes_up_again(log: Log, dice: random.Random) -> Truth:
     log.new()
     log.up()
     log.silence(8)
@@ -266,7 +270,7 @@ def is_reset_and_comes_up_again(log, dice):
 
 
 @story
-def has_seven_polls_unanswered(log, dice):
+def has_seven_polls_unanswered(log: Log, dice: random.Random) -> Truth:
     log.new()
     log.up()
     log.silence(7)
@@ -276,7 +280,7 @@ def has_seven_polls_unanswered(log, dice):
 
 
 @story
-def has_harmless_replies_behind_its_acceptance(log, dice):
+def has_harmless_replies_behind_its_acceptance(log: Log, dice: random.Random) -> Truth:
     log.new()
     log.up()
     log.wait()
@@ -290,7 +294,7 @@ def has_harmless_replies_behind_its_acceptance(log, dice):
 
 
 @story
-def is_seven_hours_slow_and_then_stepped(log, dice):
+def is_seven_hours_slow_and_then_stepped(log: Log, dice: random.Random) -> Truth:
     log.slow = 25200
     log.new()
     log.round()
@@ -303,7 +307,7 @@ def is_seven_hours_slow_and_then_stepped(log, dice):
 
 
 @story
-def is_stepped_before_it_is_accepted(log, dice):
+def is_stepped_before_it_is_accepted(log: Log, dice: random.Random) -> Truth:
     log.slow = -7200
     log.new()
     log.round()
@@ -315,7 +319,7 @@ def is_stepped_before_it_is_accepted(log, dice):
 
 
 @story
-def is_a_swapped_box(log, dice):
+def is_a_swapped_box(log: Log, dice: random.Random) -> Truth:
     log.load(box_file())
     log.accept()
     log.wait()
@@ -324,7 +328,7 @@ def is_a_swapped_box(log, dice):
 
 
 @story
-def is_metered(log, dice):
+def is_metered(log: Log, dice: random.Random) -> Truth:
     log.new('metered')
     log.up()
     log.other('save', 0)
@@ -332,7 +336,7 @@ def is_metered(log, dice):
 
 
 @story
-def speaks_version_5(log, dice):
+def speaks_version_5(log: Log, dice: random.Random) -> Truth:
     log.new(start='v5')
     log.poll()
     log.reply5(leap=dice.choice((0, 1, 2, 3)))
@@ -341,14 +345,14 @@ def speaks_version_5(log, dice):
 
 
 @story
-def has_a_leap_second_ahead(log, dice):
+def has_a_leap_second_ahead(log: Log, dice: random.Random) -> Truth:
     log.new()
     log.up(first=dice.choice((0x64, 0xa4)))
     return UP
 
 
 @story
-def is_off_by_just_the_limit(log, dice):
+def is_off_by_just_the_limit(log: Log, dice: random.Random) -> Truth:
     log.slow = dice.choice((1, -1))
     log.new()
     log.up()
@@ -356,7 +360,7 @@ def is_off_by_just_the_limit(log, dice):
 
 
 @story
-def has_a_second_server_that_is_silent(log, dice):
+def has_a_second_server_that_is_silent(log: Log, dice: random.Random) -> Truth:
     start = log.at
     log.new()
     log.up(4)
@@ -370,7 +374,7 @@ def has_a_second_server_that_is_silent(log, dice):
 
 
 @story
-def has_a_first_server_that_is_silent(log, dice):
+def has_a_first_server_that_is_silent(log: Log, dice: random.Random) -> Truth:
     start = log.at
     log.new()
     log.poll()
@@ -385,7 +389,7 @@ def has_a_first_server_that_is_silent(log, dice):
 
 
 @story
-def has_a_first_server_that_is_lost(log, dice):
+def has_a_first_server_that_is_lost(log: Log, dice: random.Random) -> Truth:
     start = log.at
     log.new()
     log.up(8)
@@ -397,7 +401,7 @@ def has_a_first_server_that_is_lost(log, dice):
 
 
 @story
-def has_settings_refused_first(log, dice):
+def has_settings_refused_first(log: Log, dice: random.Random) -> Truth:
     log.new(number=30, startup='9')
     log.accept(32)
     log.new(number=38, start='upgrading:3')
@@ -407,7 +411,7 @@ def has_settings_refused_first(log, dice):
 
 
 @story
-def has_too_small_a_buffer_once(log, dice):
+def has_too_small_a_buffer_once(log: Log, dice: random.Random) -> Truth:
     log.new(nts=True, cookies=(100, 100, 100, 100))
     log.up(1)
     log.wait()
@@ -416,7 +420,7 @@ def has_too_small_a_buffer_once(log, dice):
 
 
 @story
-def is_accepted_again_behind_a_missing_cookie(log, dice):
+def is_accepted_again_behind_a_missing_cookie(log: Log, dice: random.Random) -> Truth:
     log.new(nts=True, cookies=(100,))
     log.round()
     log.accept()
@@ -427,7 +431,7 @@ def is_accepted_again_behind_a_missing_cookie(log, dice):
 
 
 @story
-def reboots_and_comes_up_again(log, dice):
+def reboots_and_comes_up_again(log: Log, dice: random.Random) -> Truth:
     log.new()
     log.up()
     log.reboot()
@@ -442,7 +446,7 @@ def reboots_and_comes_up_again(log, dice):
 
 
 @story
-def reboots_twice_and_comes_up_at_last(log, dice):
+def reboots_twice_and_comes_up_at_last(log: Log, dice: random.Random) -> Truth:
     log.new()
     log.up()
     log.reboot()
@@ -456,7 +460,7 @@ def reboots_twice_and_comes_up_at_last(log, dice):
 
 
 @story
-def gives_up_and_comes_up_after_a_reboot(log, dice):
+def gives_up_and_comes_up_after_a_reboot(log: Log, dice: random.Random) -> Truth:
     log.new()
     log.poll()
     log.silence(2)
@@ -469,7 +473,7 @@ def gives_up_and_comes_up_after_a_reboot(log, dice):
 
 
 @story
-def reboots_while_another_server_is_up(log, dice):
+def reboots_while_another_server_is_up(log: Log, dice: random.Random) -> Truth:
     start = log.at
     log.new()
     log.up(4)
@@ -484,7 +488,7 @@ def reboots_while_another_server_is_up(log, dice):
 
 
 @story
-def is_up_after_a_reboot_beside_a_silent_server(log, dice):
+def is_up_after_a_reboot_beside_a_silent_server(log: Log, dice: random.Random) -> Truth:
     log.new()
     log.up(2)
     log.reboot(to=9)
@@ -500,7 +504,7 @@ def is_up_after_a_reboot_beside_a_silent_server(log, dice):
 
 
 @story
-def loads_the_file_of_another_server_at_a_lower_tick(log, dice):
+def loads_the_file_of_another_server_at_a_lower_tick(log: Log, dice: random.Random) -> Truth:
     log.new()
     log.up()
     log.back(1, '192.0.2.2')
@@ -512,7 +516,7 @@ def loads_the_file_of_another_server_at_a_lower_tick(log, dice):
 # ---- doubtful
 
 @story
-def stays_far_off(log, dice):
+def stays_far_off(log: Log, dice: random.Random) -> Truth:
     log.slow = dice.choice((25200, -86400 * 3, 1.001, -1.5, 40))
     log.new()
     log.up(dice.randrange(3))
@@ -520,7 +524,7 @@ def stays_far_off(log, dice):
 
 
 @story
-def drifts_away(log, dice):
+def drifts_away(log: Log, dice: random.Random) -> Truth:
     log.new()
     log.up()
     log.slow = 2.5
@@ -530,14 +534,14 @@ def drifts_away(log, dice):
 
 
 @story
-def has_a_server_without_a_time(log, dice):
+def has_a_server_without_a_time(log: Log, dice: random.Random) -> Truth:
     log.new()
     log.up(dice.randrange(3), first=0xe4)
     return Truth('doubtful', 0, 'reply', 'not synchronized')
 
 
 @story
-def has_a_server_that_loses_its_time(log, dice):
+def has_a_server_that_loses_its_time(log: Log, dice: random.Random) -> Truth:
     log.new()
     log.up()
     log.wait()
@@ -547,7 +551,7 @@ def has_a_server_that_loses_its_time(log, dice):
 
 
 @story
-def has_a_server_of_version_5_without_a_time(log, dice):
+def has_a_server_of_version_5_without_a_time(log: Log, dice: random.Random) -> Truth:
     log.new(start='v5')
     log.poll()
     log.reply5(leap=4)
@@ -556,7 +560,7 @@ def has_a_server_of_version_5_without_a_time(log, dice):
 
 
 @story
-def has_one_server_far_off_and_one_silent(log, dice):
+def has_one_server_far_off_and_one_silent(log: Log, dice: random.Random) -> Truth:
     start = log.at
     log.slow = 30
     log.new()
@@ -570,7 +574,7 @@ def has_one_server_far_off_and_one_silent(log, dice):
 # ---- lost
 
 @story
-def follows_its_follower(log, dice):
+def follows_its_follower(log: Log, dice: random.Random) -> Truth:
     log.new()
     log.up()
     log.noise(dice)
@@ -580,7 +584,7 @@ def follows_its_follower(log, dice):
 
 
 @story
-def has_a_server_of_stratum_16_later(log, dice):
+def has_a_server_of_stratum_16_later(log: Log, dice: random.Random) -> Truth:
     log.new()
     log.up()
     log.wait()
@@ -590,7 +594,7 @@ def has_a_server_of_stratum_16_later(log, dice):
 
 
 @story
-def is_unreachable_later(log, dice):
+def is_unreachable_later(log: Log, dice: random.Random) -> Truth:
     log.new()
     log.up()
     log.silence(8)
@@ -602,7 +606,7 @@ def is_unreachable_later(log, dice):
 
 
 @story
-def gives_up_half_an_hour_behind_a_late_reply(log, dice):
+def gives_up_half_an_hour_behind_a_late_reply(log: Log, dice: random.Random) -> Truth:
     log.new()
     log.up(3)
     log.wait()
@@ -621,7 +625,7 @@ def gives_up_half_an_hour_behind_a_late_reply(log, dice):
 
 
 @story
-def is_denied_for_good(log, dice):
+def is_denied_for_good(log: Log, dice: random.Random) -> Truth:
     log.new()
     log.up()
     log.wait()
@@ -634,7 +638,7 @@ def is_denied_for_good(log, dice):
 
 
 @story
-def is_denied_with_nts(log, dice):
+def is_denied_with_nts(log: Log, dice: random.Random) -> Truth:
     log.new(nts=True, cookies=(100, 100, 100))
     log.up(1)
     log.wait()
@@ -644,7 +648,7 @@ def is_denied_with_nts(log, dice):
 
 
 @story
-def runs_out_of_cookies(log, dice):
+def runs_out_of_cookies(log: Log, dice: random.Random) -> Truth:
     log.new(nts=True, cookies=(100, 100))
     log.up(1)
     log.wait()
@@ -653,7 +657,7 @@ def runs_out_of_cookies(log, dice):
 
 
 @story
-def has_too_large_a_cookie(log, dice):
+def has_too_large_a_cookie(log: Log, dice: random.Random) -> Truth:
     log.new(nts=True, cookies=(100, 725))
     log.up(0)
     log.wait()
@@ -662,7 +666,7 @@ def has_too_large_a_cookie(log, dice):
 
 
 @story
-def is_restarted_and_hears_nothing(log, dice):
+def is_restarted_and_hears_nothing(log: Log, dice: random.Random) -> Truth:
     log.new()
     log.up()
     log.at += 20
@@ -674,7 +678,7 @@ def is_restarted_and_hears_nothing(log, dice):
 
 
 @story
-def is_restarted_and_not_asked(log, dice):
+def is_restarted_and_not_asked(log: Log, dice: random.Random) -> Truth:
     log.new()
     log.up()
     log.wait()
@@ -684,7 +688,7 @@ def is_restarted_and_not_asked(log, dice):
 
 
 @story
-def is_restarted_into_a_loop(log, dice):
+def is_restarted_into_a_loop(log: Log, dice: random.Random) -> Truth:
     log.new()
     log.up()
     log.wait()
@@ -695,7 +699,7 @@ def is_restarted_into_a_loop(log, dice):
 
 
 @story
-def is_swapped_and_hears_nothing(log, dice):
+def is_swapped_and_hears_nothing(log: Log, dice: random.Random) -> Truth:
     log.new()
     log.up()
     log.wait()
@@ -706,7 +710,7 @@ def is_swapped_and_hears_nothing(log, dice):
 
 
 @story
-def is_restarted_with_settings_that_are_refused(log, dice):
+def is_restarted_with_settings_that_are_refused(log: Log, dice: random.Random) -> Truth:
     log.new()
     log.up()
     log.new(number=30, min='18')
@@ -714,7 +718,7 @@ def is_restarted_with_settings_that_are_refused(log, dice):
 
 
 @story
-def loads_a_file_that_is_none(log, dice):
+def loads_a_file_that_is_none(log: Log, dice: random.Random) -> Truth:
     log.new()
     log.up()
     log.load('00', 62)
@@ -722,7 +726,7 @@ def loads_a_file_that_is_none(log, dice):
 
 
 @story
-def is_blanked(log, dice):
+def is_blanked(log: Log, dice: random.Random) -> Truth:
     log.new()
     log.up()
     log.other('blank')
@@ -730,7 +734,7 @@ def is_blanked(log, dice):
 
 
 @story
-def has_a_broken_record(log, dice):
+def has_a_broken_record(log: Log, dice: random.Random) -> Truth:
     log.new()
     log.up()
     log.other('poke key=held value=9')
@@ -739,7 +743,7 @@ def has_a_broken_record(log, dice):
 
 
 @story
-def is_lost_twice(log, dice):
+def is_lost_twice(log: Log, dice: random.Random) -> Truth:
     log.new()
     log.up()
     log.loop()
@@ -753,7 +757,7 @@ def is_lost_twice(log, dice):
 
 
 @story
-def is_reset_and_does_not_come_back(log, dice):
+def is_reset_and_does_not_come_back(log: Log, dice: random.Random) -> Truth:
     log.new()
     log.up()
     log.silence(8)
@@ -769,7 +773,7 @@ def is_reset_and_does_not_come_back(log, dice):
 
 
 @story
-def is_far_off_and_then_lost(log, dice):
+def is_far_off_and_then_lost(log: Log, dice: random.Random) -> Truth:
     log.slow = 25200
     log.new()
     log.up(1)
@@ -778,7 +782,7 @@ def is_far_off_and_then_lost(log, dice):
 
 
 @story
-def loses_the_one_server_and_never_has_the_other(log, dice):
+def loses_the_one_server_and_never_has_the_other(log: Log, dice: random.Random) -> Truth:
     start = log.at
     log.new()
     log.up(3)
@@ -790,7 +794,7 @@ def loses_the_one_server_and_never_has_the_other(log, dice):
 
 
 @story
-def loses_both_servers(log, dice):
+def loses_both_servers(log: Log, dice: random.Random) -> Truth:
     start = log.at
     log.new()
     log.up(8)
@@ -803,7 +807,7 @@ def loses_both_servers(log, dice):
 
 
 @story
-def reboots_and_hears_nothing(log, dice):
+def reboots_and_hears_nothing(log: Log, dice: random.Random) -> Truth:
     log.slow = dice.choice((log.slow, 40))
     log.new()
     log.up()
@@ -820,7 +824,7 @@ def reboots_and_hears_nothing(log, dice):
 
 
 @story
-def reboots_and_is_not_asked(log, dice):
+def reboots_and_is_not_asked(log: Log, dice: random.Random) -> Truth:
     log.new()
     log.up()
     log.reboot()
@@ -831,7 +835,7 @@ def reboots_and_is_not_asked(log, dice):
 
 
 @story
-def reboots_twice_and_hears_nothing(log, dice):
+def reboots_twice_and_hears_nothing(log: Log, dice: random.Random) -> Truth:
     log.new()
     log.up()
     for _ in range(2):
@@ -843,7 +847,7 @@ def reboots_twice_and_hears_nothing(log, dice):
 
 
 @story
-def gives_up_before_it_reboots(log, dice):
+def gives_up_before_it_reboots(log: Log, dice: random.Random) -> Truth:
     log.new()
     log.up()
     log.silence(8)
@@ -856,7 +860,7 @@ def gives_up_before_it_reboots(log, dice):
 
 
 @story
-def reboots_with_settings_that_are_refused(log, dice):
+def reboots_with_settings_that_are_refused(log: Log, dice: random.Random) -> Truth:
     log.new()
     log.up()
     log.reboot()
@@ -866,7 +870,7 @@ def reboots_with_settings_that_are_refused(log, dice):
 
 
 @story
-def comes_up_after_a_reboot_and_is_lost(log, dice):
+def comes_up_after_a_reboot_and_is_lost(log: Log, dice: random.Random) -> Truth:
     log.new()
     log.up()
     log.reboot()
@@ -877,7 +881,7 @@ def comes_up_after_a_reboot_and_is_lost(log, dice):
 
 
 @story
-def is_swapped_for_a_box_with_lower_ticks(log, dice):
+def is_swapped_for_a_box_with_lower_ticks(log: Log, dice: random.Random) -> Truth:
     log.new()
     log.up()
     log.reboot(to=3)
@@ -888,7 +892,7 @@ def is_swapped_for_a_box_with_lower_ticks(log, dice):
 
 
 @story
-def reboots_beside_a_server_that_is_silent(log, dice):
+def reboots_beside_a_server_that_is_silent(log: Log, dice: random.Random) -> Truth:
     start = log.at
     log.new()
     log.up(4)
@@ -903,7 +907,7 @@ def reboots_beside_a_server_that_is_silent(log, dice):
 
 
 @story
-def reboots_beside_a_server_that_was_lost_at_a_higher_tick(log, dice):
+def reboots_beside_a_server_that_was_lost_at_a_higher_tick(log: Log, dice: random.Random) -> Truth:
     start = log.at
     log.new()
     log.up(4)
@@ -918,7 +922,7 @@ def reboots_beside_a_server_that_was_lost_at_a_higher_tick(log, dice):
 
 
 @story
-def reboots_and_is_heard_of_late(log, dice):
+def reboots_and_is_heard_of_late(log: Log, dice: random.Random) -> Truth:
     """the first tick after the reboot is above the last one of the server between: only the name tells"""
     log.at = log.asked = log.at + 1000
     log.new()
@@ -936,7 +940,7 @@ def reboots_and_is_heard_of_late(log, dice):
 # ---- never
 
 @story
-def is_never_answered(log, dice):
+def is_never_answered(log: Log, dice: random.Random) -> Truth:
     log.new()
     log.poll()
     log.silence(2)
@@ -948,7 +952,7 @@ def is_never_answered(log, dice):
 
 
 @story
-def is_denied_from_the_start(log, dice):
+def is_denied_from_the_start(log: Log, dice: random.Random) -> Truth:
     log.new()
     log.poll()
     log.reply(6, stratum=0, refid=b'DENY')
@@ -959,7 +963,7 @@ def is_denied_from_the_start(log, dice):
 
 
 @story
-def is_denied_with_nts_from_the_start(log, dice):
+def is_denied_with_nts_from_the_start(log: Log, dice: random.Random) -> Truth:
     log.new(nts=True, cookies=(100, 100))
     log.poll()
     log.reply(7, stratum=0, refid=b'DENY')
@@ -967,7 +971,7 @@ def is_denied_with_nts_from_the_start(log, dice):
 
 
 @story
-def has_only_late_replies(log, dice):
+def has_only_late_replies(log: Log, dice: random.Random) -> Truth:
     log.new(startup='8')
     for _ in range(4):
         log.poll()
@@ -979,7 +983,7 @@ def has_only_late_replies(log, dice):
 
 
 @story
-def gets_only_late_replies_and_gives_up(log, dice):
+def gets_only_late_replies_and_gives_up(log: Log, dice: random.Random) -> Truth:
     log.new()
     for _ in range(3):
         log.poll()
@@ -990,9 +994,10 @@ def gets_only_late_replies_and_gives_up(log, dice):
 
 
 @story
-def has_one_kind_of_refusal(log, dice):
-    refusals = {4: dict(ident=0xdead), 5: dict(stratum=0, refid=b'RATE'), 6: dict(stratum=0, refid=b'RSTR'), 8: dict(stratum=0, refid=b'NTSN'),
-                9: dict(stratum=0, refid=b'STEP'), 10: dict(stratum=17), 11: dict(first=0x23), 1: dict(cut=47)}
+def has_one_kind_of_refusal(log: Log, dice: random.Random) -> Truth:
+    refusals: dict[int, dict[str, Any]] = {
+        4: dict(ident=0xdead), 5: dict(stratum=0, refid=b'RATE'), 6: dict(stratum=0, refid=b'RSTR'), 8: dict(stratum=0, refid=b'NTSN'),
+        9: dict(stratum=0, refid=b'STEP'), 10: dict(stratum=17), 11: dict(first=0x23), 1: dict(cut=47)}
     number = dice.choice(sorted(refusals))
     log.new()
     log.poll()
@@ -1004,7 +1009,7 @@ def has_one_kind_of_refusal(log, dice):
 
 
 @story
-def has_a_source_of_stratum_16(log, dice):
+def has_a_source_of_stratum_16(log: Log, dice: random.Random) -> Truth:
     log.new()
     log.round(stratum=16)
     log.accept(40)
@@ -1012,7 +1017,7 @@ def has_a_source_of_stratum_16(log, dice):
 
 
 @story
-def follows_its_follower_from_the_start(log, dice):
+def follows_its_follower_from_the_start(log: Log, dice: random.Random) -> Truth:
     log.new()
     log.round()
     log.loop()
@@ -1021,7 +1026,7 @@ def follows_its_follower_from_the_start(log, dice):
 
 
 @story
-def is_asked_too_late(log, dice):
+def is_asked_too_late(log: Log, dice: random.Random) -> Truth:
     log.new(startup='8')
     log.round()
     log.silence(8)
@@ -1030,7 +1035,7 @@ def is_asked_too_late(log, dice):
 
 
 @story
-def is_not_asked(log, dice):
+def is_not_asked(log: Log, dice: random.Random) -> Truth:
     log.new()
     if dice.random() < 0.5:
         log.accept(40)
@@ -1040,7 +1045,7 @@ def is_not_asked(log, dice):
 
 
 @story
-def is_swapped_and_not_asked_again(log, dice):
+def is_swapped_and_not_asked_again(log: Log, dice: random.Random) -> Truth:
     log.load(box_file())
     log.accept()
     log.round()
@@ -1048,7 +1053,7 @@ def is_swapped_and_not_asked_again(log, dice):
 
 
 @story
-def is_swapped_and_silent(log, dice):
+def is_swapped_and_silent(log: Log, dice: random.Random) -> Truth:
     log.load(box_file())
     log.accept()
     if dice.random() < 0.5:
@@ -1058,20 +1063,20 @@ def is_swapped_and_silent(log, dice):
 
 
 @story
-def has_just_begun(log, dice):
+def has_just_begun(log: Log, dice: random.Random) -> Truth:
     log.new()
     return Truth('never', 0, 'new', 'no poll was sent')
 
 
 @story
-def waits_for_its_first_reply(log, dice):
+def waits_for_its_first_reply(log: Log, dice: random.Random) -> Truth:
     log.new()
     log.poll()
     return Truth('never', 20, 'timer', 'no reply was measured')
 
 
 @story
-def hears_only_what_was_before_it(log, dice):
+def hears_only_what_was_before_it(log: Log, dice: random.Random) -> Truth:
     log.new()
     log.asked = log.at
     log.reply(12)
@@ -1080,7 +1085,7 @@ def hears_only_what_was_before_it(log, dice):
 
 
 @story
-def is_asked_before_anything_is_measured(log, dice):
+def is_asked_before_anything_is_measured(log: Log, dice: random.Random) -> Truth:
     log.new()
     log.poll()
     log.accept(40)
@@ -1088,7 +1093,7 @@ def is_asked_before_anything_is_measured(log, dice):
 
 
 @story
-def has_two_servers_that_are_silent(log, dice):
+def has_two_servers_that_are_silent(log: Log, dice: random.Random) -> Truth:
     start = log.at
     log.new()
     log.poll()
@@ -1103,7 +1108,7 @@ def has_two_servers_that_are_silent(log, dice):
 
 
 @story
-def never_is_up_and_reboots(log, dice):
+def never_is_up_and_reboots(log: Log, dice: random.Random) -> Truth:
     log.new()
     log.poll()
     log.silence(2)

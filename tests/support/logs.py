@@ -1,45 +1,35 @@
 """Random logs in the drill's language, without bad lines. What a reply has to bring back is taken from a record that tools/reference keeps beside, so that every number
 comes up; the expected answers are not taken from here, but from the drill."""
-import importlib.machinery
-import importlib.util
-import os
 import random
-import sys
+from typing import Iterator, List, Tuple
 
-ROOT = os.path.dirname(os.path.dirname(os.path.dirname(os.path.abspath(__file__))))
+import harness
+
 NAMES = (b'RATE', b'DENY', b'RSTR', b'NTSN', b'STEP')
 MAX64 = 2**64 - 1
+Octets = bytes  # of which the class below has a method
 
 
-def reference():
-    loader = importlib.machinery.SourceFileLoader('reference', os.path.join(ROOT, 'tools', 'reference'))
-    module = importlib.util.module_from_spec(importlib.util.spec_from_loader('reference', loader))
-    was, sys.dont_write_bytecode = sys.dont_write_bytecode, True
-    loader.exec_module(module)
-    sys.dont_write_bytecode = was
-    return module
-
-
-def hexed(b):
+def hexed(b: bytes) -> str:
     return b.hex() or '-'
 
 
 class Logs:
-    def __init__(self, seed):
-        self.rng, self.model = random.Random(seed), reference()
+    def __init__(self, seed: int) -> None:
+        self.rng, self.model = random.Random(seed), harness.script('tools/reference')
         self.record, self.now, self.cookie, self.file = self.model.Record(), 0, b'', b''
 
-    def bytes(self, n):
+    def bytes(self, n: int) -> Octets:
         return self.rng.getrandbits(8 * n).to_bytes(n, 'big') if n else b''
 
-    def field(self, kind, body):
+    def field(self, kind: int, body: Octets) -> Octets:
         return kind.to_bytes(2, 'big') + (4 + len(body)).to_bytes(2, 'big') + body
 
-    def cookie_of(self):
+    def cookie_of(self) -> Octets:
         n = self.rng.choice((0, 1, 4, 20, 100, 100, 100, 104, 723, 724, 725, 1000) if self.rng.random() < 0.2 else (96, 100, 104, 180))
         return self.bytes(n)
 
-    def list(self, longest=1000):
+    def list(self, longest: int = 1000) -> Octets:
         found = b''
         for _ in range(self.rng.choice((0, 1, 1, 2, 7, 8, 9, 12))):
             cookie = self.cookie_of()[:longest]
@@ -51,7 +41,7 @@ class Logs:
 
     # ---- commands
 
-    def new(self, word='new'):
+    def new(self, word: str = 'new') -> str:
         """the keys of `new`, which are those of `metered` and `profile`; for these two they mostly meet the metered profile"""
         rng, metered = self.rng, word != 'new'
         low = rng.choice((8, 8, 8, 10, 7) if metered else (0, 4, 4, 6))
@@ -67,13 +57,13 @@ class Logs:
             '4e54503544524654', start, 'yes' if nts else 'no', rng.choice((0, 1, 0x7f000001, 0xffffffff)), hexed(self.list(100 if metered and rng.random() < 0.7 else 1000)),
             rng.choice(('', '', ' capacity=8', ' capacity=%d' % capacity, ' capacity=%d' % capacity)))
 
-    def timer(self):
+    def timer(self) -> str:
         rng = self.rng
         self.now = min(self.now + rng.choice((0, 1, rng.randrange(10**9), rng.randrange(10**11))), MAX64)
         return 'timer now=%d desired=%d id=%s uid=%s room=%d' % (self.now, rng.choice((4, 6, 10, rng.randint(-128, 127))), self.bytes(8).hex(),
                                                                rng.choice((self.bytes(32).hex(), '-')), rng.choice((1024,) * 8 + (724, 723, 0)))
 
-    def packet(self):
+    def packet(self) -> Tuple[Octets, int, Octets]:
         rng, a = self.rng, self.record
         version = rng.choice((4,) * 16 + (3, 3, rng.randrange(8)))
         head = bytearray(self.bytes(48))
@@ -101,18 +91,18 @@ class Logs:
         end = (48 if version == 3 else rng.choice(places + [places[-1]] * 4)) if rng.random() < 0.95 else rng.choice((0, 1, 52, len(packet), MAX64))
         return packet, end, plain[:4000]
 
-    def arrival(self):
+    def arrival(self) -> Tuple[int, int, int]:
         rng, a = self.rng, self.record
         at = rng.choice((self.now,) * 6 + (self.now + 1, a.deadline, a.deadline, a.deadline + 1, max(a.deadline, 1) - 1, rng.randrange(2**64)))
         t1 = rng.choice((rng.randrange(2**64), 0, MAX64, 2**63))
         return min(at, MAX64), t1, rng.choice(((t1 + rng.randrange(2**33)) % 2**64, rng.randrange(2**64), t1))
 
-    def reply(self):
+    def reply(self) -> str:
         packet, end, plain = self.packet()
         listed = 'collect' if self.rng.random() < 0.6 else hexed(self.list())
         return 'reply now=%d t1=%d t4=%d' % self.arrival() + ' packet=%s auth=%d plain=%s list=%s' % (hexed(packet), end, hexed(plain), listed)
 
-    def reply5(self):
+    def reply5(self) -> str:
         rng, a = self.rng, self.record
         kiss = ','.join(k for k in ('rate', 'deny', 'rstr', 'ntsn', 'any') if rng.random() < 0.06) or '-'
         group = lambda: rng.choice(('absent', 'agree', 'agree', 'disagree'))
@@ -123,22 +113,22 @@ class Logs:
                rng.randint(-128, 127), whole(), whole(), rng.randrange(2**64), rng.randrange(2**64), a.id if rng.random() < 0.9 else rng.randrange(2**64), kiss, group(),
                group(), group(), hexed(self.list())))
 
-    def accept(self):
+    def accept(self) -> str:
         rng, a = self.rng, self.record
         local = rng.choice(('-', '%08x' % a.source, '00000001,%08x,00000003' % a.source, '00000002'))
         return 'accept stratum=%d local=%s bloom=%s' % (rng.choice((1, 2, 3, 16, 17, 255, rng.randrange(256))), local, rng.choice(('none', 'none', 'absent', 'present')))
 
-    def collect(self):
+    def collect(self) -> str:
         return 'collect plain=%s room=%d' % (hexed(self.packet()[2]), self.rng.choice((4096, 4096, 0, 100, 104, self.rng.randrange(300))))
 
-    def request(self):
+    def request(self) -> str:
         rng = self.rng
         cookie = self.cookie if rng.random() < 0.5 else self.cookie_of()
         return 'request kind=%s poll=%d id=%s mark=%s uid=%s cookie=%s asked=%d room=%d' % (
             rng.choice(('v4', 'v4-upgrade', 'v5', 'nts-v4', 'nts-v4', 'nts-v4', 'nts-v5')), rng.randint(-128, 127), self.bytes(8).hex(), self.bytes(8).hex(), self.bytes(32).hex(),
             hexed(cookie), rng.choice((0, 1, 3, 7, 8, 9, rng.randrange(256))), rng.choice((6144, 6144, 852, 47, 48, rng.randrange(1000))))
 
-    def salvage(self):
+    def salvage(self) -> str:
         rng, damaged = self.rng, self.list()
         for _ in range(rng.choice((0, 1, 1, 3, 40))):  # bytes lost, changed or put in
             at = rng.randrange(len(damaged) + 1)
@@ -146,7 +136,7 @@ class Logs:
         damaged = damaged[:4096]
         return 'salvage list=%s room=%d' % (hexed(damaged), rng.choice((4096, len(damaged), max(len(damaged) - 1, 0))))
 
-    def repeats(self):
+    def repeats(self) -> List[int]:
         """mostly ones that divide 1440, the small ones more often: they crowd the day"""
         rng = self.rng
         few = (1, 2, 3, 4, 5, 6, 8, 9, 10, 12, 15, 16, 20, 60)
@@ -154,15 +144,15 @@ class Logs:
         some = [rng.choice(few + (24, 30, 90, 144, 720, 1440)) if rng.random() < 0.99 else rng.choice((0, 7, 1441, 2880, 65535)) for _ in range(count)]
         return [rng.choice((60, 720, 1440)) for _ in some] if count > 60 and rng.random() < 0.5 else some
 
-    def calendar(self):
+    def calendar(self) -> str:
         rng = self.rng
         entries = ['%d/%d' % (rng.randrange(r) if r and rng.random() < 0.99 else rng.choice((r, 1440, 65535)), r) for r in self.repeats()]
         return 'calendar cap=%d entries=%s' % (rng.choice((0, 1, 1, 2, 3, 5, 64, 255)), ','.join(entries) or '-')
 
-    def plan(self):
+    def plan(self) -> str:
         return 'plan cap=%d repeats=%s' % (self.rng.choice((0, 1, 1, 2, 3, 5, 64, 255)), ','.join(map(str, self.repeats())) or '-')
 
-    def poke(self):
+    def poke(self) -> str:
         rng = self.rng
         key = rng.choice(('reach', 'tries', 'last', 'remote', 'stratum', 'refid', 'read', 'held', 'min', 'max', 'startup', 'window', 'id', 'uid', 'deadline', 'answered', 'unanswered', 'capacity',
                           'slotbyte', 'version', 'version', 'start'))
@@ -177,15 +167,15 @@ class Logs:
         }[key]
         return 'poke key=%s value=%s' % (key, value)
 
-    def unanswered(self):
+    def unanswered(self) -> str:
         """behind a reach that was set by hand: the number that goes with it, so that the record is whole again"""
         return 'poke key=unanswered value=%d' % self.model.unanswered(self.record.reach)
 
-    def save(self):
+    def save(self) -> str:
         length = len(self.model.handover(self.record)) if self.record.whole() else 64
         return 'save room=%d' % self.rng.choice((8192, 8192, 5872, length, length - 1, 0))
 
-    def load(self):
+    def load(self) -> str:
         """the last file that was written, at times as an old one, without the capacity or with a version that is retired or upgraded, and at times with a byte of it
         changed or its end cut"""
         rng, f = self.rng, self.file
@@ -199,7 +189,7 @@ class Logs:
             f = rng.choice((f[:at] + self.bytes(1) + f[at + 1:], f[:at], f + self.bytes(1), f[:4] + self.bytes(1) + f[5:], b'S' + f[:at]))
         return 'load file=' + hexed(f)
 
-    def compare(self):
+    def compare(self) -> str:
         """the last file that was written and the file of the record as it is, one of them damaged at times"""
         rng = self.rng
         now = self.model.handover(self.record) if self.record.whole() else self.file
@@ -213,7 +203,7 @@ class Logs:
 
     # ---- a log
 
-    def steps(self, count):
+    def steps(self, count: int) -> Iterator[str]:
         """lines of so many steps, each with what it leaves shown behind it; the first is a `new` or a `metered`"""
         rng, left = self.rng, 0
         for _ in range(count):

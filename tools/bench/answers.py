@@ -8,7 +8,7 @@ import stat
 import subprocess
 import threading
 from collections.abc import Iterable, Iterator, Sequence
-from typing import NamedTuple
+from typing import Any, NamedTuple
 
 import ends
 import human
@@ -88,7 +88,7 @@ def prepared(line: int, text: str) -> tuple[dict[str, str] | None, Asked | None]
     return names, Asked(line, text, human.translated(text)) if text and not text.startswith('#') else None
 
 
-def started(**how) -> subprocess.Popen:
+def started(**how: Any) -> subprocess.Popen:
     """the program. What it says beside its answers is not for here; a pipe that nobody reads would stop it"""
     return subprocess.Popen(program.drill(), stdin=subprocess.PIPE, stdout=subprocess.PIPE, stderr=subprocess.DEVNULL, **how)
 

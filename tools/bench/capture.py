@@ -3,10 +3,8 @@
 Requests become `new` and `timer` lines, replies `reply` lines; `now`, T1 and T4 are the capture's clock. What a capture cannot say is said in comments.
 Nothing is written unless the whole capture was read; what was skipped on the way is counted and said, with the reason. packets.py reads the capture.
 
-Where the rules give up in the middle (a reset), a caller makes a new association. tools/reference, RULES in Python, says where that is."""
+Where the rules give up in the middle (a reset), a caller makes a new association. `Association` says where that is; tests/capture holds it to the drill."""
 import collections
-import importlib.machinery
-import importlib.util
 import ipaddress
 import os
 import re
@@ -14,12 +12,12 @@ import stat
 import struct
 import sys
 from datetime import datetime, timezone
-from typing import BinaryIO, NamedTuple, NoReturn, Optional, Sequence
+from typing import BinaryIO, Collection, Iterable, NamedTuple, NoReturn, Optional, Sequence
 
 import ends
 import human
 import packets
-from program import ROOT
+import replies
 
 PORT = 123
 MOST = 200_000          # packets of one box that a log is made of
@@ -28,8 +26,10 @@ LAST = 2**63            # nanoseconds since 1970, in the year 2262: no capture's
 VIEWS = 10**7           # nanoseconds within which one packet is seen at two interfaces
 UPGRADE_MARK = 0x4e54503544524654  # NTP5DRFT
 UNIX = (70 * 365 + 17) * 86400     # seconds from 1900 to 1970
-UID, COOKIE, AUTHENTICATOR = 0x0104, 0x0204, 0x0404
+UID, COOKIE, AUTHENTICATOR = replies.UID, 0x0204, 0x0404
 LIST = 4096             # bytes of a cookie list that a line of the drill takes
+LONGEST = 724           # bytes of the longest cookie that a request can carry
+STARTUP, WINDOW, HELD = 3, 5 * 10**9, 8   # as the crate sets them: polls before it gives up, nanoseconds for a reply, cookies that are held
 
 
 # ---- what was skipped
@@ -78,7 +78,7 @@ class Skips:
 class Packet:
     __slots__ = ('at', 'octets', 'way', 'version', 'fields')
 
-    def __init__(self, at: int, octets: bytes, way: tuple):
+    def __init__(self, at: int, octets: bytes, way: tuple) -> None:
         self.at, self.octets, self.way = at, octets, way
         self.version = octets[0] >> 3 & 7
         self.fields = self.walk() if self.version == 4 else []
@@ -115,7 +115,7 @@ Talk = list[tuple[bool, Packet]]  # what goes between a box and a server, in the
 class Site:
     """the NTP packets of a capture by box and server; of the boxes that are wanted, or of all where none is named"""
 
-    def __init__(self, called: str, ports: frozenset[int], wanted: frozenset[bytes]):
+    def __init__(self, called: str, ports: frozenset[int], wanted: frozenset[bytes]) -> None:
         self.called, self.ports, self.wanted = called, ports, wanted
         self.boxes: dict[bytes, dict[Server, Talk]] = {}
         self.asking: set[bytes] = set()       # every box that asks, wanted or not
@@ -189,11 +189,11 @@ def text(octets: bytes) -> str:
     return str(ipaddress.ip_address(octets))
 
 
-def in_order(boxes) -> list[bytes]:
+def in_order(boxes: Iterable[bytes]) -> list[bytes]:
     return sorted(boxes, key=lambda box: (len(box), box))
 
 
-def listed(boxes) -> str:
+def listed(boxes: Collection[bytes]) -> str:
     return ', '.join(text(box) for box in in_order(boxes)[:20]) + (' ..' if len(boxes) > 20 else '')
 
 
@@ -221,28 +221,49 @@ def moment(ns: int) -> str:
 
 # ---- the log
 
-def reference():
-    loader = importlib.machinery.SourceFileLoader('reference', os.path.join(ROOT, 'tools', 'reference'))
-    module = importlib.util.module_from_spec(importlib.util.spec_from_loader('reference', loader))
-    loader.exec_module(module)
-    return module
+class Association:
+    """what the rules make of the lines of one association (RULES, parts 10 and 11), as far as the log depends on it: whether a poll is sent, and a reply measured"""
+
+    def __init__(self, nts: bool, versions: tuple[int, ...], cookies: Sequence[bytes]) -> None:
+        self.nts, self.versions = nts, versions
+        self.cookies: collections.deque[int] = collections.deque(map(len, cookies), HELD)
+        self.reach = self.tries = 0
+        self.awaited: Optional[tuple[int, bytes, int]] = None   # identifier, unique identifier, deadline
+
+    def timer(self, now: int, ident: int, uid: bytes) -> bool:
+        if self.reach == 0 and self.tries >= STARTUP:
+            return False
+        self.reach, self.tries = self.reach << 1 & 255, self.tries + 1
+        if self.nts and (not self.cookies or self.cookies.popleft() > LONGEST):
+            return False
+        self.awaited = ident, uid if self.nts else replies.NO_UID, now + WINDOW
+        return True
+
+    def reply(self, now: int, octets: bytes, auth: int, cookies: Sequence[bytes]) -> bool:
+        if self.awaited is None or self.awaited[2] < now:
+            return False
+        ident, uid, _ = self.awaited
+        reply = replies.read(octets, auth, b'', self.nts, uid)
+        if reply is None or reply.version not in self.versions or not replies.answers(reply, self.nts, ident):
+            return False
+        if reply.kisses or reply.stratum > 16 or not reply.server:
+            return False
+        self.reach, self.awaited = self.reach | 1, None
+        self.cookies.extend(map(len, cookies))
+        return True
 
 
 class Log:
-    """the lines of one association after another"""
+    """the lines of a log"""
 
-    def __init__(self, rules):
-        self.rules, self.lines = rules, []
+    def __init__(self) -> None:
+        self.lines: list[str] = []
 
-    def say(self, line):
+    def say(self, line: str) -> None:
         self.lines.append('# ' + line)
 
-    def ask(self, line):
-        """adds a line; gives the number that the rules answer"""
-        self.record, said = self.rules.answer(self.record, line)
+    def add(self, line: str) -> None:
         self.lines.append(line)
-        words = said.split(' ')
-        return int(words[1]) if len(words) > 1 and words[1].isdigit() else None
 
 
 def fitting(cookies: list[bytes]) -> list[bytes]:
@@ -262,41 +283,44 @@ def association(log: Log, server: Server, talk: Talk, midnight: int) -> None:
     requests = [p for asks, p in talk if asks]
     first = requests[0]
     nts = any(p.field(COOKIE) for p in requests)
-    start = 'v5' if first.version == 5 else 'upgrading:8' if int.from_bytes(first.octets[16:24], 'big') == UPGRADE_MARK else 'v4'
-    cookies = [p.field(COOKIE)[1] for p in requests if p.field(COOKIE)]
+    upgrades = first.version != 5 and int.from_bytes(first.octets[16:24], 'big') == UPGRADE_MARK
+    start, versions = ('v5', (5,)) if first.version == 5 else ('v4', (3, 4))
+    cookies = [found[1] for found in (p.field(COOKIE) for p in requests) if found]
     used = 0
 
-    def new():
-        held = fitting(cookies[used:used + 8])
-        return 'new min=4 max=10 startup=3 window=5000000000 mark=%016x start=%s nts=%s source=%s list=%s' % (
-            UPGRADE_MARK, start, 'yes' if nts else 'no', human.identifier(text(server.address)), cookie_list(held) if nts else '-')
+    def new() -> Association:
+        held = fitting(cookies[used:used + HELD])
+        log.add('new min=4 max=10 startup=%d window=%d mark=%016x start=%s nts=%s source=%s list=%s' % (
+            STARTUP, WINDOW, UPGRADE_MARK, start, 'yes' if nts else 'no', human.identifier(text(server.address)), cookie_list(held) if nts else '-'))
+        return Association(nts, versions, held)
 
-    def timer(p):
+    def timer(p: Packet) -> bool:
+        """asks for the poll of a request; whether it is sent"""
         uid = p.field(UID)
         poll = p.octets[2] - 256 if p.octets[2] > 127 else p.octets[2]
-        return 'timer now=%d desired=%d id=%s%s' % (p.at - midnight, poll, p.ident(), ' uid=' + uid[1][:32].hex() if nts and uid and len(uid[1]) >= 32 else '')
+        named = uid[1][:32] if nts and uid and len(uid[1]) >= 32 else b''
+        log.add('timer now=%d desired=%d id=%s%s' % (p.at - midnight, poll, p.ident(), ' uid=' + named.hex() if named else ''))
+        return made.timer(p.at - midnight, int(p.ident(), 16), named or replies.NO_UID)
 
     log.say('server %s: %d requests, %d replies' % (server, len(requests), len(talk) - len(requests)))
     log.say('not in a capture, and set as the crate sets it: min, max, startup, window' + (', and the cookies of the key exchange' if nts else ''))
     if nts:
         log.say('NTS: the cookies are those that the requests of this capture carried; new ones come encrypted in the replies, and stand in list= of a reply in time')
         log.say('NTS: decrypted bytes (plain=) are left out, since a capture has none; that each 0404 field deciphers is taken as given')
-    log.record = log.rules.Record()
-    if log.rules.answer(log.rules.Record(), new())[1].split(' ')[1] != '0' and start != 'v4':
-        log.say('the requests are of an association that starts as %s, which the rules refuse; v4 stands here instead' % start)
-        start = 'v4'
-    log.ask(new())
-    given, asked = len(fitting(cookies[:8])), None
+    if upgrades:
+        log.say('the requests are of an association that starts as upgrading:8, which the rules refuse; v4 stands here instead')
+    made = new()
+    given, asked = len(fitting(cookies[:HELD])), None
     for asks, p in talk:
         if asks:
             log.say('%s UTC, request of version %d' % (moment(p.at), p.version))
             if p.version == 5:
                 log.say('version 5 is a draft: the request stands here by its client cookie')
-            if log.ask(timer(p)) in (21, 22, 23, 24):
+            if not timer(p):
                 log.say('the rules give up here, and the caller makes a new association, which sends this request')
-                log.ask(new())
-                given = used + len(fitting(cookies[used:used + 8]))
-                log.ask(timer(p))
+                made = new()
+                given = used + len(fitting(cookies[used:used + HELD]))
+                timer(p)
             asked = p
             used += 1 if p.field(COOKIE) else 0
             continue
@@ -308,13 +332,13 @@ def association(log: Log, server: Server, talk: Talk, midnight: int) -> None:
             log.say('left out: of version 5, whose decoding is the caller\'s (reply5)')
             continue
         place = p.field(AUTHENTICATOR)
-        more = fitting(cookies[given:used + 8]) if nts else []
-        line = 'reply now=%d t1=%d t4=%d packet=%s%s%s' % (p.at - midnight, stamp(asked.at), stamp(p.at), p.octets[:4096].hex(), ' auth=%d' % place[0] if place else '',
-                                                           ' list=' + cookie_list(more) if more else '')
-        if log.ask(line) == 0:
+        more = fitting(cookies[given:used + HELD]) if nts else []
+        log.add('reply now=%d t1=%d t4=%d packet=%s%s%s' % (p.at - midnight, stamp(asked.at), stamp(p.at), p.octets[:4096].hex(), ' auth=%d' % place[0] if place else '',
+                                                            ' list=' + cookie_list(more) if more else ''))
+        if made.reply(p.at - midnight, p.octets[:4096], place[0] if place else 48, more):
             given += len(more)
-        log.ask('accept stratum=16')
-    log.ask('show')
+        log.add('accept stratum=16')
+    log.add('show')
 
 
 # ---- a log for each box
@@ -323,8 +347,8 @@ TOO_MANY = 'more than %d NTP packets: cut the capture first (tcpdump -r FILE -w 
 HEAD = 'box %s, made from %s by ./drill --capture'
 
 
-def log_of(site: Site, box: bytes, rules, source: str) -> bytes:
-    log, servers = Log(rules), site.boxes[box]
+def log_of(site: Site, box: bytes, source: str) -> bytes:
+    log, servers = Log(), site.boxes[box]
     midnight = site.start - site.start % (86400 * 10**9)
     log.say(HEAD % (text(box), source.encode('ascii', 'replace').decode()))
     log.say('the capture begins %s UTC; now= counts from the midnight before, and T1 and T4 are the clock of the machine that captured:' % moment(site.start))
@@ -390,7 +414,7 @@ def write_one(path: str, box: bytes, octets: bytes) -> str:
     return ', made anew; the one before is %s~' % path if before is not None else ''
 
 
-def write_all(site: Site, folder: str, rules, source: str) -> int:
+def write_all(site: Site, folder: str, source: str) -> int:
     """the logs of all boxes into a folder; how many stand there then"""
     made = 0
     try:
@@ -398,7 +422,7 @@ def write_all(site: Site, folder: str, rules, source: str) -> int:
     except OSError as fault:
         ends.die('the folder %s cannot be made: %s' % (folder, fault.strerror))
     for box in in_order(site.boxes):
-        path, octets = os.path.join(folder, file_of(box)), log_of(site, box, rules, source)
+        path, octets = os.path.join(folder, file_of(box)), log_of(site, box, source)
         try:
             became = write_one(path, box, octets)
         except FileExistsError as fault:
@@ -474,9 +498,9 @@ def main(name: str, boxes: Sequence[str] = (), server: Optional[str] = None, por
     choose(site, only, folder is None)
     source, made = os.path.basename(site.called), 1
     if folder is None:
-        ends.write(log_of(site, next(iter(site.boxes)), reference(), source))
+        ends.write(log_of(site, next(iter(site.boxes)), source))
     else:
-        made = write_all(site, folder, reference(), source)
+        made = write_all(site, folder, source)
     skipped = site.skipped()
     if skipped:
         ends.say('%s: %s' % (site.called, skipped))

@@ -2,11 +2,12 @@
 import os
 import select
 import sys
+from typing import NoReturn
 
 ALL_ANSWERED, A_LINE_ERRED, FAILED = 0, 1, 2
 
 
-def say(text):
+def say(text: str) -> None:
     """a line of the bench's own, beside the answers"""
     try:
         os.write(2, ('drill: %s\n' % text).encode('utf-8', 'replace'))
@@ -14,17 +15,17 @@ def say(text):
         pass  # nobody listens
 
 
-def die(text):
+def die(text: str) -> NoReturn:
     say(text)
     sys.exit(FAILED)
 
 
-def write(data):
+def write(data: bytes) -> None:
     """to standard output, at once and all of it; a reader that has gone away is no news, anything else is said"""
-    data = memoryview(data)
-    while data:
+    left = memoryview(data)
+    while left:
         try:
-            data = data[os.write(1, data):]
+            left = left[os.write(1, left):]
         except BlockingIOError:
             select.select([], [1], [])
         except BrokenPipeError:
@@ -33,12 +34,12 @@ def write(data):
             die('standard output cannot be written: %s' % fault.strerror)
 
 
-def wait_status(code):
+def wait_status(code: int) -> str:
     """an ended program's status in words"""
     return 'signal %d' % -code if code < 0 else 'status %d' % code
 
 
-def contents(name):
+def contents(name: str | None) -> bytes:
     """the bytes of a file, a FIFO or /dev/stdin; `-` and no name are standard input"""
     try:
         if name in (None, '-'):
@@ -50,7 +51,7 @@ def contents(name):
         die('%s cannot be read: %s' % (name or 'standard input', fault.strerror))
 
 
-def need_stdin():
+def need_stdin() -> None:
     if os.environ.get('DRILL_STDIN') == 'folder':
         die('standard input cannot be read: it is a folder')
     if os.environ.get('DRILL_STDIN') == 'closed':

@@ -34,7 +34,7 @@ SECOND, ERA = 2**32, 2**64
 BOM8, BOM16 = b'\xef\xbb\xbf', (b'\xff\xfe', b'\xfe\xff')  # byte order marks of UTF-8 and UTF-16
 
 
-def seconds(text):
+def seconds(text: str) -> Fraction | None:
     """what a duration or a time of day stands for, in seconds; None for anything else"""
     found = DURATION.fullmatch(text)
     if found:
@@ -45,7 +45,7 @@ def seconds(text):
     return None
 
 
-def moment(text):
+def moment(text: str) -> int | None:
     """a date and time in UTC as an NTP timestamp: 2^-32 s since 1900, rounded down, of its era"""
     found = MOMENT.fullmatch(text)
     if not found:
@@ -57,7 +57,7 @@ def moment(text):
     return int((Fraction((whole - EPOCH) // timedelta(seconds=1)) + Fraction('0' + (found[2] or ''))) * SECOND) % ERA
 
 
-def identifier(text):
+def identifier(text: str) -> str | None:
     """an address's identifier: an IPv4 address itself, of an IPv6 address the first four bytes of its MD5 (docs/EMBEDDING.md)"""
     try:
         address = ipaddress.ip_address(text)
@@ -67,7 +67,7 @@ def identifier(text):
     return octets.hex()
 
 
-def plain(unit, text):
+def plain(unit: str, text: str) -> str:
     """the plain number that a value of this unit stands for; the value itself where it is no form that people write"""
     if unit == 'timestamp':
         stamp = moment(text)
@@ -142,12 +142,12 @@ def lines_of(octets: bytes) -> list[str]:
 MAYBE = re.compile(r'[:.TZsmhd]')  # one of these is in every form that people write
 
 
-def unit_of(word, pairs):
+def unit_of(word: str, pairs: Mapping[str, str]) -> str | None:
     """the unit of a key in a line: that of `value` is its `key`'s"""
-    return UNITS.get(pairs.get('key')) if word == 'value' else UNITS.get(word)
+    return UNITS.get(pairs.get('key', '') if word == 'value' else word)
 
 
-def translated(line):
+def translated(line: str) -> str:
     """a line with plain numbers"""
     if not MAYBE.search(line):
         return line
@@ -178,7 +178,8 @@ def tick(ns: int) -> str:
 
 def round_tick(ns: int) -> str:
     """a tick that an axis names, without the parts that are zero and without a fraction: 2d06h, 3h15m, 40s, 250ms"""
-    parts, rest = [], ns // 10**6
+    parts: list[str] = []
+    rest = ns // 10**6
     for unit, size in (('d', 86400000), ('h', 3600000), ('m', 60000), ('s', 1000), ('ms', 1)):
         count, rest = divmod(rest, size)
         if count:
@@ -241,6 +242,17 @@ def span(ns: int) -> str:
 def length(ns: int) -> str:
     """a length of time, however long: what is below a minute as span has it, longer ones in h, min and s"""
     return span(ns) if ns < 60 * 10**9 else apart(ns * SECOND // 10**9)
+
+
+def every(exponent: str | int) -> str:
+    """an exponent of two, in seconds, as a length of time"""
+    n = int(exponent)
+    return span(2**n * 10**9) if n >= 0 else '1/%d s' % 2**-n
+
+
+def bits(value: str | int) -> str:
+    """the eight bits of reach"""
+    return format(int(value), '08b')
 
 
 def address(digits: str, names: Mapping[str, str] = MappingProxyType({})) -> str:

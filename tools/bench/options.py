@@ -30,56 +30,57 @@ class Mode(NamedTuple):
     also: tuple[str, ...] = ()          # other words for it: -h
 
 
-FAR = Option('--far', 'LENGTH', 'from which offset on a box is doubtful: 1s where nothing is said')
-NOT_UP = 'where a box is not up'
-FOLDER = 'Of a FOLDER its files `*.drill` are read.'
+FAR = Option('--far', 'LENGTH', 'the offset above which a box is doubtful: 1s by default')
+NOT_UP = 'if a box is not up'
+NEVER = 'never, such a box is unreadable'
+FOLDER = 'In a FOLDER the files `*.drill` are read.'
 
 MODES = (
     Mode('', (('FILE', 'answer each line of the log FILE; a FIFO and /dev/stdin are files too'),
               ('', 'the same for standard input, a line at a time: another program can hold a conversation with it')), LOGS,
-         more=('Each line is answered by the proved program, before the next is waited for. '
-               'What is wrong with a line that is answered `error` is said on standard error.',)),
-    Mode('--explain', (('[--far LENGTH] FILE', 'tell the log in plain words: when, what was asked, what was answered and why, what changed in the record'),), LOGS,
+         more=('The proved program answers each line before it reads the next. '
+               'Standard error says what is wrong with a line that is answered `error`.',)),
+    Mode('--explain', (('[--far LENGTH] FILE', 'the log in plain words: when, what was asked, what was answered and why, what changed in the record'),), LOGS,
          (FAR,)),
     Mode('--page', (('[--far LENGTH] FILE|FOLDER.. >MORNING.html', 'one page for a whole fleet: totals, a table and a strip for each log, to look at in a browser and to print'),), LOGS,
-         (FAR,), three=NOT_UP, more=(FOLDER,)),
+         (FAR,), one=NEVER, three=NOT_UP, more=(FOLDER,)),
     Mode('--watch', (('FOLDER --page OUT.html [--every SECONDS] [--far LENGTH]',
-                      'the same page of a folder whose logs grow, made again and again until Ctrl-C; in a browser it comes again by itself'),), FOLDERS,
+                      'the same page for a folder whose logs grow, made again and again until Ctrl-C; in a browser it reloads itself'),), FOLDERS,
          (Option('--page', 'OUT.html', 'where the page is written, in one step', offers=('*.html',)),
-          Option('--every', 'SECONDS', 'so often it is made again: 5 where nothing is said'),
+          Option('--every', 'SECONDS', 'how often it is made again: every 5 seconds by default'),
           FAR),
          more=(FOLDER + ' Only what grew is read; a log that was cut or replaced is read anew, and one that is gone stays on the page and says so. '
                'A box whose log has not grown for longer than its poll interval allows says `not heard since`.',
-               'Ctrl-C ends it with status 0, and leaves a last page that does not come again.')),
+               'Ctrl-C ends it with status 0, and leaves a last page that does not reload.')),
     Mode('--summary', (('[--json|--csv] [--since OLD.json] [--far LENGTH] FILE|FOLDER..',
-                        'a row for each box: up, doubtful, lost, never or unreadable, why, and what to do; for people, or for a console'),), LOGS,
+                        'a row for each box, the worst first: unreadable, never, lost, doubtful or up, and why; for people, or for a program'),), LOGS,
          (Option('--json', '', 'the rows as an array of objects'),
           Option('--csv', '', 'the rows as a table with a header'),
           Option('--since', 'OLD.json', 'say which boxes are newly down, recovered, new and missing since an earlier --json', offers=('*.json',)),
-          FAR), three=NOT_UP, more=(FOLDER, 'docs/DRILL.md, "What became of a box", has the rules and the keys.')),
+          FAR), one=NEVER, three=NOT_UP, more=(FOLDER, 'docs/DRILL.md has the rules ("What became of a box"), the keys and an example of two days ("A summary of many boxes").')),
     Mode('--capture', (('FILE.pcap [--box ADDRESS] [--server ADDRESS] [--port N].. >FILE.drill',
                         'make a log from a capture (pcap or pcapng) of a box\'s NTP traffic'),
                        ('FILE.pcap --all FOLDER [--box ADDRESS].. [--server ADDRESS] [--port N]..',
                         'the same for a whole site: a log for each box, FOLDER/ADDRESS.drill')),
          CAPTURES,
-         (Option('--all', 'FOLDER', 'write a log for each box into FOLDER, which is made where there is none', offers=FOLDERS),
-          Option('--box', 'ADDRESS', 'only this box; with --all as often as wanted', repeats=True),
+         (Option('--all', 'FOLDER', 'write a log for each box into FOLDER, which is made if there is none', offers=FOLDERS),
+          Option('--box', 'ADDRESS', 'only this box; with --all it may be given more than once', repeats=True),
           Option('--server', 'ADDRESS', 'only what is asked of this server'),
-          Option('--port', 'N', 'NTP is on this port and not on 123; as often as wanted', repeats=True)),
+          Option('--port', 'N', 'NTP is on this port and not on 123; it may be given more than once', repeats=True)),
          more=('`-` for FILE.pcap is standard input: `tcpdump -s 0 -w - udp port 123 | ./drill --capture -`.',
-               'Read are Ethernet, raw IP, PPP, loopback and Linux "any" (both forms), with VLAN tags (0x8100, 0x88a8, 0x9100), PPPoE and MPLS in any order. '
-               'A packet that was seen at two interfaces counts once.',
-               'What is skipped is said on standard error, with the reason and a count: packets that the snap length cut (capture with `-s 0`), '
-               'IP fragments, other ports, and so on. Where no log can be made that stands in the refusal.',
+               "The link may be Ethernet, raw IP, PPP, Cisco's HDLC, MPLS, a loopback or Linux \"any\" (both forms), with VLAN tags (0x8100, 0x88a8, 0x9100, 0x9200), "
+               'PPPoE and MPLS in any order. A packet that was seen at two interfaces counts once.',
+               'Standard error says what is skipped, with the reason and a count: packets that the snap length cut (capture with `-s 0`), '
+               'IP fragments, other ports, and so on. If no log can be made, the error says so.',
                'With `--all` there is a line for each box on standard error. A file is named by the box\'s address, with `-` for each colon, and is '
-               'written whole or not at all. A log that an earlier run made of the same box is made anew, and the one before is kept with `~` behind '
-               'its name; any other file is left alone. The status is 0 where at least one log is there, and 2 where none is.')),
-    Mode('--compare', (('LEFT RIGHT', 'tell in plain words in which fields two hand-over files differ, of boxes that behave differently'),), FILES,
-         one='where a file cannot be read as one', three='where the two differ'),
+               'written whole or not at all. A log that an earlier run made of the same box is made anew, and the one before is kept with `~` after '
+               'its name; any other file is left alone. The status is 0 if at least one log is there, and 2 if none is.')),
+    Mode('--compare', (('LEFT RIGHT', 'the fields in which two hand-over files differ, in plain words, for boxes that behave differently'),), FILES,
+         one='if a file cannot be read as one', three='if the two differ'),
     Mode('--strike', (('FILE', 'strike the replies that answer nothing, by the log alone, and replay the shorter log beside the whole one'),), LOGS,
-         one='also where demand 3 is not seen to hold'),
+         one='also if demand 3 is not seen to hold'),
     Mode('--raw', (('[FILE]', 'the proved program alone: no forms for people, no word about errors, and always the program\'s own status'),), LOGS),
-    Mode('--ready', (('', 'say whether the program is proved and built; build nothing'),), one='where it is not'),
+    Mode('--ready', (('', 'say whether the program is proved and built; build nothing'),), one='if it is not'),
     Mode('--version', (('', 'the version of this repository, as its file VERSION has it'),)),
     Mode('--help', (('', 'this text'),), also=('-h',), more=('It is made from the same table as this page.',)),
 )
@@ -107,21 +108,22 @@ TITLE = 'replay a log of calls against the proved association'
 LANGUAGE = 'A log has a command to a line; empty lines and lines that begin with # are skipped:'
 FORMS = 'Times may be written as 03:00:00, 5s or 250ms, wall clocks as 2026-11-15T03:00:00.04Z, addresses as 192.0.2.1.'
 PAPERS = 'docs/DRILL.md says what each key takes, docs/NUMBERS.md what each number means; drills/ has logs to start from.'
-FIRST_RUN = 'The first run proves and builds the program, which takes some minutes.'
+FIRST_RUN = 'The first run proves and builds the program: it needs rt, and takes about ten minutes on two cores. --ready says whether that is done.'
 STREAMS = 'Answers go to standard output, all else to standard error.'
-ZERO, TWO = 'where every line was answered', 'on bad usage, where reading or writing failed, or where a capture gives no log'
+ZERO = 'if every line was answered, and with --page and --summary every box is up'
+TWO = 'on bad usage, if reading or writing failed, if there is no log to read or it has no command, or if a capture gives no log'
 
 
 # What the man page has beside the options.
 ENVIRONMENT = (
     ('DRILL', 'The program that --explain, --page, --watch, --summary, --compare and --strike run in the proved one\'s place; for tests.'),
-    ('NO_COLOR', 'Where it is set, --explain has no colours.'),
-    ('RATTLE_HOME', 'The folder of the toolchain, where it is not the one of the rt on the PATH.'),
+    ('NO_COLOR', 'If it is set, --explain has no colours.'),
+    ('RATTLE_HOME', 'The folder of the toolchain, if it is not that of the rt on the PATH.'),
 )
 KEPT = (
     ('target/bin/drill', 'The program.'),
-    ('target/drill.stamp', 'What the program was proved from. Without it, or with another, the program is proved and built anew.'),
-    ('target/drill.log', 'What the toolchain said while it was proved and built.'),
+    ('target/drill.stamp', 'What the program was proved from. If it is missing or differs, the program is proved and built anew.'),
+    ('target/drill.log', 'What the toolchain printed while it was proved and built.'),
 )
 EXAMPLES = (
     ('./drill drills/modem-overnight.drill', 'Replay a bad morning:'),
@@ -131,12 +133,13 @@ EXAMPLES = (
 
 
 def one_words() -> str:
-    """where ./drill ends with 1"""
-    return 'where a line was answered `error` (%s)' % '; '.join('%s: %s' % (mode.word, mode.one) for mode in MODES if mode.one)
+    """when ./drill ends with 1"""
+    modes = {mode.one: [other.word for other in MODES if other.one == mode.one] for mode in MODES if mode.one}
+    return 'if a line was answered `error` (%s)' % '; '.join('%s: %s' % (', '.join(words), when) for when, words in modes.items())
 
 
 def three_words() -> str:
-    """where ./drill ends with 3"""
+    """when ./drill ends with 3"""
     modes = {mode.three: [other.word for other in MODES if other.three == mode.three] for mode in MODES if mode.three}
     return ' or '.join('%s (%s)' % (when, ', '.join(words)) for when, words in modes.items())
 

@@ -2,7 +2,7 @@
 
 `frames` gives the frames of a capture, `udp_in` the UDP packet inside a frame, whatever it is wrapped in. Where there is none to be had, `Skipped` says why."""
 import struct
-from typing import BinaryIO, Iterator, NamedTuple, Optional
+from typing import Any, BinaryIO, Callable, Iterator, NamedTuple, Optional
 
 LARGEST = 16 * 2**20    # bytes of one block; more is damage
 NO_TIME = -1
@@ -32,7 +32,7 @@ class Udp(NamedTuple):
 class Skipped(Exception):
     """why a frame gives no NTP packet: a key of REASONS in capture.py, and what is known beside it"""
 
-    def __init__(self, why: str, what: object = None):
+    def __init__(self, why: str, what: object = None) -> None:
         super().__init__(why, what)
         self.why, self.what = why, what
 
@@ -40,7 +40,7 @@ class Skipped(Exception):
 # ---- files
 
 class Reader:
-    def __init__(self, f: BinaryIO):
+    def __init__(self, f: BinaryIO) -> None:
         self.f, self.at, self.frames = f, 0, 0
 
     def take(self, n: int, what: str, end_is_fine: bool = False) -> Optional[bytes]:
@@ -92,7 +92,8 @@ def interface(body: bytes, order: str) -> Interface:
 
 
 def pcapng(r: Reader) -> Iterator[Frame]:
-    order, known = '<', []
+    order = '<'
+    known: list[Interface] = []
     head = b'\x0a\x0d\x0d\x0a' + r.take(4, 'the head')
     while True:
         kind = struct.unpack(order + 'I', head[:4])[0]
@@ -160,7 +161,7 @@ def behind(b: bytes, at: int, mark: bytes) -> int:
 
 
 # A link type: what its first head says that follows, and where that begins.
-LINKS = {
+LINKS: dict[int, Callable[[bytes], tuple[Any, int]]] = {
     1: lambda b: (u16(b, 12), 14),                                               # Ethernet
     **dict.fromkeys((12, 14, 101, 228, 229), lambda b: (IP, 0)),                 # raw IP
     **dict.fromkeys((0, 108), lambda b: (IP, 4)),                                # loopback of BSD

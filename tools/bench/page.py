@@ -245,7 +245,7 @@ class Group(NamedTuple):
     """boxes that are counted, and shown alone when their number is clicked"""
     word: str
     sign: str
-    count: int
+    many: int
 
 
 def groups_of(boxes: list[Box]) -> tuple[list[Group], list[Group], dict[str, str]]:
@@ -262,7 +262,7 @@ def groups_of(boxes: list[Box]) -> tuple[list[Group], list[Group], dict[str, str
 
 
 def chip(group: Group, key: str) -> str:
-    return '<button type="button" class="chip" disabled data-f="%s">%s <b>%d</b> %s</button>' % (key, group.sign, group.count, esc(group.word))
+    return '<button type="button" class="chip" disabled data-f="%s">%s <b>%d</b> %s</button>' % (key, group.sign, group.many, esc(group.word))
 
 
 def spanned(boxes: list[Box]) -> str:

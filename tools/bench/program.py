@@ -19,21 +19,21 @@ STAMP = os.path.join(TARGET, 'drill.stamp')
 LOG = os.path.join(TARGET, 'drill.log')
 
 
-def sha256(*pieces):
+def sha256(*pieces: bytes) -> str:
     h = hashlib.sha256()
     for piece in pieces:
         h.update(piece)
     return h.hexdigest()
 
 
-def contents(path):
+def contents(path: str) -> bytes:
     with open(path, 'rb') as f:
         return f.read()
 
 
 # ---- the toolchain
 
-def kit():
+def kit() -> str:
     """the folder of the toolchain"""
     rt = shutil.which('rt')
     if not rt:
@@ -41,7 +41,7 @@ def kit():
     return os.environ.get('RATTLE_HOME') or os.path.dirname(os.path.dirname(os.path.realpath(rt)))
 
 
-def command(program=PROGRAM):
+def command(program: str = PROGRAM) -> list[str]:
     """what runs a program: it is for x86-64 Linux, so the toolchain's loader and C library run it, and elsewhere an emulator runs those"""
     home, machine = kit(), platform.machine()
     tools = os.path.join(home, 'on', machine, 'toolchain')
@@ -63,7 +63,7 @@ def command(program=PROGRAM):
 
 # ---- what was proved
 
-def sources():
+def sources() -> str:
     """a digest of all that the program is proved from"""
     pieces = [contents(os.path.join(ROOT, 'crates.txt'))]
     for crate in proving.reached('drill'):
@@ -78,11 +78,11 @@ def sources():
     return sha256(*pieces, contents(identity) if os.path.exists(identity) else b'')
 
 
-def stamp_for(made_from):
+def stamp_for(made_from: str) -> str:
     return 'sources %s\nprogram %s\n' % (made_from, sha256(contents(PROGRAM)))
 
 
-def lacks():
+def lacks() -> str | None:
     """why the program may not run as it stands; nothing where it may"""
     try:
         with open(STAMP) as f:
@@ -100,7 +100,7 @@ def lacks():
 
 # ---- proving and building
 
-def build():
+def build() -> None:
     made_from = sources()
     if os.path.exists(STAMP):
         os.remove(STAMP)
@@ -120,7 +120,7 @@ def build():
     os.replace(STAMP + '.new', STAMP)
 
 
-def ready():
+def ready() -> list[str]:
     """the command that runs the proved program, which is proved and built first where that is missing; of several runs at once one builds"""
     if not lacks():
         return command()
@@ -134,6 +134,6 @@ def ready():
     return command()
 
 
-def drill():
+def drill() -> list[str]:
     """what answers a log on standard input, for the commands that read a log as a whole: $DRILL, or the proved program"""
     return [os.environ['DRILL']] if os.environ.get('DRILL') else ready()

@@ -16,11 +16,11 @@ LONGEST = 32768  # bytes of a line that the program takes
 EXPLAINED = 20   # lines that are explained one by one; the rest are counted
 
 
-def quoted(text, most=60):
+def quoted(text: str, most: int = 60) -> str:
     return '"%s"' % ''.join(c if ' ' <= c <= '~' else '\\x%02x' % ord(c) for c in text[:most]) + ('..' if len(text) > most else '')
 
 
-def oddities(text):
+def oddities(text: str) -> str:
     """what in a text people do not see"""
     names = (('\r', 'a carriage return'), ('\xef\xbb\xbf', 'a byte order mark (BOM)'), ('\t', 'a tab'), ('\0', 'a NUL byte'), ('\xc2\xa0', 'a no-break space'))
     found = [name for sign, name in names if sign in text]
@@ -29,7 +29,7 @@ def oddities(text):
     return ' (it has %s)' % ' and '.join(found) if found else ''
 
 
-def fault(line, what):
+def fault(line: str, what: str) -> str:
     """the sentence for a line that was answered `error`: what is wrong, with the value as it was written, and what to do"""
     words = line.split(' ')
     pairs = [w.partition('=') for w in words[1:]]
@@ -56,10 +56,10 @@ def fault(line, what):
 
 
 class Replay:
-    def __init__(self, name):
+    def __init__(self, name: str) -> None:
         self.name = name
         self.number = self.errors = 0
-        self.asked = collections.deque()  # the lines that wait for an answer, with their numbers
+        self.asked: collections.deque[tuple[int, str]] = collections.deque()  # the lines that wait for an answer, with their numbers
         self.piece = b''                  # what is there of the next line
         self.long = False                 # the line under way is too long, and is passed on as it comes
         self.first = True
@@ -69,7 +69,7 @@ class Replay:
 
     # -- what goes in
 
-    def line(self, octets, end):
+    def line(self, octets: bytes, end: bytes) -> None:
         self.number += 1
         if self.number == 1:
             self.windows = octets.endswith(b'\r')
@@ -81,14 +81,14 @@ class Replay:
                 line = human.translated(text).encode('latin-1')
         self.send += line + end
 
-    def begin(self):
+    def begin(self) -> None:
         """a byte order mark in front of the log: one of UTF-8 is passed over, one of UTF-16 says that the log is none"""
         if self.piece[:2] in human.BOM16:
             ends.die('%s begins with the byte order mark (BOM) of UTF-16: save it as plain text (ASCII or UTF-8)' % self.name)
         self.piece = self.piece.removeprefix(human.BOM8)
         self.first = False
 
-    def more(self, octets):
+    def more(self, octets: bytes) -> None:
         self.piece += octets
         if self.first:
             if len(self.piece) < 3 and b'\n' not in self.piece:
@@ -109,7 +109,7 @@ class Replay:
                 self.send += self.piece
             self.piece, self.long = b'', True
 
-    def over(self):
+    def over(self) -> None:
         if self.first:
             self.begin()
         if self.piece and not self.long:
@@ -118,7 +118,7 @@ class Replay:
 
     # -- what comes out
 
-    def answers(self, octets):
+    def answers(self, octets: bytes) -> None:
         self.got += octets
         end = self.got.rfind(b'\n') + 1
         whole, self.got = self.got[:end], self.got[end:]
@@ -132,7 +132,7 @@ class Replay:
                 if self.errors <= EXPLAINED:
                     say('%s, line %d: %s' % (self.name, number, fault(line, answer.decode('latin-1').split(' ', 2)[-1])))
 
-    def run(self, command, source):
+    def run(self, command: list[str], source: int) -> int:
         drill = subprocess.Popen(command, stdin=subprocess.PIPE, stdout=subprocess.PIPE, bufsize=0)
         os.set_blocking(drill.stdin.fileno(), False)
         reading, unread = True, None
@@ -178,12 +178,12 @@ class Replay:
         return ends.A_LINE_ERRED if self.errors else ends.ALL_ANSWERED
 
 
-def is_file(source):
+def is_file(source: int) -> bool:
     """whether it is a log on a disk, which was meant to have something in it; a conversation may end without a word"""
     return stat.S_ISREG(os.fstat(source).st_mode)
 
 
-def opened(name):
+def opened(name: str | None) -> tuple[int, str]:
     """the log to read, as a descriptor, and its name in what is said of it"""
     if name in (None, '-'):
         ends.need_stdin()
@@ -194,7 +194,7 @@ def opened(name):
         ends.die('%s cannot be read: %s' % (name, fault.strerror))
 
 
-def has_command(source):
+def has_command(source: int) -> bool:
     """whether a file has a line that is neither empty nor a remark; it is read by place, so that the log is still to be read, and nothing is built for it"""
     at, rest = 0, b''
     while True:
@@ -208,7 +208,7 @@ def has_command(source):
         at += len(octets)
 
 
-def replay(name, raw=False):
+def replay(name: str | None, raw: bool = False) -> int:
     """answers a log; `raw` hands it to the program and has nothing to do with it any more"""
     source, called = opened(name)
     if os.path.isdir('/dev/fd/%d' % source):

@@ -5,9 +5,10 @@ needed, since each `show` costs as much as a line.
 A command, a number or a key of the record that this page does not know is passed on as it stands, so that a new one is readable before it has words here."""
 import functools
 import re
-from collections.abc import Iterator, Mapping, Sequence
+from collections.abc import Callable, Iterator, Mapping, Sequence
 
 import answers
+import handover
 import human
 import meanings
 import run
@@ -124,7 +125,7 @@ class Course:
         if step.head == 'poke':
             window = step.given['value'] if step.given['key'] == 'window' else self.window
         elif step.number == 0 and step.head == 'load':
-            window = in_file(bytes.fromhex(step.given['file']))['window']
+            window = handover.in_file(bytes.fromhex(step.given['file']))['window']
         elif step.number == 0:
             self.record, window = dict(self.record, stratum='16'), step.given['window']
         self.window = int(window) if window is not None else None
@@ -139,16 +140,7 @@ def told(sources: Sequence[answers.Source], shown: bool = True) -> Iterator[tupl
 
 # ---- the record in words
 
-def bits(value):
-    return format(int(value), '08b')
-
-
-def every(exponent):
-    n = int(exponent)
-    return human.span(2**n * 10**9) if n >= 0 else '1/%d s' % 2**-n
-
-
-def pending(value):
+def pending(value: str) -> str:
     if value == '-':
         return 'nothing'
     ident, _, deadline = value.split('/')
@@ -156,13 +148,14 @@ def pending(value):
 
 
 # A key of `show`: its words and how its value is written. A key that is not here is shown as it stands.
-RECORD = {'reach': ('reach', bits), 'tries': ('tries', str), 'version': ('version', str), 'last': ('last poll', every), 'remote': ('remote minimum', every),
-          'pending': ('awaited', pending), 'denial': ('denial noted', str), 'stratum': ('stratum', str), 'refid': ('reference', human.address),
-          'read': ('reading place', str), 'held': ('cookies held', str), 'lens': ('cookie lengths', str), 'answered': ('last poll answered', str),
-          'unanswered': ('unanswered polls', str), 'capacity': ('capacity', str)}
+RECORD: dict[str, tuple[str, Callable[..., str]]] = {
+    'reach': ('reach', human.bits), 'tries': ('tries', str), 'version': ('version', str), 'last': ('last poll', human.every), 'remote': ('remote minimum', human.every),
+    'pending': ('awaited', pending), 'denial': ('denial noted', str), 'stratum': ('stratum', str), 'refid': ('reference', human.address),
+    'read': ('reading place', str), 'held': ('cookies held', str), 'lens': ('cookie lengths', str), 'answered': ('last poll answered', str),
+    'unanswered': ('unanswered polls', str), 'capacity': ('capacity', str)}
 
 
-def field(key, value, names):
+def field(key: str, value: str, names: Mapping[str, str]) -> tuple[str, str]:
     words, how = RECORD.get(key, (key, str))
     try:
         return words, how(value, names) if how is human.address else how(value)
@@ -170,7 +163,7 @@ def field(key, value, names):
         return words, value
 
 
-def changes(step):
+def changes(step: Step) -> list[str]:
     """what the line changed in the record, and nothing else"""
     out = []
     for key, value in step.after.items():
@@ -183,21 +176,21 @@ def changes(step):
 
 # ---- why
 
-def octets(step):
+def octets(step: Step) -> bytes:
     try:
         return bytes.fromhex(step.given.get('packet', ''))
     except ValueError:
         return b''
 
 
-def why_late(step):
+def why_late(step: Step) -> str:
     deadline = int(step.before['pending'].split('/')[2])
     trip = walltime.difference(int(step.given['t4']), int(step.given['t1'])) * 10**9 // human.SECOND
     return '%s too late: the request expired at tick %s; the round trip took %s' % (
         human.length(step.now - deadline), human.tick(deadline), human.length(trip) if trip >= 0 else 'no time that can be told, since T4 is before T1')
 
 
-def why_kiss(step):
+def why_kiss(step: Step) -> str:
     """the server's own word: the reference identifier of the packet, or what a decoded reply names"""
     if step.head == 'reply5':
         return '%s; the reply says %s' % (step.row.says, step.given.get('kiss', '-'))
@@ -206,24 +199,24 @@ def why_kiss(step):
     return '%s; the packet says %s' % (step.row.says, code.decode() if letters else code.hex())
 
 
-def why_stratum(step):
+def why_stratum(step: Step) -> str:
     theirs, ours = step.before['stratum'], step.given['stratum']
     return 'its stratum is %s, ours is %s%s' % (theirs, ours, '; nothing was measured yet' if step.heard is None and theirs == '16' else '')
 
 
-def why_version(step):
+def why_version(step: Step) -> str:
     expects = {'v4': '3 or 4', 'upgraded': '5', 'v5': '5'}.get(step.before.get('version', ''), 'another')
     version = '5' if step.head == 'reply5' else str(octets(step)[0] >> 3 & 7)
     return 'it is of version %s, and %s is expected' % (version, expects)
 
 
-def why_foreign(step):
+def why_foreign(step: Step) -> str:
     wanted = step.before['pending'].split('/')[0]
     found = step.given.get('cookie') if step.head == 'reply5' else octets(step)[24:32].hex()
     return 'it answers %s, and %s was asked' % (found, wanted) if found != wanted else 'its unique identifier is not that of the request'
 
 
-def why_undecodable(step):
+def why_undecodable(step: Step) -> str:
     packet = octets(step)
     if len(packet) < 48:
         return 'it has %d bytes, and a packet has 48 or more' % len(packet)
@@ -235,7 +228,7 @@ def why_undecodable(step):
     return 'its extension fields are broken, or none of them starts at its authenticated end (auth=%s)' % end
 
 
-def cookie_lengths(step):
+def cookie_lengths(step: Step) -> list[int]:
     """the lengths of a whole cookie list's cookies"""
     octets, out = bytes.fromhex(step.given['list']), []
     while octets:
@@ -250,50 +243,18 @@ PROFILE = {34: lambda s: 'the lower poll limit is %s, and has to be 8 (256 s) or
            36: lambda s: 'the start version is %s, and the profile has no upgrading' % s.given['start'],
            37: lambda s: 'a cookie of the first list has %d bytes, and may have 100' % next(n for n in cookie_lengths(s) if n > 100)}
 
-# The records of a hand-over file in their order: mark, what it is, and how long its body is (docs/HANDOVER.md); an old file has 26 bytes of settings, and the stash is as
-# long as its cookies make it.
-FILE = ((b'SE', 'settings', (27, 26)), (b'ST', 'stash', None), (b'RE', 'reach and tries', (2,)), (b'VE', 'version', (2,)), (b'PO', 'polls', (2,)), (b'SO', 'source', (6,)))
-
-
-def fault_in(f):
-    """where the first fault of a file stands that is refused with 61 or 62"""
-    at = 0
-    for mark, name, usual in FILE:
-        if len(f) - at >= 2 and f[at:at + 2] != mark:
-            return 'at byte %d the %s record is due, with the mark %s, and %s stands there' % (at, name, mark.hex(), f[at:at + 2].hex())
-        if len(f) - at < 4:
-            return 'the file ends at byte %d, where the %s record is due' % (len(f), name)
-        body = int.from_bytes(f[at + 2:at + 4], 'big')
-        if body > len(f) - at - 4:
-            return 'the %s record at byte %d says %d bytes, and %d follow' % (name, at, body, len(f) - at - 4)
-        if usual is not None and body not in usual:
-            return 'the %s record at byte %d says %d bytes, and has %d' % (name, at, body, usual[0])
-        if usual is None and not cookies_end(f[at + 4:at + 4 + body]):
-            return 'the cookies of the stash record at byte %d do not end with it' % at
-        at += 4 + body
-    return '%d bytes are left over behind the last record' % (len(f) - at)
-
-
-def file_of(step, key):
+def file_of(step: Step, key: str) -> bytes:
     return b'' if step.given[key] == '-' else bytes.fromhex(step.given[key])
 
 
-def why_file(step):
-    return fault_in(file_of(step, 'file'))
+def why_file(step: Step) -> str:
+    return handover.fault_in(file_of(step, 'file')) or step.row.says
 
 
-def why_side(step):
+def why_side(step: Step) -> str:
     """of two files that are compared, which is refused, and why"""
     side = step.gave['side']
-    return 'the %s file: %s' % (side, fault_in(file_of(step, side)) if step.number != 63 else step.row.says)
-
-
-def cookies_end(body):
-    at = 1
-    while 0 < len(body) - at:
-        length = int.from_bytes(body[at:at + 2], 'big') if len(body) - at >= 2 else 0
-        at += 2 + (length if length <= 724 else 0)
-    return at == len(body)
+    return 'the %s file: %s' % (side, handover.fault_in(file_of(step, side)) if step.number != 63 else step.row.says)
 
 
 WHY = {('load', 61): why_file, ('load', 62): why_file, ('compare', 61): why_side, ('compare', 62): why_side, ('compare', 63): why_side,
@@ -305,7 +266,7 @@ WHY = {('load', 61): why_file, ('load', 62): why_file, ('compare', 61): why_side
        ('accept', 40): why_stratum}
 
 
-def why(step):
+def why(step: Step) -> str:
     """the reason in plain words: from the log's own values where that says more than the number's sentence"""
     special = WHY.get(('reply' if step.head in REPLIES else step.head, step.number))
     if special:
@@ -316,19 +277,19 @@ def why(step):
     return step.row.says
 
 
-def dropped(step):
+def dropped(step: Step) -> str:
     """what fell out of the stash while cookies were stored; nothing where nothing did"""
     n = int(step.gave.get('dropped', 0))
     return '; %d cookie%s did not fit and fell out (%s bytes)' % (n, '' if n == 1 else 's', step.gave['lost']) if n else ''
 
 
-def measured(step):
+def measured(step: Step) -> str:
     g = step.gave
     return 'offset %s, delay %s, stratum %s%s%s' % (human.milliseconds(int(g['offset']), sign=True), human.milliseconds(int(g['delay'])), g['stratum'],
                                                    '; the source says that it is not synchronized (leap)' if walltime.unsynchronized(step) else '', dropped(step))
 
 
-def accepted(step):
+def accepted(step: Step) -> str:
     """the true time at which a source was accepted"""
     if step.heard is None:
         return 'no reply was measured yet, so that ticks cannot be turned into wall time'
@@ -336,12 +297,12 @@ def accepted(step):
     return 'at %s' % walltime.told(at) if at is not None else ''
 
 
-def settings(g, names):
+def settings(g: Mapping[str, str], names: Mapping[str, str]) -> str:
     return ('polls every %s to %s, gives up from %s tries on where none of the last eight polls was answered, waits %s for a reply; version %s, %s, source %s'
-            % (every(g['min']), every(g['max']), g['startup'], human.span(int(g['window'])), g['start'], nts(g), human.address(g['source'], names)))
+            % (human.every(g['min']), human.every(g['max']), g['startup'], human.span(int(g['window'])), g['start'], nts(g), human.address(g['source'], names)))
 
 
-def nts(g):
+def nts(g: Mapping[str, str]) -> str:
     """with NTS or not, and how many cookies the stash holds where that is not the usual eight"""
     if g['nts'] != 'yes':
         return 'no NTS'
@@ -349,44 +310,35 @@ def nts(g):
     return 'with NTS' + ('' if capacity == '8' else ' and a stash of %s' % capacity)
 
 
-def made(step):
+def made(step: Step) -> str:
     return settings(step.given, step.names) + dropped(step)
 
 
-def in_file(f):
-    """the settings of a hand-over file, as `new` has them (docs/HANDOVER.md)"""
-    signed = lambda octet: str(octet - 256 if octet > 127 else octet)
-    start = ('v4', 'v4', 'upgraded', 'v5')[f[23]]  # upgrading is retired, and loads as V4
-    return dict(min=signed(f[4]), max=signed(f[5]), startup=str(f[6]), window=str(int.from_bytes(f[7:15], 'big')), start=start,
-                nts='yes' if f[25] else 'no', source=f[26:30].hex(), capacity=str(f[30]) if f[3] == 27 else '8')
-
-
-def loaded(step):
+def loaded(step: Step) -> str:
     retired = '; the file had a version that is retired, upgrading, which is V4 now' if step.gave['retired'] == 'yes' else ''
-    return 'it has sent nothing yet; ' + settings(in_file(bytes.fromhex(step.given['file'])), step.names) + retired
+    return 'it has sent nothing yet; ' + settings(handover.in_file(bytes.fromhex(step.given['file'])), step.names) + retired
 
 
-def saved(step):
+def saved(step: Step) -> str:
     held = int(step.before.get('held', 0))
     return '%s bytes%s' % (step.gave['len'], '; %d %s went with it, and the stash is empty' % (held, 'cookie' if held == 1 else 'cookies') if held else '')
 
 
-def sent(step):
+def sent(step: Step) -> str:
     until = step.after.get('pending', '-')
-    return '%s, the next in %s%s' % (step.gave['send'], every(step.gave['poll']), '' if until == '-' else ', a reply is awaited until tick ' + human.tick(int(until.split('/')[2])))
+    return '%s, the next in %s%s' % (step.gave['send'], human.every(step.gave['poll']), '' if until == '-' else ', a reply is awaited until tick ' + human.tick(int(until.split('/')[2])))
 
 
-def compared(step):
+def compared(step: Step) -> str:
     """the fields in which two boxes differ, the left reading and then the right one"""
-    import compare
-    rows = [compare.entry(word) for word in step.answer.split(' ')[3:]]
+    rows = [handover.entry(word) for word in step.answer.split(' ')[3:]]
     return '; '.join('%s: %s and %s%s' % (words, left, right, ' (%s)' % note if note else '') for words, left, right, note in rows) or 'nothing differs'
 
 
 GOOD = {'new': made, 'metered': made, 'timer': sent, 'reply': measured, 'reply5': measured, 'accept': accepted, 'load': loaded, 'save': saved, 'compare': compared}
 
 
-def rest(step):
+def rest(step: Step) -> str:
     """the values of an answer that have no words here"""
     return ' '.join(w if len(w) < 100 else w[:97] + '..' for w in step.answer.split(' ')[2:])
 

@@ -4,8 +4,9 @@ became of a box"; nothing is drawn or written here.
 A box may have several servers, one behind the other in its log (DECISIONS 113): another begins where the clock goes back with a new association. One that is up is
 enough. A server that is named again is no other one: it was restarted, and what stands of it before that is over (DECISIONS 119)."""
 from collections.abc import Iterator
-from typing import NamedTuple
+from typing import Any, NamedTuple
 
+import handover
 import human
 import meanings
 import story
@@ -225,7 +226,7 @@ class Server:
 def source_of(step: Step) -> str | None:
     """the identifier of the server that an association is made for, or was to be; that of a `load` stands in its file, and a file that is refused names none"""
     if step.head == 'load':
-        return story.in_file(bytes.fromhex(step.given['file']))['source'] if step.number == 0 else None
+        return handover.in_file(bytes.fromhex(step.given['file']))['source'] if step.number == 0 else None
     return step.given.get('source', '').lower() or None
 
 
@@ -260,7 +261,7 @@ class Judge:
         self.waiting: list[Step] = []       # a new association and what follows, until a line tells when that is
         self.steps = self.associations = 0
         self.error: Step | None = None      # the first line that was answered `error`
-        self.counts = {'sent': 0, 'answered': 0, 'late': 0, 'foreign': 0}
+        self.counts: dict[str, Any] = {'sent': 0, 'answered': 0, 'late': 0, 'foreign': 0}
 
     def take(self, step: Step) -> list[Placed]:
         """the steps that have found their place by this one, in the log's order"""
@@ -348,7 +349,7 @@ class Judge:
     def verdict(self) -> Verdict:
         server, fault = self.deciding(), self.fault()
         if fault:
-            known = dict(self.counts, server=server, servers=len(self.servers)) if self.associations else {}
+            known: dict[str, Any] = dict(self.counts, server=server, servers=len(self.servers)) if self.associations else {}
             return unreadable(*fault)._replace(**known)
         event, reason = server.reason(self.far)
         step = event.step if event else None

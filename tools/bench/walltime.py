@@ -1,11 +1,24 @@
 """From ticks to wall time: the true time of a measured reply, of any tick behind it, and how far off the box's own clock was before. A step here is a measured reply
 of `story`. Ticks are uptimes in nanoseconds; times and durations count 2^-32 s."""
+from collections.abc import Mapping
 from datetime import timedelta
-from typing import NamedTuple
+from typing import NamedTuple, Protocol
 
 import human
 
 UNSYNCHRONIZED = '4'  # of `leap` in the answer to a reply; 3, unknown, is said by a server that is synchronized (docs/EMBEDDING.md)
+
+
+class Measured(Protocol):
+    """a measured reply, as `story` has it"""
+    line: int
+    tick: int | None
+
+    @property
+    def given(self) -> Mapping[str, str]: ...
+
+    @property
+    def gave(self) -> Mapping[str, str]: ...
 
 
 class Instant(NamedTuple):
@@ -17,8 +30,8 @@ class Instant(NamedTuple):
 class Rise(NamedTuple):
     """when ticks became wall time: the accept's tick, the reply that tells the time there, and the first reply of all, which tells how far off the clock was"""
     tick: int
-    heard: object
-    first: object
+    heard: Measured
+    first: Measured
 
 
 def difference(a: int, b: int) -> int:
@@ -26,26 +39,26 @@ def difference(a: int, b: int) -> int:
     return (a - b + 2**63) % human.ERA - 2**63
 
 
-def offset(step) -> int:
+def offset(step: Measured) -> int:
     """how far the box's clock was behind the server's"""
     return int(step.gave['offset'])
 
 
-def delay(step) -> int:
+def delay(step: Measured) -> int:
     return int(step.gave['delay'])
 
 
-def unsynchronized(step) -> bool:
+def unsynchronized(step: Measured) -> bool:
     """whether the source says that it has no time itself"""
     return step.gave.get('leap') == UNSYNCHRONIZED
 
 
-def at_reply(step) -> Instant:
+def at_reply(step: Measured) -> Instant:
     """the true time when a reply came: T4, which is the box's own clock, plus the offset"""
     return Instant((int(step.given['t4']) + offset(step)) % human.ERA, abs(delay(step)) // 2)
 
 
-def at_tick(step, tick: int | None) -> Instant | None:
+def at_tick(step: Measured, tick: int | None) -> Instant | None:
     """the true time of a tick, counted from a measured reply; nothing where one of the two ticks is not known"""
     if tick is None or step.tick is None:
         return None
@@ -64,11 +77,11 @@ def off(ntp: int) -> str:
     return '%s %s' % (human.apart(ntp), 'slow' if ntp > 0 else 'fast')
 
 
-def reading(step) -> str:
+def reading(step: Measured) -> str:
     """what the box's clock did to a reading that it stamped when the reply came"""
     far = abs(offset(step)) / human.SECOND
-    unit, form, cut = (0.001, '%H:%M:%S.%f', -3) if far < 1 else (1, '%H:%M:%S', None) if round(far) % 60 else (60, '%H:%M', None)
-    unit = timedelta(seconds=unit)
+    size, form, cut = (0.001, '%H:%M:%S.%f', -3) if far < 1 else (1, '%H:%M:%S', None) if round(far) % 60 else (60, '%H:%M', None)
+    unit = timedelta(seconds=size)
     stamp = human.moment_of(int(step.given['t4']))
     stamp -= (stamp - human.EPOCH) % unit
     true = stamp + unit * round(offset(step) / human.SECOND / unit.total_seconds())  # so that the two differ by what was said

@@ -152,7 +152,7 @@ class Log:
         return marks.Box(name, judge.verdict(), self.drawing, self.silence(now) if silent else None)
 
     def silence(self, now: float) -> str:
-        every = 'it polls every %s' % story.every(self.drawing.poll) if self.drawing.poll is not None else 'no poll of it was seen'
+        every = 'it polls every %s' % human.every(self.drawing.poll) if self.drawing.poll is not None else 'no poll of it was seen'
         return 'not heard since %s, for %s; %s' % (at(self.grew), human.length(int(now - self.grew) * 10**9), every)
 
 
@@ -163,7 +163,8 @@ def at(when: float) -> str:
 class Watch:
     def __init__(self, place: str, out: str, every: int, far: int) -> None:
         self.place, self.out, self.every, self.far = place, out, every, far
-        self.codes, self.logs = marks.Codes(), {}
+        self.codes = marks.Codes()
+        self.logs: dict[str, Log] = {}
         self.desk = answers.Desk()
         self.bell = os.pipe()                # Ctrl-C writes into it, so that nothing is ended half-way
         self.trouble: str | None = None      # what was said last, so that it is not said again and again
@@ -190,7 +191,7 @@ class Watch:
                 return
             log.look(self.desk)
 
-    def stop(self, *_) -> None:
+    def stop(self, *_: object) -> None:
         os.write(self.bell[1], b'.')
 
     def stopped(self, seconds: float) -> bool:

@@ -16,7 +16,9 @@ use Rattle.accept.specs.declared.AcceptAnswer.the-variants.{Accepted}
 use Rattle.accept.specs.Accept.{among, acceptOf, crateAcceptOf}
 use Rattle.accept.proofs.Crate.{as-the-crate, never-accepted}
 
-pub below-two : (a : Association) (stratum : ℕ) (local : List ℕ) (bloom : Bloom) → a .state .source .stratum < 2 → acceptOf a stratum local bloom ≡ crateAcceptOf a stratum local bloom
+-- promise: no2.1 (below stratum 2 the answer is the crate's)
+pub below-two : (a : Association) (stratum : ℕ) (local : List ℕ) (bloom : Bloom) → a .state .source .stratum < 2 →
+    acceptOf a stratum local bloom ≡ crateAcceptOf a stratum local bloom
 below-two a stratum local bloom h = as-the-crate a stratum local bloom (fails _ (lt-leb 2 (a .state .source .stratum) h))
 
 -- an identifier stands in a list at a place
@@ -42,10 +44,12 @@ found id [] k h e = absurd (omega arith)
 found id (x ∷ l) zero h e = rw (eq-eqb x id e)
 found id (x ∷ l) (suc k) h e = or-right (eqb x id) (found id l k (omega arith) e)
 
+-- promise: no2.1 (an identifier is among ours exactly if it is at a place of the list)
 pub among-stands : (id : ℕ) (l : List ℕ) → (among id l ≡ true) ↔ Stands id l
 among-stands id l = (stands id l, λ s. found id l (s .place) (s .within) (s .there))
 
 -- from stratum 2 up a source that reports an identifier of the list is not accepted
-pub reported-refused : (a : Association) (stratum : ℕ) (local : List ℕ) (bloom : Bloom) → 2 ≤ a .state .source .stratum → Stands (a .state .source .refid .0) local →
+pub reported-refused : (a : Association) (stratum : ℕ) (local : List ℕ) (bloom : Bloom) → 2 ≤ a .state .source .stratum →
+    Stands (a .state .source .refid .0) local →
     acceptOf a stratum local bloom ≡ Accepted → ⊥
 reported-refused a stratum local bloom h s = never-accepted a stratum local bloom (record { far = h; reported = among-stands _ local .1 s })

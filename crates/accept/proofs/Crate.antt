@@ -24,6 +24,10 @@ dropped true p e = refl
 dropped false p e = ap (λ (u : Bool). u || p) e
 
 -- the source says that it gets its time from us
+-- promise no2.2: A source that reports one of our identifiers, at stratum 2 or more, is never accepted, whatever else the record and the call hold.
+--     edit: accept/the_reported_identifier_is_not_compared
+-- promise no2.3: Of two connectors that serve each other, neither accepts the other.
+--     edit: accept/the_reported_identifier_is_not_compared
 pub record ServedByUs (a : Association) (local : List ℕ) : Type 0 where
   pub far : 2 ≤ a .state .source .stratum
   pub reported : among (a .state .source .refid .0) local ≡ true
@@ -36,11 +40,14 @@ module _ (a : Association) (stratum : ℕ) (local : List ℕ) (bloom : Bloom) wh
   served = servedByUs (a .state .source .stratum) (a .state .source .refid .0) local
 
   -- where the new test does not hit, the answer is the crate's
+  -- promise: no2.1 (elsewhere the answer is the crate's)
   pub as-the-crate : served ≡ false → acceptOf a stratum local bloom ≡ crateAcceptOf a stratum local bloom
   unfolding acceptSeen crateAcceptOf wholeOf
-  as-the-crate h = ap (λ (l : Bool). acceptBy l (a .settings) (a .state) (seenOf (a .settings .capacity) (a .stash)) stratum) (dropped ourself (isPresent bloom) h)
+  as-the-crate h = ap (λ (l : Bool). acceptBy l (a .settings) (a .state) (seenOf (a .settings .capacity) (a .stash)) stratum)
+      (dropped ourself (isPresent bloom) h)
 
   -- so where the answer is not the crate's the new test hits, and the answer is 41
+  -- promise: no2.1
   pub differs : (acceptOf a stratum local bloom ≡ crateAcceptOf a stratum local bloom → ⊥) → (served ≡ true) × (acceptOf a stratum local bloom ≡ Loop)
   unfolding acceptSeen crateAcceptOf wholeOf
   differs d = by (wholeOf a) (leb stratum (a .state .source .stratum)) served refl refl refl
@@ -52,6 +59,7 @@ module _ (a : Association) (stratum : ℕ) (local : List ℕ) (bloom : Bloom) wh
       by true false true ew eb es = (es, rw (ew, eb, or-true (isPresent bloom) (or-right ourself es)))
 
   -- a source that reports one of our identifiers from stratum 2 up is never accepted, whatever else the record holds
+  -- promise: no2.2
   pub never-accepted : ServedByUs a local → acceptOf a stratum local bloom ≡ Accepted → ⊥
   unfolding acceptSeen wholeOf
   never-accepted s e = by (wholeOf a) (leb stratum (a .state .source .stratum)) refl refl
@@ -68,16 +76,20 @@ module _ (a : Association) (stratum : ℕ) (local : List ℕ) (bloom : Bloom) wh
       by true false ew eb = other Loop (rw (ew, eb, or-true (isPresent bloom) (or-right ourself hit))) (omega arith)
 
   -- the crate's rule accepts it, where nothing else speaks against it
+  -- promise: no2.4
   pub by-the-crate : wholeOf a ≡ true → leb stratum (a .state .source .stratum) ≡ false → ourself ≡ false → isPresent bloom ≡ false
       → reachableOf (a .state .effort .reach) ≡ true → crateAcceptOf a stratum local bloom ≡ Accepted
   unfolding crateAcceptOf wholeOf
   by-the-crate w b o p r = rw (w, b, o, p, r)
 
 -- so of two connectors that serve each other neither accepts the other
+-- promise: no2.3
 pub neither : (a b : Association) (ours theirs : List ℕ) → ServedByUs a ours → ServedByUs b theirs → (stratum level : ℕ) (bloom filter : Bloom)
     → (acceptOf a stratum ours bloom ≡ Accepted → ⊥) × (acceptOf b level theirs filter ≡ Accepted → ⊥)
 neither a b ours theirs s t stratum level bloom filter = (never-accepted a stratum ours bloom s, never-accepted b level theirs filter t)
 
 -- with capacity 8 acceptance is what it was before there was a capacity (RULES, No. 12)
-pub accept-8 : (a : Association) → a .settings .capacity ≡ 8 → (stratum : ℕ) (local : List ℕ) (bloom : Bloom) → acceptOf a stratum local bloom ≡ acceptSeen (a .settings) (a .state) (seenOf 8 (a .stash)) stratum local bloom
+-- promise: no12.4
+pub accept-8 : (a : Association) → a .settings .capacity ≡ 8 → (stratum : ℕ) (local : List ℕ) (bloom : Bloom) →
+    acceptOf a stratum local bloom ≡ acceptSeen (a .settings) (a .state) (seenOf 8 (a .stash)) stratum local bloom
 accept-8 a e stratum local bloom = ap (λ (c : ℕ). acceptSeen (a .settings) (a .state) (seenOf c (a .stash)) stratum local bloom) e

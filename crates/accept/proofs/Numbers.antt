@@ -45,6 +45,7 @@ module _ (a : Association) (stratum : ℕ) (local : List ℕ) (bloom : Bloom) wh
   by-test b false false p eo es ep l = in-the-filter b (ep ∙ l)
 
   -- what is given is given under the rule of its number
+  -- promise: 12.1
   pub given : Told (acceptOf a stratum local bloom)
   unfolding acceptSeen wholeOf
   given =
@@ -57,6 +58,7 @@ module _ (a : Association) (stratum : ℕ) (local : List ℕ) (bloom : Bloom) wh
       not-whole
 
   -- where a number's rule holds, that rule's answer is given
+  -- promise: 12.1
   pub only : {n : ℕ} {r : AcceptAnswer} → Given n r → acceptOf a stratum local bloom ≡ r
   unfolding acceptSeen wholeOf
   only (not-whole w) = rw w
@@ -77,6 +79,7 @@ module _ (a : Association) (stratum : ℕ) (local : List ℕ) (bloom : Bloom) wh
   numbered (accepted u e) = refl
 
   -- so a number is given if and only if its rule holds
+  -- promise: 12.1, 12.2 (at 41)
   pub number : (n : ℕ) → (numberOf (acceptOf a stratum local bloom) ≡ n) ↔ ((r : AcceptAnswer) × Given n r)
   number n = (
     λ e. (acceptOf a stratum local bloom, subst (λ (k : ℕ). Given k (acceptOf a stratum local bloom)) e given),

@@ -1,5 +1,5 @@
 // Acceptance: whether the source may be synchronised to.
-// Promises: each number exactly under its rule, in its order.
+// Promises: each number exactly when its rule says so, with the rules in their order.
 // Rule: RULES, part 12; definitions in specs/Accept.antt, number by number in specs/Numbers.antt.
 use association::Association;
 use association::Settings;
@@ -8,7 +8,7 @@ use cookiestash::Seen;
 ghost use mathlib.Core.Path.{_≡_};
 ghost use Rattle.accept.specs.Accept.{among, isPresent, isOurs, servedByUs, loops, numberOf, acceptSeen, acceptOf};
 
-// What the caller's Bloom filter says of us: there is none, or we are absent from it, or present.
+// What the caller's Bloom filter says about us: there is no filter, we are absent from it, or we are present in it.
 pub enum Bloom {
     NoFilter,
     Absent,
@@ -24,6 +24,7 @@ pub enum AcceptAnswer {
 }
 
 impl AcceptAnswer {
+    // promise: 12.1
     pub fn number(self) -> u8
         ensures { λ r. ⌜ r ≡ numberOf self ⌝ }
     {
@@ -37,7 +38,7 @@ impl AcceptAnswer {
     }
 }
 
-// Whether an identifier is among those of a list.
+// Whether an identifier is in a list.
 fn is_among(id: u32, list: &[u32]) -> bool
     ensures { λ r. ⌜ r ≡ among id (now (list .entry)) ⌝ }
 {
@@ -61,7 +62,7 @@ fn is_present(bloom: Bloom) -> bool
     }
 }
 
-// Whether the source is one of us. A source of stratum 1 has a clock of its own, so its identifier is not looked at.
+// Whether the source's identifier is one of ours. A source of stratum 1 has its own clock, so its identifier is not compared.
 fn is_ours(stratum: u8, id: u32, local: &[u32]) -> bool
     ensures { λ r. ⌜ r ≡ isOurs stratum id (now (local .entry)) ⌝ }
 {
@@ -72,7 +73,7 @@ fn is_ours(stratum: u8, id: u32, local: &[u32]) -> bool
     }
 }
 
-// Whether the source says that it gets its time from us; below stratum 2 what it reports is a name and no address.
+// Whether the source reports that it gets its time from us. Below stratum 2 it reports a name, not an address.
 fn served_by_us(stratum: u8, refid: u32, local: &[u32]) -> bool
     ensures { λ r. ⌜ r ≡ servedByUs stratum refid (now (local .entry)) ⌝ }
 {
@@ -96,7 +97,7 @@ fn is_loop(stratum: u8, id: u32, refid: u32, local: &[u32], bloom: Bloom) -> boo
     is_present(bloom)
 }
 
-// Whether the source is accepted, given our own stratum, our identifiers and the Bloom filter's word, of an association's settings, its state and what is seen of its stash.
+// Whether the source is accepted, from the settings, the state, the summary of the stash, our stratum, our identifiers and what the Bloom filter says.
 pub fn accept_seen(
     settings: Settings,
     state: State,
@@ -127,7 +128,8 @@ pub fn accept_seen(
     AcceptAnswer::Accepted
 }
 
-// The same of an association of one's own.
+// The same for an association passed by value.
+// promise: 12.1, 12.2
 pub fn accept(a: Association, stratum: u8, local: &[u32], bloom: Bloom) -> AcceptAnswer
     ensures { λ r. ⌜ r ≡ acceptOf a stratum (now (local .entry)) bloom ⌝ }
 {

@@ -22,6 +22,7 @@ module _ (s : Settings) (list : List ℕ) where
   Told o = Given (numberOf (o .answer)) o
 
   -- what is given is given under the rule of its number
+  -- promise: whole.4, no14.1
   pub given : Told (newOf s list)
   unfolding newOf
   given =
@@ -30,6 +31,7 @@ module _ (s : Settings) (list : List ℕ) where
       bad-settings
 
   -- where a number's rule holds, that rule's answer and record are given
+  -- promise: whole.4, no14.1
   pub only : {n : ℕ} {o : NewOut} → Given n o → newOf s list ≡ o
   unfolding newOf
   only (bad-settings v) = rw v
@@ -44,6 +46,7 @@ module _ (s : Settings) (list : List ℕ) where
   numbered (made v b u) = refl
 
   -- so a number is given if and only if its rule holds
+  -- promise: whole.4 (each number exactly under its rule, `specs/Numbers`: `Given`), no14.1
   pub number : (n : ℕ) → (numberOf (newOf s list .answer) ≡ n) ↔ ((o : NewOut) × Given n o)
   number n = (
     λ e. (newOf s list, subst (λ (k : ℕ). Given k (newOf s list)) e given),

@@ -23,6 +23,7 @@ pub of-count : (e : Effort) → e .unanswered ≡ unansweredOf (e .reach) → ef
 unfolding effortValid
 of-count e t = eq-eqb _ _ t
 
+-- promise: whole.2, no8.6, no12.3, no14.3
 pub whole-of : (a : Association) → Typed (a .stash) → wholeOf a ≡ true → Whole a
 unfolding wholeOf wholeSeen
 whole-of a t e =
@@ -40,6 +41,7 @@ whole-of a t e =
       idle = fifth .1;
     }
 
+-- promise: whole.2, no8.6, no12.3, no14.3
 pub of-whole : (a : Association) → Whole a → wholeOf a ≡ true
 unfolding wholeOf wholeSeen
 of-whole a w =
@@ -51,13 +53,16 @@ of-whole a w =
     ∙ w .idle
 
 -- a version that is not of the retired kind takes the place of another
-pub versions-kept : (start v w : Version) → (upgrading (v .kind) ≡ false → upgrading (w .kind) ≡ false) → versionsValid start v ≡ true → versionsValid start w ≡ true
+-- promise: no14.3
+pub versions-kept : (start v w : Version) → (upgrading (v .kind) ≡ false → upgrading (w .kind) ≡ false) → versionsValid start v ≡ true →
+    versionsValid start w ≡ true
 unfolding versionsValid
 versions-kept start v w k e =
     let p = both (not (upgrading (start .kind))) (not (upgrading (v .kind))) e in
     passes _ (p .0) ∙ ap not (k (not-true (upgrading (v .kind)) (p .1)))
 
 -- a whole record has neither as its start version nor as its version the retired kind
+-- promise: no14.3
 pub none-retired : (a : Association) → Whole a → (upgrading (a .settings .start .kind) ≡ false) × (upgrading (a .state .version .kind) ≡ false)
 unfolding versionsValid
 none-retired a w =

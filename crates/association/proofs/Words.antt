@@ -63,7 +63,8 @@ limited (negsuc m) n e = never e
 
 limits-of : (min max : ℤ) → Limited min max → limitsValid min max ≡ true
 limits-of min max l =
-    rw (l .min-is, l .max-is) (passes _ (le-leb 0 (l .least) (omega arith)) ∙ passes _ (le-leb (l .least) (l .most) (l .ordered)) ∙ le-leb (l .most) 17 (l .top))
+    rw (l .min-is, l .max-is) (passes _ (le-leb 0 (l .least) (omega arith)) ∙ passes _ (le-leb (l .least) (l .most) (l .ordered))
+    ∙ le-leb (l .most) 17 (l .top))
 
 between : (low x high : ℕ) → within low x high ≡ true → (low ≤ x) × (x ≤ high)
 between low x high e = let p = both (leb low x) (leb x high) e in (leb-true low x (p .0), leb-true x high (p .1))
@@ -99,7 +100,8 @@ in-ranges s e =
 ranges-of : (s : Settings) → InRanges s → settingsValid s ≡ true
 unfolding settingsValid
 ranges-of s r =
-    passes _ (limits-of (s .min .0) (s .max .0) (record { least = r .least; most = r .most; min-is = r .min-is; max-is = r .max-is; ordered = r .ordered; top = r .top }))
+    passes _ (limits-of (s .min .0) (s .max .0)
+    (record { least = r .least; most = r .most; min-is = r .min-is; max-is = r .max-is; ordered = r .ordered; top = r .top }))
     ∙ passes _ (between-of 1 (s .startup) 8 (r .startup-some) (r .startup-few))
     ∙ passes _ (between-of 1 (s .window) 60000000000 (r .window-some) (r .window-short))
     ∙ between-of 1 (s .capacity) 8 (r .capacity-some) (r .capacity-few)
@@ -127,7 +129,14 @@ of-currents v w c d = passes _ (kind-kept (v .kind) c) ∙ kind-kept (w .kind) d
 
 requested : (q : Pending) → pendingValid q ≡ true → Requested q
 unfolding pendingValid
-requested q e = record { unanswered = λ p. not-true (q .answered) (rw p at e); no-id = λ p. eqb-true _ _ (gone p .0); no-deadline = λ p. eqb-true _ _ (rest p .0); no-uid = λ p. zero-each (q .uid) (rest p .1) }
+requested q e =
+    record {
+      unanswered = λ p. not-true (q .answered) (rw p at e);
+      no-id = λ p. eqb-true _ _ (gone p .0);
+      no-deadline = λ p. eqb-true _ _
+          (rest p .0);
+      no-uid = λ p. zero-each (q .uid) (rest p .1);
+    }
   where
     gone : q .present ≡ false → (eqb (q .id) 0 ≡ true) × ((eqb (q .deadline) 0 && zeros (q .uid)) ≡ true)
     gone p = both (eqb (q .id) 0) (eqb (q .deadline) 0 && zeros (q .uid)) (rw p at e)
@@ -162,7 +171,8 @@ module _ (a : Association) where
     where
       by : (t : Bool) → a .settings .nts ≡ t → (t || (eqb (a .stash .read) 0 && (eqb (a .stash .held) 0 && zeros (a .state .request .uid)))) ≡ true
       by true p = refl
-      by false p = passes _ (eq-eqb (a .stash .read) 0 (i .read p)) ∙ passes _ (eq-eqb (a .stash .held) 0 (i .held p)) ∙ each-zero (a .state .request .uid) (i .uid p)
+      by false p = passes _ (eq-eqb (a .stash .read) 0 (i .read p)) ∙ passes _ (eq-eqb (a .stash .held) 0 (i .held p))
+          ∙ each-zero (a .state .request .uid) (i .uid p)
 
   -- ---- the record
 

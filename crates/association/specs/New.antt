@@ -17,6 +17,7 @@ use Rattle.association.specs.Settings.{settingsValid}
 use Rattle.association.specs.Record.{blankOf, freshOf, withStash}
 
 -- 0: association made; 30: settings outside the ranges; 33: broken cookie list (NTS only); 38: the start version is retired (RULES, No. 14)
+-- promise: whole.4
 abbrev pub numberOf : NewAnswer → ℕ
 numberOf Made = 0
 numberOf BadSettings = 30
@@ -27,18 +28,22 @@ numberOf Retired = 38
 abbrev pub out : NewAnswer → Association → NewOut
 out r a = record { answer = r; dropped = noneDropped; association = a }
 
--- with NTS it takes a first cookie list
+-- with NTS it stores a first cookie list
+-- promise: whole.4, no5.6, no12.2
 unfoldable pub madeOf : Settings → List ℕ → Association
 madeOf s list = cond (s .nts) (withStash (freshOf s) (storeListOf (s .capacity) (freshOf s .stash) list)) (freshOf s)
 
--- and tells what of it fell out (RULES, No. 5)
+-- and reports what fell out of it (RULES, No. 5)
+-- promise no5.5: `new` and `metered` report what fell out of their first list, a measured reply what fell out of its own. Any other number reports none.
 unfoldable pub firstDropped : Settings → List ℕ → Dropped
 firstDropped s list = cond (s .nts) (droppedOf (s .capacity) (freshOf s .stash) list) noneDropped
 
+-- promise: no5.5
 abbrev pub newMade : Settings → List ℕ → NewOut
 newMade s list = record { answer = Made; dropped = firstDropped s list; association = madeOf s list }
 
--- in order 30, 33, 38; a refusal leaves the blank record
+-- in order 30, 33, 38; a rejected call leaves the blank record
+-- promise: whole.4, no14.1
 unfoldable pub newOf : Settings → List ℕ → NewOut
 newOf s list =
     cond (settingsValid s)

@@ -1,4 +1,4 @@
--- RULES, "The numbers": when `new` gives each number, and which answer and record come with it, in the order of the tests.
+-- RULES, "The numbers": when `new` returns each number, and with which answer and record, in the order of the tests.
 -- Assumes nothing.
 use mathlib.Core.Path.{_≡_}
 use mathlib.Core.Bool.{true, false}
@@ -14,6 +14,7 @@ use Rattle.association.specs.Record.{blankOf}
 use Rattle.association.specs.New.{out, newMade}
 
 module _ (s : Settings) (list : List ℕ) where
+  -- promise: no5.5, no14.1
   pub data Given : ℕ → NewOut → Type 0 where
     bad-settings : settingsValid s ≡ false → Given 30 (out BadSettings blankOf)
     broken-list : settingsValid s ≡ true → listBroken (s .nts) list ≡ true → Given 33 (out BrokenList blankOf)

@@ -8,9 +8,11 @@ use Rattle.association.specs.declared.Association.{Association}
 use Rattle.association.specs.Settings.{settingsValid}
 use Rattle.association.specs.Record.{versionsValid, pendingValid, idleValid}
 
+-- promise: whole.2 (statement), no12.3 (statement), no14.3
 pub record Whole (a : Association) : Type 0 where
   pub settings : settingsValid (a .settings) ≡ true
   pub stash : stash.Whole (a .settings .capacity) (a .stash)
+  -- promise no8.1: The record holds the unanswered polls, 0 to 8, and after every call they are those of its reach.
   pub counted : a .state .effort .unanswered ≡ unansweredOf (a .state .effort .reach)
   pub versions : versionsValid (a .settings .start) (a .state .version) ≡ true
   pub request : pendingValid (a .state .request) ≡ true

@@ -1,4 +1,4 @@
--- A whole record in words of its own (RULES, "Settings and a whole record", No. 3, No. 12 and No. 14): no test of specs/Record.antt of `association` is cited.
+-- A whole record as a statement of its own (RULES, "Settings and a whole record", No. 3, No. 12 and No. 14): it cites no test of specs/Record.antt.
 -- Assumes nothing.
 use mathlib.Core.Path.{_≡_}
 use mathlib.Core.Bool.{true, false}
@@ -38,7 +38,7 @@ pub record InRanges (s : Settings) : Type 0 where
 abbrev pub Current : Version → Type 0
 Current v = (tries : ℕ) → v .kind ≡ Upgrading tries → ⊥
 
--- beside a pending request no reply has been measured; where none is pending its numbers are zero
+-- while a request is pending no reply has been measured; if none is pending its numbers are zero
 pub record Requested (q : Pending) : Type 0 where
   pub unanswered : q .present ≡ true → q .answered ≡ false
   pub no-id : q .present ≡ false → q .id ≡ 0

@@ -1,5 +1,5 @@
 // The association's settings and record, when a record is whole, and how a new one is made.
-// Promises: `new` gives 0 with a whole record, or 30, 33 or 38 with the blank one, each exactly under its rule.
+// Promises: `new` returns 0 with a whole record, or 30, 33 or 38 with the blank record, each exactly when its rule says so.
 // Rule: RULES, "Settings and a whole record", No. 5, No. 12 and No. 14; definitions in specs/Settings.antt, specs/Record.antt and specs/New.antt.
 use cookiestash::CookieStash;
 use cookiestash::Dropped;
@@ -21,14 +21,14 @@ ghost use Rattle.association.specs.New.{numberOf, newOf};
 // The largest poll exponent that a limit may be.
 pub const MAX_POLL: i8 = 17;
 
-// The longest time that a reply may take, in nanoseconds.
+// The longest window that settings may have, in nanoseconds.
 pub const MAX_WINDOW: u64 = 60000000000;
 
 pub struct Settings {
     // The limits of the poll exponent.
     pub min: PollInterval,
     pub max: PollInterval,
-    // After so many polls with no answer the association gives up.
+    // The association gives up after this many polls without an answer.
     pub startup: u8,
     // How long a request stays live, in nanoseconds.
     pub window: u64,
@@ -46,35 +46,35 @@ pub struct Settings {
 pub struct Effort {
     pub reach: Reach,
     pub tries: u8,
-    // How many of the last eight polls were sent since the newest answer: what the register tells, kept beside it, so that no call has to count bits.
+    // How many of the last eight polls were sent since the newest answer. The register implies it; it is stored too, so that no call has to count bits.
     pub unanswered: u8,
 }
 
-// The poll exponent last used, and the least that the source asks for.
+// The poll exponent last used, and the least that the source allows.
 #[repr(C)]
 pub struct Polls {
     pub last: PollInterval,
     pub remote: PollInterval,
 }
 
-// What the source last said of itself, and whether it denied service since.
+// What the source last reported about itself, and whether it has denied service since.
 pub struct Source {
     pub stratum: u8,
     pub refid: ReferenceId,
     pub denial: bool,
 }
 
-// The pending request; where none is, its numbers are zero.
+// The pending request. If there is none, its numbers are zero.
 pub struct Pending {
     pub present: bool,
     pub id: u64,
     pub uid: [u8; 32],
     pub deadline: u64,
-    // Whether a reply has been measured since the last poll was sent: it tells why nothing is pending.
+    // Whether a reply has been measured since the last poll was sent: this says why nothing is pending.
     pub answered: bool,
 }
 
-// What the calls change of an association, but for its cookies.
+// What the calls change in an association, except its cookies.
 pub struct State {
     pub effort: Effort,
     pub version: Version,
@@ -83,21 +83,21 @@ pub struct State {
     pub request: Pending,
 }
 
-// The settings never change, the cookies are many bytes and rarely touched, the state is small and changed by every call.
+// The settings never change. The cookies are many bytes and rarely change. The state is small, and every call changes it.
 pub struct Association {
     pub settings: Settings,
     pub stash: CookieStash,
     pub state: State,
 }
 
-// Whether a number is neither below one bound nor above the other.
+// Whether a number is between two bounds, both included.
 fn between(low: u64, x: u64, high: u64) -> bool
     ensures { λ r. ⌜ r ≡ within low x high ⌝ }
 {
     if low <= x { x <= high } else { false }
 }
 
-// Whether poll limits stand in their order, from 0 to the largest.
+// Whether the poll limits are in order, and from 0 to the largest.
 fn limits_valid(min: i8, max: i8) -> bool
     ensures { λ r. ⌜ r ≡ limitsValid min max ⌝ }
 {
@@ -110,6 +110,7 @@ fn limits_valid(min: i8, max: i8) -> bool
 
 impl Settings {
     // Whether the settings are within their ranges.
+    // promise: whole.1, no12.1
     pub fn valid(self) -> bool
         ensures { λ r. ⌜ r ≡ settingsValid self ⌝ }
     {
@@ -129,7 +130,8 @@ impl Settings {
 }
 
 impl Effort {
-    // Whether the unanswered polls are those that the register tells.
+    // Whether the number of unanswered polls is the one that the register implies.
+    // promise: whole.2, no8.6
     pub fn valid(self) -> bool
         ensures { λ r. ⌜ r ≡ effortValid self ⌝ }
     {
@@ -139,7 +141,7 @@ impl Effort {
 }
 
 impl Pending {
-    // No request is pending, since one was answered or since none was sent.
+    // No request is pending: one was answered, or none was sent.
     pub fn none(answered: bool) -> Pending
         ensures { λ r. ⌜ r ≡ noPending answered ⌝ }
     {
@@ -160,7 +162,8 @@ fn zero_uid(uid: [u8; 32]) -> bool
     words::zeros_from(&uid, 0)
 }
 
-// Whether a pending request is unanswered, and an absent one zero. `zero` says whether its identifier is: that is tested once, for this and for `idle_valid`.
+// Whether a pending request is unanswered, and an absent one is zero. `zero` says whether its identifier is: one test serves this and `idle_valid`.
+// promise: whole.2, no3.3
 fn pending_valid(request: Pending, zero: bool) -> bool
     requires { ⌜ zero ≡ zeros (request .uid) ⌝ }
     ensures { λ r. ⌜ r ≡ pendingValid request ⌝ }
@@ -177,7 +180,7 @@ fn pending_valid(request: Pending, zero: bool) -> bool
     zero
 }
 
-// Whether what only NTS uses is zero where there is no NTS: the reading place, the count, and the identifier, of which `zero` says whether it is.
+// Whether what only NTS uses is zero if there is no NTS: the reading place, the count, and the identifier. `zero` says whether the identifier is zero.
 fn idle_valid(nts: bool, read: usize, held: usize, zero: bool) -> bool
     ensures { λ r. ⌜ r ≡ (nts || (eqb read 0 && (eqb held 0 && zero))) ⌝ }
 {
@@ -214,7 +217,8 @@ pub fn list_broken(nts: bool, list: &[u8]) -> bool
     }
 }
 
-// Whether a record is whole, of its settings, of what is seen of its stash, and of its state.
+// Whether a record is whole, given its settings, the summary of its stash, and its state.
+// promise: whole.2, no8.6, no14.3 (and by it every call)
 pub fn whole_seen(settings: Settings, seen: Seen, state: State) -> bool
     ensures { λ r. ⌜ r ≡ wholeSeen settings seen state ⌝ }
 {
@@ -242,6 +246,7 @@ pub fn whole_seen(settings: Settings, seen: Seen, state: State) -> bool
 
 impl Association {
     // The blank record: all zero, V4.
+    // promise: whole.4
     pub fn blank() -> Association
         ensures { λ r. ⌜ r ≡ blankOf ⌝ }
     {
@@ -285,7 +290,7 @@ impl Association {
         }
     }
 
-    // Whether the record is whole.
+    // promise: whole.2, no12.3
     pub fn whole(self) -> bool
         ensures { λ r. ⌜ r ≡ wholeOf self ⌝ }
     {
@@ -327,7 +332,8 @@ impl Association {
         }
     }
 
-    // Makes an association; with NTS it takes a first cookie list, and tells what of it fell out.
+    // Makes an association. With NTS it stores a first cookie list, and reports what fell out.
+    // promise: whole.4, no5.5, no12.1, no12.2, no14.1
     pub fn new(settings: Settings, list: &[u8]) -> NewOut
         ensures { λ r. ⌜ r ≡ newOf settings (now (list .entry)) ⌝ }
     {
@@ -386,6 +392,7 @@ pub enum NewAnswer {
 }
 
 impl NewAnswer {
+    // promise: whole.4
     pub fn number(self) -> u8
         ensures { λ r. ⌜ r ≡ numberOf self ⌝ }
     {
@@ -398,7 +405,7 @@ impl NewAnswer {
     }
 }
 
-// What `new` gives: its answer, what fell out while the first list was stored, and the association, blank where it was refused.
+// What `new` returns: its answer, what fell out while the first list was stored, and the association, which is blank if it was rejected.
 pub struct NewOut {
     pub answer: NewAnswer,
     pub dropped: Dropped,

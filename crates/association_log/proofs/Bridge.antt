@@ -44,13 +44,17 @@ decodedIn κs x =
 pub data Ran : Association → List (Call rule) → List (Done machine) → Association → Type 1 where
   done : {a : Association} → Ran a [] [] a
   timed :
-      {cs : List (Call rule)} {ds : List (Done machine)} {b : Association} (κs : Lfts 2) (x : ArgsD T.signature κs) (y : ResD T.signature κs) (e : AtExit T.ended κs) →
-      timer-post κs x y e → Ran (now (e .0)) cs ds b → Ran (now (x .0)) (timer (timerIn κs x) ∷ cs) (ofTimer (timerIn κs x) (y, now (e .1 .1 .1 .1 .1 .0)) ∷ ds) b
+      {cs : List (Call rule)} {ds : List (Done machine)} {b : Association} (κs : Lfts 2) (x : ArgsD T.signature κs) (y : ResD T.signature κs)
+      (e : AtExit T.ended κs) →
+      timer-post κs x y e → Ran (now (e .0)) cs ds b →
+      Ran (now (x .0)) (timer (timerIn κs x) ∷ cs) (ofTimer (timerIn κs x) (y, now (e .1 .1 .1 .1 .1 .0)) ∷ ds) b
   replied :
-      {cs : List (Call rule)} {ds : List (Done machine)} {b : Association} (κs : Lfts 4) (x : ArgsD R.signature κs) (y : ResD R.signature κs) (e : AtExit R.ended κs) →
+      {cs : List (Call rule)} {ds : List (Done machine)} {b : Association} (κs : Lfts 4) (x : ArgsD R.signature κs) (y : ResD R.signature κs)
+      (e : AtExit R.ended κs) →
       reply-post κs x y e → Ran (now (e .0)) cs ds b → Ran (now (x .0)) (reply (replyIn κs x) ∷ cs) (ofReply (replyIn κs x) y ∷ ds) b
   replied-decoded :
-      {cs : List (Call rule)} {ds : List (Done machine)} {b : Association} (κs : Lfts 2) (x : ArgsD D.signature κs) (y : ResD D.signature κs) (e : AtExit D.ended κs) →
+      {cs : List (Call rule)} {ds : List (Done machine)} {b : Association} (κs : Lfts 2) (x : ArgsD D.signature κs) (y : ResD D.signature κs)
+      (e : AtExit D.ended κs) →
       reply-decoded-post κs x y e → Ran (now (e .0)) cs ds b → Ran (now (x .0)) (reply (decodedIn κs x) ∷ cs) (ofReply (decodedIn κs x) y ∷ ds) b
 
 -- one call more in front
@@ -58,13 +62,16 @@ turn : {X : Type 0} (made : X → Done machine) {x x′ : X} {a a′ b : Associa
     x ≡ x′ → a ≡ a′ → (ds ≡ run machine a cs) × (b ≡ after machine a cs) → (made x ∷ ds ≡ made x′ ∷ run machine a′ cs) × (b ≡ after machine a′ cs)
 turn made cs p q k = (λ i. made (p i) ∷ (k .0 ∙ ap (λ (z : Association). run machine z cs) q) i, k .1 ∙ ap (λ (z : Association). after machine z cs) q)
 
+-- promise: demand.3 (a run of the code's calls is the machine's run)
 pub ran-is-run : {a b : Association} {cs : List (Call rule)} {ds : List (Done machine)} → Ran a cs ds b → (ds ≡ run machine a cs) × (b ≡ after machine a cs)
 ran-is-run done = (refl, refl)
-ran-is-run (timed {cs} κs x y e p rest) = turn (ofTimer (timerIn κs x)) cs (ap (λ (z : Timed). (z .gives .answer, z .left)) p) (ap (λ (z : Timed). z .gives .association) p) (ran-is-run rest)
+ran-is-run (timed {cs} κs x y e p rest) =
+    turn (ofTimer (timerIn κs x)) cs (ap (λ (z : Timed). (z .gives .answer, z .left)) p) (ap (λ (z : Timed). z .gives .association) p) (ran-is-run rest)
 ran-is-run (replied {cs} κs x y e p rest) = turn (ofReply (replyIn κs x)) cs (p .0) (p .1) (ran-is-run rest)
 ran-is-run (replied-decoded {cs} κs x y e p rest) = turn (ofReply (decodedIn κs x)) cs (p .0) (p .1) (ran-is-run rest)
 
 -- demand 3 of the code: a run of its calls from what `new` made, with accepted timers and well-formed replies, is a run of which demand 3 holds
+-- promise: no3.6, demand.3 (of the code's calls)
 pub code-demand3 : (s : Settings) (list : List ℕ) {b : Association} {cs : List (Call rule)} {ds : List (Done machine)} →
     let a = newOf s list .association in
     Ran a cs ds b → Accepted (logged machine ds) → (ds ≡ run machine a cs) × (b ≡ after machine a cs) × Demand3 machine a cs
@@ -73,6 +80,7 @@ code-demand3 s list {cs} r ok =
     (k .0, k .1, association-demand3 s list cs (rw (k .0) at ok))
 
 -- No. 3 of the code: of any run of its calls from what `new` made, the log says why a reply had no live request
+-- promise: no3.5 (of a run of the code's calls)
 pub code-why : (s : Settings) (list : List ℕ) {b : Association} {cs : List (Call rule)} {ds : List (Done machine)} →
     let a = newOf s list .association in
     Ran a cs ds b → (logged machine ds ≡ logOf machine a cs) × Why machine a cs

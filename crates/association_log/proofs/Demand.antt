@@ -52,12 +52,15 @@ pub new-unanswered : (s : Settings) (list : List ℕ) → newOf s list .associat
 unfolding noPending
 new-unanswered s list = ap (λ (q : Pending). q .answered) (new-request s list)
 
--- any log of accepted timers and well-formed replies from a new association, with or without NTS, in all versions and both forms, with clocks jumping either way
+-- any log of accepted timers and well-formed replies from a new association, with or without NTS, in all versions and both forms, with clocks jumping either
+-- way
+-- promise: demand.3 (from a new association)
 pub association-demand3 : (s : Settings) (list : List ℕ) (calls : List (Call rule)) →
     let a = newOf s list .association in
     Accepted (logOf machine a calls) → Demand3 machine a calls
 association-demand3 s list calls ok = demand3 machine laws (newOf s list .association) calls (new-pends-nothing s list) ok
 
 -- any log at all from a new association says by itself why a reply had no live request
+-- promise: no3.5
 pub association-why : (s : Settings) (list : List ℕ) (calls : List (Call rule)) → Why machine (newOf s list .association) calls
 association-why s list calls = why-told machine laws (newOf s list .association) calls (new-pends-nothing s list) (new-unanswered s list)

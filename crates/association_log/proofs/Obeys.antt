@@ -24,7 +24,24 @@ use Rattle.reply_clauses.specs.After.{Arrival, unexpired, live}
 use Rattle.reply_rules.proofs.Actions.{reply-acts}
 use Rattle.reply.specs.declared.ReplyOut.{ReplyOut}
 use Rattle.reply.specs.Numbers as N
-use Rattle.reply.specs.Numbers.{not-whole, undecodable, broken-list, unexpected-version, never-sent, already-measured, late, no-match, rate, denied, denied-nts, ntsn, other-kiss, bad-stratum, not-server, measured}
+use Rattle.reply.specs.Numbers.{
+  not-whole,
+  undecodable,
+  broken-list,
+  unexpected-version,
+  never-sent,
+  already-measured,
+  late,
+  no-match,
+  rate,
+  denied,
+  denied-nts,
+  ntsn,
+  other-kiss,
+  bad-stratum,
+  not-server,
+  measured,
+}
 use Rattle.reply.proofs.Numbers.{given}
 use Rattle.reply.proofs.After.{heard}
 use Rattle.log.specs.Log as log
@@ -40,7 +57,8 @@ module _ {a : Association} {read : ReplyRead} {t : Arrival} where
 
   -- a well-formed reply that does not is refused, causes no action and leaves the record
   refused-by : {n : ℕ} {o : ReplyOut} → N.Given a read t n o →
-      ((live (a .state .request) (t .time) ≡ true) × (answersAs (a .settings) (a .state .request) read ≡ true) → ⊥) → T (log.wellFormed n) → T (log.refusal n) × (reply.actionsOf n ≡ []) × (o .association ≡ a)
+      ((live (a .state .request) (t .time) ≡ true) × (answersAs (a .settings) (a .state .request) read ≡ true) → ⊥) → T (log.wellFormed n) →
+      T (log.refusal n) × (reply.actionsOf n ≡ []) × (o .association ≡ a)
   refused-by (not-whole e) dead w = absurd w
   refused-by (undecodable x e) dead w = absurd w
   refused-by (broken-list d e) dead w = absurd w
@@ -88,7 +106,8 @@ settings-kept : (a : Association) (c : M.Call rule) → M.step machine a c .sett
 settings-kept a (M.timer t) = rang a (t .poll) (length (t .buffer)) .settings
 settings-kept a (M.reply r) = heard a (read-by a r) (arrivalOf r) (given a (read-by a r) (arrivalOf r)) .settings
 
-pending-next : (a : Association) (c : M.Call rule) → pendingIn (M.step machine a c .state .request) ≡ log.next rule (a .settings) (pendingIn (a .state .request)) (M.note machine (M.made machine a c))
+pending-next : (a : Association) (c : M.Call rule) →
+    pendingIn (M.step machine a c .state .request) ≡ log.next rule (a .settings) (pendingIn (a .state .request)) (M.note machine (M.made machine a c))
 pending-next a (M.timer t) =
     ap pendingIn (rang a (t .poll) (length (t .buffer)) .request)
     ∙ pending-asked (eqb (timer.numberOf (timed a t .0 .0)) 20) (a .state .request) _ (pending-present (a .settings .nts) (a .settings .window) (t .poll))
@@ -107,7 +126,8 @@ unfolding pendingOf
 answered-asked true nts window i q = refl
 answered-asked false nts window i q = refl
 
-answered-next : (a : Association) (c : M.Call rule) → M.step machine a c .state .request .answered ≡ log.nextAnswered (a .state .request .answered) (M.note machine (M.made machine a c))
+answered-next : (a : Association) (c : M.Call rule) →
+    M.step machine a c .state .request .answered ≡ log.nextAnswered (a .state .request .answered) (M.note machine (M.made machine a c))
 answered-next a (M.timer t) =
     ap (λ (q : Pending). q .answered) (rang a (t .poll) (length (t .buffer)) .request)
     ∙ answered-asked (eqb (timer.numberOf (timed a t .0 .0)) 20) (a .settings .nts) (a .settings .window) (t .poll) (a .state .request)
@@ -128,7 +148,8 @@ module _ (a : Association) (r : ReplyIn) where
   reason-is : reason ≡ reason-of (a .state .request .present) (a .state .request .answered) (unexpired (a .state .request .deadline) (arrivalOf r .time))
   reason-is = by (a .state .request .present) (a .state .request .answered)
     where
-      by : (present answered : Bool) → log.reason rule (cond present (some (a .state .request)) none) answered r ≡ reason-of present answered (unexpired (a .state .request .deadline) (arrivalOf r .time))
+      by : (present answered : Bool) → log.reason rule (cond present (some (a .state .request)) none) answered r
+          ≡ reason-of present answered (unexpired (a .state .request .deadline) (arrivalOf r .time))
       by true answered = refl
       by false true = refl
       by false false = refl
@@ -141,8 +162,10 @@ module _ (a : Association) (r : ReplyIn) where
   told-by (undecodable x e) w = absurd w
   told-by (broken-list d e) w = absurd w
   told-by (unexpected-version l e) w = absurd w
-  told-by (never-sent x e) w = let p = both (not (a .state .request .present)) _ e in sym (reason-is ∙ rw (not-true (a .state .request .present) (p .0), not-true (a .state .request .answered) (p .1)))
-  told-by (already-measured x e) w = let p = both (not (a .state .request .present)) _ e in sym (reason-is ∙ rw (not-true (a .state .request .present) (p .0), p .1))
+  told-by (never-sent x e) w = let p = both (not (a .state .request .present)) _ e in
+      sym (reason-is ∙ rw (not-true (a .state .request .present) (p .0), not-true (a .state .request .answered) (p .1)))
+  told-by (already-measured x e) w = let p = both (not (a .state .request .present)) _ e in
+      sym (reason-is ∙ rw (not-true (a .state .request .present) (p .0), p .1))
   told-by (late x e) w =
       let p = both (a .state .request .present) _ e in
       sym (reason-is ∙ rw (p .0, lt-leb _ _ (ltb-true _ _ (p .1))))
@@ -156,6 +179,7 @@ module _ (a : Association) (r : ReplyIn) where
   told-by (not-server s e) w = live-reason (s .unkissed .acknowledged .undenied .unlimited .matching .in-time .pending)
   told-by (measured s e) w = live-reason (s .unkissed .acknowledged .undenied .unlimited .matching .in-time .pending)
 
+-- promise: demand.3 (the association obeys them)
 pub laws : M.Laws machine
 laws = record {
   settings-kept = settings-kept;

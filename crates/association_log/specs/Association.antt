@@ -25,7 +25,7 @@ use Rattle.reply.specs.Reply.{repliedOf}
 use Rattle.log.specs.Log.{Rule}
 use Rattle.log.specs.Machine.{Machine}
 
--- the inputs of a timer: those of the poll, and the buffer that is lent, as it stands
+-- the inputs of a timer: those of the poll, and the lent buffer with its bytes
 pub record TimerIn : Type 0 where
   pub poll : TimerInput
   pub buffer : List ℕ
@@ -65,11 +65,13 @@ rule = record {
 abbrev pub pendingIn : Pending → Option Pending
 pendingIn q = cond (q .present) (some q) none
 
--- a timer's whole answer: what it gives back, and what it leaves in the buffer, where the cookie's bytes are handed out
+-- a timer's whole answer: what it returns, and what it leaves in the buffer, to which it copies the cookie's bytes
 abbrev pub timed : Association → TimerIn → (TimerAnswer × List ℕ) × Association
 timed a t = let o = timerOf a (t .poll) (length (t .buffer)) in ((o .answer, bufferOf a (t .poll) (t .buffer)), o .association)
 
--- both forms are what is given of what was read: the answer, what fell out of the stash, and the record
+-- the result of either form, from what was read: the answer, what fell out of the stash, and the record
+-- promise no5.7: Striking leaves the count and the sum of what fell out.
+-- promise: no5.7 (an answer of the machine is `Replied`)
 abbrev pub replied : Association → ReplyIn → Replied × Association
 replied a r = let o = repliedOf a (readAs (a .settings) (a .state .request) r) (arrivalOf r) in (o .replied, o .association)
 

@@ -33,6 +33,7 @@ module _ (cap : ℕ) (starts repeats : List ℕ) (n : ℕ) (e : n ≡ entriesOf 
         counted : lowest (above cap loads) 1440 ≡ lowest (over cap starts repeats n) 1440
         counted = agree (above cap loads) (over cap starts repeats n) 1440 (λ m k. ap (ltb cap) (h m k))
 
+        -- promise: no13.2 (the check by loads is that by the count)
         pub is-over-cap : (m : ℕ) → lowest (above cap loads) 1440 ≡ At m → checkOf cap starts repeats ≡ OverCap m
         unfolding checkOf
         is-over-cap m o = rw (← e, le-ltb 64 n few, b, l, sym counted ∙ o)

@@ -11,12 +11,14 @@ use Rattle.calendar.specs.Calendar.{polls}
 use Rattle.calendar.proofs.Search.{split}
 
 module _ (start repeat : ℕ) (h : start < repeat) where
+  -- promise: no13.2
   pub first : start % repeat ≡ start
   first = mod-eq-of-lt h
 
   pub none-before : (j : ℕ) → j < start → polls start repeat j ≡ false
   none-before j l = ne-eqb (j % repeat) start (λ e. let q : j % repeat ≡ j = mod-eq-of-lt (omega arith) in omega arith)
 
+  -- promise: no13.2
   pub next : (m : ℕ) → m % repeat ≡ start → (m + repeat) % repeat ≡ start
   next m e = add-mod-right m repeat ∙ e
 
@@ -31,6 +33,7 @@ module _ (start repeat : ℕ) (h : start < repeat) where
       let z : (start + d - repeat) % repeat ≡ start + d - repeat = mod-eq-of-lt (omega arith) in omega arith)
       (split (start + d) repeat)
 
+  -- promise: no13.2
   pub none-between : (m j : ℕ) → m % repeat ≡ start → m < j → j < m + repeat → polls start repeat j ≡ false
   none-between m j e a b =
       ne-eqb (j % repeat) start

@@ -27,6 +27,7 @@ module _ (cap : ℕ) (starts repeats : List ℕ) where
   Told r = Given (numberOf r) r
 
   -- what is given is given under the rule of its number
+  -- promise: no13.3
   pub given : Told (checkOf cap starts repeats)
   unfolding checkOf
   given =
@@ -38,11 +39,17 @@ module _ (cap : ℕ) (starts repeats : List ℕ) where
       either-way Told (over cap starts repeats (entriesOf starts repeats)) 1440 (λ m o. over-cap m e o) (λ o. accepted e o))))
 
   -- where a number's rule holds, that rule's answer is given
+  -- promise: no13.3
   pub only : {n : ℕ} {r : CheckAnswer} → Given n r → checkOf cap starts repeats ≡ r
   unfolding checkOf
   only (too-many h) = rw h
   only (bad-repeat k f b) = rw (f, is (badRepeat repeats) (entriesOf starts repeats) (At k) b)
-  only (late-start k d l) = rw (d .few, is (badRepeat repeats) (entriesOf starts repeats) Nothing (d .divide), is (lateStart starts repeats) (entriesOf starts repeats) (At k) l)
+  only (late-start k d l) = rw (
+    d .few,
+    is (badRepeat repeats) (entriesOf starts repeats) Nothing (d .divide),
+    is (lateStart starts repeats)
+        (entriesOf starts repeats) (At k) l,
+  )
   only (over-cap m e o) =
       rw (
         e .divided .few,
@@ -66,6 +73,7 @@ module _ (cap : ℕ) (starts repeats : List ℕ) where
   numbered (accepted e o) = refl
 
   -- so a number is given if and only if its rule holds
+  -- promise: no13.3
   pub number : (n : ℕ) → (numberOf (checkOf cap starts repeats) ≡ n) ↔ ((r : CheckAnswer) × Given n r)
   number n = (
     λ e. (checkOf cap starts repeats, subst (λ (k : ℕ). Given k (checkOf cap starts repeats)) e given),
@@ -100,5 +108,6 @@ module _ (cap : ℕ) (starts repeats : List ℕ) where
       })
       (λ m l. le-ltb cap (load starts repeats (entriesOf starts repeats) m) (f .under m l))
 
+  -- promise: no13.4
   pub accepts : (checkOf cap starts repeats ≡ Accepted) ↔ N.Fine cap starts repeats
   accepts = (λ e. fine-of given e, λ f. only (of-fine f))

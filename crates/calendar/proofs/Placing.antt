@@ -46,7 +46,8 @@ taken-or-over : (cap x : ℕ) (t : Bool) → x ≤ cap → (t && leb cap x) ≡ 
 taken-or-over cap x true h = sym (leb·suc-suc cap x)
 taken-or-over cap x false h = sym (le-ltb cap x h)
 
-module _ (cap : ℕ) (repeats placed loads : List ℕ) (i : Loaded placed repeats loads (length placed)) (under : None (over cap placed repeats (length placed)) 1440) where
+module _ (cap : ℕ) (repeats placed loads : List ℕ) (i : Loaded placed repeats loads (length placed))
+    (under : None (over cap placed repeats (length placed)) 1440) where
   free-is-fits : (start : ℕ) → free cap loads (repeatOf repeats (length placed)) start ≡ fits cap repeats placed start
   free-is-fits start =
       ap isNothing
@@ -83,7 +84,8 @@ module _ (cap : ℕ) (repeats placed : List ℕ) (n k : ℕ) where
   one-more : k < n → n - k ≡ suc (n - (k + 1))
   one-more l = omega arith
 
-  pub plan-on : k < n → (start : ℕ) → earliestOf cap repeats placed ≡ At start → planFrom cap repeats (n - k) placed ≡ planFrom cap repeats (n - (k + 1)) (placed ++ start ∷ [])
+  pub plan-on : k < n → (start : ℕ) → earliestOf cap repeats placed ≡ At start →
+      planFrom cap repeats (n - k) placed ≡ planFrom cap repeats (n - (k + 1)) (placed ++ start ∷ [])
   unfolding planFrom
   plan-on l start e = rw (one-more l, e)
 

@@ -29,6 +29,7 @@ module _ (cap : ℕ) (repeats : List ℕ) where
 
   -- ---- a plan goes as the starts are placed
 
+  -- promise: no13.5
   pub along : (n : ℕ) (placed : List ℕ) → Placed placed → length placed ≤ n → planFrom cap repeats n [] ≡ planFrom cap repeats (n - length placed) placed
   unfolding earliestOf
   along n [] none l = let z : n - 0 ≡ n = omega arith in rw z
@@ -41,8 +42,10 @@ module _ (cap : ℕ) (repeats : List ℕ) where
   -- what a plan is: all the entries are placed, or those before the one for which none fits
   pub data Made (n : ℕ) : Plan → Type 0 where
     all : (starts : List ℕ) → Placed starts → length starts ≡ n → Made n (whole starts)
-    some : (placed : List ℕ) → Placed placed → length placed < n → None (fits cap repeats placed) (repeatOf repeats (length placed)) → Made n (stuck (length placed))
+    some : (placed : List ℕ) → Placed placed → length placed < n → None (fits cap repeats placed) (repeatOf repeats (length placed)) →
+        Made n (stuck (length placed))
 
+  -- promise: no13.5
   pub made : (j : ℕ) (placed : List ℕ) → Placed placed → Made (length placed + j) (planFrom cap repeats j placed)
   unfolding planFrom earliestOf
   made zero placed p = all placed p (omega arith)
@@ -54,7 +57,8 @@ module _ (cap : ℕ) (repeats : List ℕ) where
       (λ h. some placed p (omega arith) h)
 
   pub made-whole : Made (length repeats) (planFrom cap repeats (length repeats) [])
-  made-whole = let z : 0 + length repeats ≡ length repeats = omega arith in subst (λ (n : ℕ). Made n (planFrom cap repeats (length repeats) [])) z (made (length repeats) [] none)
+  made-whole = let z : 0 + length repeats ≡ length repeats = omega arith in
+      subst (λ (n : ℕ). Made n (planFrom cap repeats (length repeats) [])) z (made (length repeats) [] none)
 
   module _ (room : ℕ) where
     abbrev Given : ℕ → PlanAnswer → Type 0
@@ -71,6 +75,7 @@ module _ (cap : ℕ) (repeats : List ℕ) where
     placed-told d _ (some placed p l h) = no-fit placed d p l h
 
     -- what is given is given under the rule of its number
+    -- promise: no13.6
     pub given : Told (planOf cap repeats room)
     unfolding planOf
     given =
@@ -82,6 +87,7 @@ module _ (cap : ℕ) (repeats : List ℕ) where
     whole-plan starts p e = along (length repeats) starts p (omega arith) ∙ plan-whole cap repeats starts (length repeats) (length starts) (omega arith)
 
     -- where a number's rule holds, that rule's answer is given
+    -- promise: no13.6
     pub only : {n : ℕ} {r : PlanAnswer} → Given n r → planOf cap repeats room ≡ r
     unfolding planOf earliestOf
     only (too-many h) = rw h
@@ -106,6 +112,7 @@ module _ (cap : ℕ) (repeats : List ℕ) where
     numbered (planned starts d p e l) = refl
 
     -- so a number is given if and only if its rule holds
+    -- promise: no13.6
     pub number : (n : ℕ) → (planNumberOf (planOf cap repeats room) ≡ n) ↔ ((r : PlanAnswer) × Given n r)
     number n = (
       λ e. (planOf cap repeats room, subst (λ (k : ℕ). Given k (planOf cap repeats room)) e given),

@@ -46,7 +46,8 @@ module _ (cap : ℕ) (repeats out : List ℕ) where
           go : stuck k ≡ planFrom cap repeats (length repeats) [] → planOf cap repeats (length out) ≡ NoFit k
           go p = rw (le-ltb 64 (length repeats) few, b, sym p)
 
-      module _ (placed : List ℕ) (enough : length repeats ≤ length placed) (p : whole (take (length repeats) placed) ≡ planFrom cap repeats (length repeats) []) where
+      module _ (placed : List ℕ) (enough : length repeats ≤ length placed)
+          (p : whole (take (length repeats) placed) ≡ planFrom cap repeats (length repeats) []) where
         long : length (take (length repeats) placed) ≡ length repeats
         long = length-take-le (length repeats) placed enough
 

@@ -40,7 +40,9 @@ module _ (cap : ℕ) (repeats : List ℕ) where
   before-last : (n k : ℕ) → k < n + 1 → k ≤ n
   before-last n k l = omega arith
 
-  pub each : (starts : List ℕ) → M.Placed cap repeats starts → (k : ℕ) → k < length starts → First (fits cap repeats (take k starts)) (repeatOf repeats k) (startOf starts k)
+  -- promise: no13.5
+  pub each : (starts : List ℕ) → M.Placed cap repeats starts → (k : ℕ) → k < length starts →
+      First (fits cap repeats (take k starts)) (repeatOf repeats k) (startOf starts k)
   each [] none k l = absurd (omega arith)
   each _ (next placed start p f) k l =
       ⊎-elim
@@ -60,7 +62,8 @@ module _ (cap : ℕ) (repeats : List ℕ) where
       let e : length (placed ++ start ∷ []) ≡ suc (length placed) = omega (arith, length-append placed (start ∷ [])) in
       rw e (nothing (over cap (placed ++ start ∷ []) repeats (suc (length placed))) 1440 (isNothing-true _ (f .passes)) m l)
 
-  pub accepted-plan : (starts : List ℕ) → M.Divided cap repeats → M.Placed cap repeats starts → length starts ≡ length repeats → checkOf cap starts repeats ≡ Accepted
+  pub accepted-plan : (starts : List ℕ) → M.Divided cap repeats → M.Placed cap repeats starts → length starts ≡ length repeats →
+      checkOf cap starts repeats ≡ Accepted
   accepted-plan starts d p e =
       let n : entriesOf starts repeats ≡ length repeats = omega arith in
       check.only cap starts repeats
@@ -97,6 +100,7 @@ module _ (cap : ℕ) (repeats : List ℕ) where
       buffer-is = rw (e, plan.whole-plan cap repeats (length out) (plan-given .starts) (plan-given .placed) (plan-given .long))
 
       -- THE LAW: what it gives is accepted
+      -- promise: no13.8
       pub given-is-accepted : checkOf cap (take (length repeats) (bufferOf cap repeats out)) repeats ≡ Accepted
       given-is-accepted =
           let w = plan-given in
@@ -111,6 +115,7 @@ module _ (cap : ℕ) (repeats : List ℕ) where
           rw (buffer-is, drop-at (w .starts) (drop (length (w .starts)) out) (length repeats) (w .long), w .long)
 
     -- where it refuses, nothing is written
+    -- promise: no13.9
     pub refused-untouched : (planNumberOf (planOf cap repeats (length out)) ≡ 0 → ⊥) → bufferOf cap repeats out ≡ out
     unfolding bufferOf
     refused-untouched h = go (planOf cap repeats (length out)) h
@@ -142,6 +147,7 @@ module _ (cap : ℕ) (repeats : List ℕ) where
     plan-80 (M.no-room starts d p e l) q = let z : _≡_ {A = ℕ} 0 1 = cc in absurd (omega arith)
     plan-80 (M.planned starts d p e l) q = let z : _≡_ {A = ℕ} 0 1 = cc in absurd (omega arith)
 
+    -- promise: no13.6
     pub same-80 : (checkOf cap starts repeats ≡ C.TooMany) ↔ (planOf cap repeats room ≡ P.TooMany)
     same-80 = (
       λ e. plan.only cap repeats room (M.too-many (check-80 (check.given cap starts repeats) e)),
@@ -165,6 +171,7 @@ module _ (cap : ℕ) (repeats : List ℕ) where
     plan-81 k (M.no-room starts d p e l) q = let z : _≡_ {A = ℕ} 0 1 = cc in absurd (omega arith)
     plan-81 k (M.planned starts d p e l) q = let z : _≡_ {A = ℕ} 0 1 = cc in absurd (omega arith)
 
+    -- promise: no13.6
     pub same-81 : (k : ℕ) → (checkOf cap starts repeats ≡ C.BadRepeat k) ↔ (planOf cap repeats room ≡ P.BadRepeat k)
     same-81 k = (
       λ e. let b = check-81 k (check.given cap starts repeats) e in plan.only cap repeats room (M.bad-repeat k (b .0) (b .1)),
@@ -172,6 +179,7 @@ module _ (cap : ℕ) (repeats : List ℕ) where
     )
 
 -- ---- lists of unequal length are never accepted
+-- promise: no13.1 (lists of unequal length are never accepted)
 pub unequal : (cap : ℕ) (starts repeats : List ℕ) → checkOf cap starts repeats ≡ Accepted → length starts ≡ length repeats
 unequal cap starts repeats e =
     let f = check.accepts cap starts repeats .0 e in

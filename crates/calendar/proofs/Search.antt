@@ -39,6 +39,7 @@ none-more test i h e = below-more (λ (k : ℕ). test k ≡ false) i h e
 lt-suc : (k n : ℕ) → k < suc n → k ≤ n
 lt-suc k n l = omega arith
 
+-- promise: no13.3
 pub sought : (test : ℕ → Bool) (n : ℕ) → Sought test n (lowest test n)
 unfolding lowest
 sought test zero = none-yet test
@@ -51,6 +52,7 @@ sought test (suc n) = go (lowest test n) (sought test n)
         (λ e. record { below = omega arith; passes = e; first = s })
         (λ e k l. ⊎-elim (λ q. rw q e) (λ q. s k q) (eq-or-lt-of-le (lt-suc k n l)))
 
+-- promise: no13.3
 pub unique : (test : ℕ → Bool) (n : ℕ) (f g : Found) → Sought test n f → Sought test n g → f ≡ g
 unique test n (At i) (At j) s t =
     ⊎-elim (λ l. absurd (never (s .passes) (t .first i l)))

@@ -1,4 +1,4 @@
--- The definitions that the contracts of `calendar` cite, and the statements that its laws are of.
+-- The definitions that the contracts of `calendar` cite, and the statements that its laws prove.
 pub mod Lowest
 pub mod Calendar
 pub mod Loads

@@ -6,12 +6,13 @@ use Prim.Native.Nat.{ℕ, zero, suc, _<_}
 use Rattle.calendar.specs.declared.Found.{Found}
 use Rattle.calendar.specs.declared.Found.the-variants.{At, Nothing}
 
--- what is made of a number that was found, or else
+-- a function of the number that was found, or `other` if none was
 abbrev pub named : {A : Type 0} → Found → (ℕ → A) → A → A
 named (At k) f other = f k
 named Nothing f other = other
 
--- below n + 1: the lowest below n, and where there is none, n if it passes
+-- below n + 1: the lowest below n or, if there is none, n if it passes
+-- promise: no13.3
 unfoldable pub lowest : (ℕ → Bool) → ℕ → Found
 lowest test zero = Nothing
 lowest test (suc n) = named (lowest test n) At (cond (test n) (At n) Nothing)
@@ -23,12 +24,14 @@ isNothing Nothing = true
 -- ---- what it means
 
 -- a number below the bound that passes, with none below it that does
+-- promise: no13.3
 pub record First (test : ℕ → Bool) (n i : ℕ) : Type 0 where
   pub below : i < n
   pub passes : test i ≡ true
   pub first : (k : ℕ) → k < i → test k ≡ false
 
 -- none below the bound passes
+-- promise: no13.3
 abbrev pub None : (ℕ → Bool) → ℕ → Type 0
 None test n = (k : ℕ) → k < n → test k ≡ false
 

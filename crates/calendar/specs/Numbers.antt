@@ -1,4 +1,4 @@
--- RULES, No. 13: when the check gives each number, and with which answer, in the order of the tests; and what it is for a calendar to be accepted.
+-- RULES, No. 13: when the check returns each number, and with which answer, in the order of the tests; and what an accepted calendar is.
 -- Assumes nothing.
 use mathlib.Core.Path.{_≡_}
 use mathlib.Core.Bool.{true, false}
@@ -24,6 +24,7 @@ module _ (cap : ℕ) (starts repeats : List ℕ) where
     pub early : None (lateStart starts repeats) (entriesOf starts repeats)
 
   -- ---- the numbers, each with its answer, which names the lowest entry or minute
+  -- promise: no13.3
   pub data Given : ℕ → CheckAnswer → Type 0 where
     too-many : ltb 64 (entriesOf starts repeats) ≡ true → Given 80 TooMany
     bad-repeat : (k : ℕ) → ltb 64 (entriesOf starts repeats) ≡ false → First (badRepeat repeats) (entriesOf starts repeats) k → Given 81 (BadRepeat k)
@@ -31,7 +32,9 @@ module _ (cap : ℕ) (starts repeats : List ℕ) where
     over-cap : (m : ℕ) → Early → First (over cap starts repeats (entriesOf starts repeats)) 1440 m → Given 83 (OverCap m)
     accepted : Early → None (over cap starts repeats (entriesOf starts repeats)) 1440 → Given 0 Accepted
 
-  -- ---- what is accepted, in the document's words
+  -- ---- what is accepted, in the words of the rule
+  -- promise no13.4: A calendar is accepted exactly if it has up to 64 entries, each repeat divides 1440, each start is below its repeat, and no minute has
+  --     more polls than the cap.
   pub record Fine : Type 0 where
     -- up to 64 associations
     pub few : entriesOf starts repeats ≤ 64

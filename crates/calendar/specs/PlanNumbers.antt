@@ -1,4 +1,4 @@
--- RULES, No. 13: when the planner gives each number, and with which answer, in the order of the tests.
+-- RULES, No. 13: when the planner returns each number, and with which answer, in the order of the tests.
 -- Assumes nothing.
 use mathlib.Core.Path.{_≡_}
 use mathlib.Core.Bool.{true, false}
@@ -13,10 +13,12 @@ use Rattle.calendar.specs.declared.PlanAnswer.{PlanAnswer}
 use Rattle.calendar.specs.declared.PlanAnswer.the-variants.{Planned, TooMany, BadRepeat, NoFit, NoRoom}
 
 module _ (cap : ℕ) (repeats : List ℕ) where
-  -- starts placed one by one: each is the earliest below its repeat that fits behind those before
+  -- starts placed one by one: each is the earliest below its repeat that fits with those before it
+  -- promise: no13.5
   pub data Placed : List ℕ → Type 0 where
     none : Placed []
-    next : (placed : List ℕ) (start : ℕ) → Placed placed → First (fits cap repeats placed) (repeatOf repeats (length placed)) start → Placed (placed ++ start ∷ [])
+    next : (placed : List ℕ) (start : ℕ) → Placed placed → First (fits cap repeats placed) (repeatOf repeats (length placed)) start →
+        Placed (placed ++ start ∷ [])
 
   -- neither 80 nor 81
   pub record Divided : Type 0 where
@@ -25,10 +27,11 @@ module _ (cap : ℕ) (repeats : List ℕ) where
 
   -- ---- the numbers, each with its answer
   module _ (room : ℕ) where
+    -- promise: no13.6
     pub data Given : ℕ → PlanAnswer → Type 0 where
       too-many : ltb 64 (length repeats) ≡ true → Given 80 TooMany
       bad-repeat : (k : ℕ) → ltb 64 (length repeats) ≡ false → First (badRepeat repeats) (length repeats) k → Given 81 (BadRepeat k)
-      -- those before the entry are placed, and no start below its repeat fits behind them
+      -- the entries before this one are placed, and no start below its repeat fits with them
       no-fit : (placed : List ℕ) → Divided → Placed placed → length placed < length repeats → None (fits cap repeats placed) (repeatOf repeats (length placed))
           → Given 84 (NoFit (length placed))
       no-room : (starts : List ℕ) → Divided → Placed starts → length starts ≡ length repeats → room < length repeats → Given 31 NoRoom

@@ -1,7 +1,7 @@
 // A poll calendar for one modem: the check of a proposed calendar, and the planner.
-// Promises: each number exactly under its rule, naming the lowest entry or minute; what is planned is accepted, and each start is the earliest that fits.
+// Promises: each number exactly when its rule says so, with the lowest entry or minute; the check accepts every plan; each start is the earliest that fits.
 // Rule: RULES, No. 13; definitions in specs/Calendar.antt and specs/Plan.antt.
-// No number is divided by another here: the smallest boards have no divider, so multiples are reached by steps.
+// The code never divides, since the smallest boards have no divider: it counts multiples up in steps.
 ghost use mathlib.Core.Path.{_≡_};
 ghost use mathlib.Core.List.{[], _++_};
 ghost use Prim.Native.Nat.{ℕ, _%_, _≤_, _<_};
@@ -18,13 +18,13 @@ pub const MOST_ENTRIES: usize = 64;
 
 const LAST_MINUTE: usize = 1439;
 
-// The lowest entry, minute or start that was looked for.
+// The result of a search: the lowest entry, minute or start that passes, or nothing.
 enum Found {
     At(usize),
     Nothing,
 }
 
-// What the check says. Entries and minutes are counted from 0.
+// What the check answers. Entries and minutes are counted from 0.
 pub enum CheckAnswer {
     Accepted,
     TooMany,
@@ -34,6 +34,7 @@ pub enum CheckAnswer {
 }
 
 impl CheckAnswer {
+    // promise: no13.3
     pub fn number(self) -> u8
         ensures { λ r. ⌜ r ≡ numberOf self ⌝ }
     {
@@ -47,7 +48,7 @@ impl CheckAnswer {
     }
 }
 
-// What the planner says: a plan is in the buffer only where the answer is `Planned`.
+// What the planner answers. The buffer has a plan only if the answer is `Planned`.
 pub enum PlanAnswer {
     Planned,
     TooMany,
@@ -57,6 +58,7 @@ pub enum PlanAnswer {
 }
 
 impl PlanAnswer {
+    // promise: no13.6
     pub fn number(self) -> u8
         ensures { λ r. ⌜ r ≡ planNumberOf self ⌝ }
     {
@@ -76,7 +78,7 @@ fn wide(x: u16) -> usize
     x as usize
 }
 
-// What a list has for an entry, or what stands for a number that is missing.
+// The number that a list has for an entry, or `missing` if the list is too short.
 fn number_at(list: &[u16], k: usize, missing: usize) -> usize
     ensures { λ r. ⌜ r ≡ getD (now (list .entry)) k missing ⌝ }
 {
@@ -86,7 +88,7 @@ fn number_at(list: &[u16], k: usize, missing: usize) -> usize
     missing
 }
 
-// How many entries there are: those of the longer list.
+// How many entries there are: as many as the longer list has.
 fn entries(starts: &[u16], repeats: &[u16]) -> usize
     ensures { λ r. ⌜ r ≡ entriesOf (now (starts .entry)) (now (repeats .entry)) ⌝ }
 {
@@ -96,7 +98,7 @@ fn entries(starts: &[u16], repeats: &[u16]) -> usize
     starts.len()
 }
 
-// What is left of a day once a number of minutes is taken from it as often as it can be.
+// The remainder of a day's minutes divided by a repeat, by subtraction.
 fn left_of_day(repeat: usize) -> usize
     requires { ⌜ 0 < repeat ⌝ }
     ensures { λ r. ⌜ r ≡ 1440 % repeat ⌝ }
@@ -145,7 +147,7 @@ fn late_start(starts: &[u16], repeats: &[u16], n: usize) -> Found
     Found::Nothing
 }
 
-// One more poll at each minute of an entry.
+// Adds one poll at each minute of an entry.
 fn add(loads: &mut [u8], start: usize, repeat: usize)
     requires { ⌜ (length (now loads) ≡ 1440) × (start < repeat) × (repeat ≤ 1440) × ((m : ℕ) → getD (now loads) m 0 < 255) ⌝ }
     ensures { λ r. ⌜ ((m : ℕ) → m < 1440 → getD (now (loads .exit)) m 0 ≡ oneMore start repeat (now (loads .entry)) m) ⌝ }
@@ -157,9 +159,10 @@ fn add(loads: &mut [u8], start: usize, repeat: usize)
     }
 }
 
-// The polls of every minute, counted into a day of zeros.
+// Counts the polls of every minute into a day of zeros.
 fn add_all(loads: &mut [u8], starts: &[u16], repeats: &[u16], n: usize)
-    requires { ⌜ (length (now loads) ≡ 1440) × (n ≤ 64) × ((m : ℕ) → getD (now loads) m 0 ≡ 0) × ((k : ℕ) → k < n → getD (now starts) k 1440 < getD (now repeats) k 0) × ((k : ℕ) → k < n → getD (now repeats) k 0 ≤ 1440) ⌝ }
+    requires { ⌜ (length (now loads) ≡ 1440) × (n ≤ 64) × ((m : ℕ) → getD (now loads) m 0 ≡ 0) ×
+        ((k : ℕ) → k < n → getD (now starts) k 1440 < getD (now repeats) k 0) × ((k : ℕ) → k < n → getD (now repeats) k 0 ≤ 1440) ⌝ }
     ensures { λ r. ⌜ ((m : ℕ) → m < 1440 → getD (now (loads .exit)) m 0 ≡ load (now (starts .entry)) (now (repeats .entry)) n m) ⌝ }
 {
     let mut k: usize = 0;
@@ -188,7 +191,9 @@ fn over_cap(loads: &[u8], cap: u8) -> Found
     Found::Nothing
 }
 
-// Whether a calendar is accepted: up to 64 entries, each repeat divides 1440, each start is below its repeat, and no minute of the day has more polls than the cap.
+// Whether a calendar is accepted: up to 64 entries, each repeat divides 1440, each start is below its repeat, and no minute has more polls than the cap.
+// promise no13.10: No division is needed: no function of `calendar/src` has a `/` or a `%`. Read off the source.
+// promise: no13.1, no13.2 (by loads, minute by minute), no13.3, no13.4, no13.10 (multiples are reached by steps)
 pub fn check(cap: u8, starts: &[u16], repeats: &[u16]) -> CheckAnswer
     ensures { λ r. ⌜ r ≡ checkOf cap (now (starts .entry)) (now (repeats .entry)) ⌝ }
 {
@@ -212,7 +217,7 @@ pub fn check(cap: u8, starts: &[u16], repeats: &[u16]) -> CheckAnswer
     }
 }
 
-// Whether each minute of an entry takes one poll more.
+// Whether each minute of an entry has room for one more poll.
 fn fits(loads: &[u8], cap: u8, start: usize, repeat: usize) -> bool
     requires { ⌜ (length (now loads) ≡ 1440) × (start < repeat) × (repeat ≤ 1440) ⌝ }
     ensures { λ r. ⌜ r ≡ free cap (now (loads .entry)) repeat start ⌝ }
@@ -242,10 +247,12 @@ fn earliest(loads: &[u8], cap: u8, repeat: usize) -> Found
     Found::Nothing
 }
 
-// Places every entry, with the starts into a list and the polls into a day of zeros, and gives the first entry for which no start fits.
+// Places every entry: writes the starts to a list and counts the polls into a day of zeros. Returns the first entry for which no start fits.
 fn place_all(cap: u8, repeats: &[u16], loads: &mut [u8], placed: &mut [u16]) -> Found
-    requires { ⌜ (length (now loads) ≡ 1440) × (length (now repeats) ≤ 64) × (length (now repeats) ≤ length (now placed)) × ((m : ℕ) → getD (now loads) m 0 ≡ 0) × ((k : ℕ) → k < length (now repeats) → getD (now repeats) k 0 ≤ 1440) ⌝ }
-    ensures { λ r. ⌜ planned r (take (length (now (repeats .entry))) (now (placed .exit))) ≡ planFrom cap (now (repeats .entry)) (length (now (repeats .entry))) [] ⌝ }
+    requires { ⌜ (length (now loads) ≡ 1440) × (length (now repeats) ≤ 64) × (length (now repeats) ≤ length (now placed)) ×
+        ((m : ℕ) → getD (now loads) m 0 ≡ 0) × ((k : ℕ) → k < length (now repeats) → getD (now repeats) k 0 ≤ 1440) ⌝ }
+    ensures { λ r. ⌜ planned r (take (length (now (repeats .entry))) (now (placed .exit)))
+        ≡ planFrom cap (now (repeats .entry)) (length (now (repeats .entry))) [] ⌝ }
 {
     let mut k: usize = 0;
     while k < repeats.len() {
@@ -260,7 +267,7 @@ fn place_all(cap: u8, repeats: &[u16], loads: &mut [u8], placed: &mut [u16]) -> 
     Found::Nothing
 }
 
-// The first n numbers of a list, written to the start of another.
+// Copies the first n numbers of a list to the start of another.
 fn copy(from: &[u16], n: usize, to: &mut [u16])
     requires { ⌜ (n ≤ length (now from)) × (n ≤ length (now to)) ⌝ }
     ensures { λ r. ⌜ now (to .exit) ≡ take n (now (from .entry)) ++ drop n (now (to .entry)) ⌝ }
@@ -272,9 +279,11 @@ fn copy(from: &[u16], n: usize, to: &mut [u16])
     }
 }
 
-// Places the entries one by one, each at the earliest start that fits behind those before. The starts are written where all have one, and nothing is where one has none.
+// Places the entries one by one, each at the earliest start that fits with those before it. Writes the starts if every entry has one, otherwise nothing.
+// promise: no13.5, no13.6, no13.8, no13.9, no13.10
 pub fn plan(cap: u8, repeats: &[u16], starts: &mut [u16]) -> PlanAnswer
-    ensures { λ r. ⌜ (r ≡ planOf cap (now (repeats .entry)) (length (now (starts .entry)))) × (now (starts .exit) ≡ bufferOf cap (now (repeats .entry)) (now (starts .entry))) ⌝ }
+    ensures { λ r. ⌜ (r ≡ planOf cap (now (repeats .entry)) (length (now (starts .entry)))) ×
+        (now (starts .exit) ≡ bufferOf cap (now (repeats .entry)) (now (starts .entry))) ⌝ }
 {
     let n = repeats.len();
     if MOST_ENTRIES < n {

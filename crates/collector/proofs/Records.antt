@@ -70,11 +70,13 @@ body-short p bytes at least start len next w =
 
 -- ---- a record written by four stores and a copy
 
-pub put-long : (out body : List ℕ) (to : ℕ) → to + 4 + length body ≤ length out → length (take to out ++ recordOf body ++ drop (to + 4 + length body) out) ≡ length out
+pub put-long : (out body : List ℕ) (to : ℕ) → to + 4 + length body ≤ length out →
+    length (take to out ++ recordOf body ++ drop (to + 4 + length body) out) ≡ length out
 unfolding recordOf
 put-long out body to fits = simp (length-append, length-take, length-drop) (omega arith)
 
-module _ (out body mark size : List ℕ) (to : ℕ) (fits : to + 4 + length body ≤ length out) (marked : mark ≡ toBe 2 0xC00E) (sized : size ≡ toBe 2 (length body)) where
+module _ (out body mark size : List ℕ) (to : ℕ) (fits : to + 4 + length body ≤ length out) (marked : mark ≡ toBe 2 0xC00E)
+    (sized : size ≡ toBe 2 (length body)) where
   abbrev four : List ℕ
   four = getD mark 0 0 ∷ getD mark 1 0 ∷ getD size 0 0 ∷ getD size 1 0 ∷ []
 
@@ -109,8 +111,10 @@ module _ (out body mark size : List ℕ) (to : ℕ) (fits : to + 4 + length body
   put-is ys e =
       let t : take (to + 4) stored ≡ head = rw stored-is (take-at head (drop (to + 4) out) (to + 4) length-head) in
       let d : drop (to + 4) stored ≡ drop (to + 4) out = rw stored-is (drop-at head (drop (to + 4) out) (to + 4) length-head) in
-      let k : drop (length stored - (to + 4)) (drop (to + 4) stored) ≡ [] = drop-of-length-le (drop (to + 4) stored) {i = length stored - (to + 4)} (simp length-drop (omega arith)) in
-      let a : take (length stored - (to + 4)) (drop (to + 4) stored) ≡ drop (to + 4) stored = take-all (length stored - (to + 4)) (drop (to + 4) stored) (simp length-drop (omega arith)) in
+      let k : drop (length stored - (to + 4)) (drop (to + 4) stored)
+      ≡ [] = drop-of-length-le (drop (to + 4) stored) {i = length stored - (to + 4)} (simp length-drop (omega arith)) in
+      let a : take (length stored - (to + 4)) (drop (to + 4) stored)
+      ≡ drop (to + 4) stored = take-all (length stored - (to + 4)) (drop (to + 4) stored) (simp length-drop (omega arith)) in
       let y : ys ≡ body ++ drop (to + 4 + length body) out = e ∙ rw (a, d, take-length, drop-drop) in
       rw (k, t, y, ← header-is) (joins body (drop (to + 4 + length body) out))
 
@@ -123,7 +127,8 @@ module _ (L R S out₀ : List ℕ) (to : ℕ) (h : to ≤ length L) (e : drop to
   left-long : to + length R + length S ≡ length L
   left-long = omega (arith, simp (length-drop, length-append) at (ap length e))
 
-  buffer-is : (out : List ℕ) → out ≡ take to L ++ drop to out₀ → take to out ++ R ++ drop (to + length R) out ≡ take (to + length R) L ++ drop (to + length R) out₀
+  buffer-is : (out : List ℕ) → out ≡ take to L ++ drop to out₀ →
+      take to out ++ R ++ drop (to + length R) out ≡ take (to + length R) L ++ drop (to + length R) out₀
   buffer-is out q =
       let n : length (take to L) ≡ to = length-take-le to L h in
       let a : take to out ≡ take to L = rw q (take-at (take to L) (drop to out₀) to n) in
@@ -156,7 +161,8 @@ module _ (p out₀ out : List ℕ) (at to kind start len next : ℕ) (i : Along 
     fits room = omega (arith, i .long, room, length-record p at kind start len next e, ahead-long)
 
     -- and with it written the next turn begins
-    pub advance : (out′ : List ℕ) (to′ : ℕ) → to′ ≡ to + 4 + len → out′ ≡ take to out ++ recordOf (part p start len) ++ drop (to + 4 + len) out → length out′ ≡ length out
+    pub advance : (out′ : List ℕ) (to′ : ℕ) → to′ ≡ to + 4 + len → out′ ≡ take to out ++ recordOf (part p start len) ++ drop (to + 4 + len) out →
+        length out′ ≡ length out
         → Along p out₀ out′ next to′
     advance out′ to′ et eo el =
         let L = listIn p in

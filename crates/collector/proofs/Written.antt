@@ -26,6 +26,7 @@ short-unless true b bs h q = (h, q)
 short-unless false b bs h q = q
 
 -- THE LAW of the list: by the reader of cookie lists it is whole, and its cookies are those of the fields
+-- promise: 7.9
 pub list-whole : (p : List ℕ) → Bytes p → cookiesIn (listIn p) ≡ whole (cookiesOf p)
 unfolding listIn
 list-whole p bytes = list-read (cookiesOf p) (all-short 0)
@@ -48,6 +49,7 @@ done-length true false n m e = let z : _≡_ {A = ℕ} 0 1 = cc in absurd (omega
 done-length false u n m e = let z : _≡_ {A = ℕ} 0 1 = cc in absurd (omega arith)
 
 -- where the answer is a length, so many bytes of the buffer are the list, and those past them are untouched
+-- promise: 7.9
 pub done-buffer : (p out : List ℕ) (n : ℕ) → collectOf p (length out) ≡ Done n → (take n (bufferOf p out) ≡ listIn p) × (drop n (bufferOf p out) ≡ drop n out)
 unfolding bufferOf collectOf
 done-buffer p out n e =
@@ -56,6 +58,7 @@ done-buffer p out n e =
     (rw b (take-at (listIn p) (drop n out) n m), rw b (drop-at (listIn p) (drop n out) n m))
 
 -- where it is refused, nothing is written
+-- promise: 7.9, demand.1
 pub refused-buffer : (p out : List ℕ) → (numberOf (collectOf p (length out)) ≡ 0 → ⊥) → bufferOf p out ≡ out
 unfolding bufferOf
 refused-buffer p out h = go (collectOf p (length out)) h

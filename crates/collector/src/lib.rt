@@ -1,5 +1,5 @@
 // The cookies among decrypted fields, collected as a cookie list in a lent buffer.
-// Promises: the list is whole and has the cookies in order; the rest of the buffer, and after a refusal all of it, is untouched.
+// Promises: the list is whole and has the cookies in order; nothing else in the buffer changes, and a rejected call changes nothing.
 // Rule: RULES, part 7; definitions in specs/Collector.antt.
 use cookielist::HEAD_BYTES;
 use cookielist::RECORD_MARK;
@@ -15,7 +15,7 @@ ghost use Rattle.collector.specs.Collector.{listIn, collectOf, bufferOf,
 // The type of a field that carries a cookie.
 pub const COOKIE_KIND: u16 = 0x0204;
 
-// The list's length where it is in the buffer, or why nothing was written.
+// The length of the list that was written, or why nothing was written.
 pub enum Collected {
     Done(usize),
     Broken,
@@ -23,6 +23,7 @@ pub enum Collected {
 }
 
 impl Collected {
+    // promise: 7.9
     pub fn number(self) -> u8
         ensures { λ r. ⌜ r ≡ numberOf self ⌝ }
     {
@@ -57,10 +58,11 @@ fn list_length(decrypted: &[u8]) -> usize
     }
 }
 
-// Writes a record of the list at an offset, and gives the offset behind it.
+// Writes a record of the list at an offset, and returns the offset after it.
 fn put_record(out: &mut [u8], to: usize, body: &[u8]) -> usize
     requires { ⌜ (to + 4 + length (now body) ≤ length (now out)) × (length (now body) < 65536) ⌝ }
-    ensures { λ r. ⌜ (r ≡ to + 4 + length (now (body .entry))) × (now (out .exit) ≡ take to (now (out .entry)) ++ recordOf (now (body .entry)) ++ drop (to + 4 + length (now (body .entry))) (now (out .entry))) ⌝ }
+    ensures { λ r. ⌜ (r ≡ to + 4 + length (now (body .entry))) ×
+        (now (out .exit) ≡ take to (now (out .entry)) ++ recordOf (now (body .entry)) ++ drop (to + 4 + length (now (body .entry))) (now (out .entry))) ⌝ }
 {
     let n = body.len();
     let mark = words::be16_bytes(RECORD_MARK);
@@ -74,9 +76,11 @@ fn put_record(out: &mut [u8], to: usize, body: &[u8]) -> usize
     from + n
 }
 
-// Writes the list of the cookies from the buffer's start on; broken fields are refused first, then a list longer than the buffer.
+// Writes the list of the cookies to the start of the buffer. Rejects broken fields first, then a list longer than the buffer.
+// promise: 7.9
 pub fn collect(decrypted: &[u8], out: &mut [u8]) -> Collected
-    ensures { λ r. ⌜ (r ≡ collectOf (now (decrypted .entry)) (length (now (out .entry)))) × (now (out .exit) ≡ bufferOf (now (decrypted .entry)) (now (out .entry))) ⌝ }
+    ensures { λ r. ⌜ (r ≡ collectOf (now (decrypted .entry)) (length (now (out .entry)))) ×
+        (now (out .exit) ≡ bufferOf (now (decrypted .entry)) (now (out .entry))) ⌝ }
 {
     let Walked::Ends(_) = fields::decrypted_walk(decrypted) else {
         return Collected::Broken;

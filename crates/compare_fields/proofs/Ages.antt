@@ -49,7 +49,8 @@ module _ (b : List ℕ) (at : ℕ) where
 
 -- where the cookie lies, or that there is none
 module _ (b : List ℕ) (age : ℕ) where
-  pub kept-here : (at left len start end : ℕ) → agedAt b left at ≡ agedAt b age 1 → left ≡ 0 → heldAt b at ≡ One len start end → len ≤ 65535 → KeptIn b age (kept len start end)
+  pub kept-here : (at left len start end : ℕ) → agedAt b left at ≡ agedAt b age 1 → left ≡ 0 → heldAt b at ≡ One len start end → len ≤ 65535 →
+      KeptIn b age (kept len start end)
   unfolding agedIn
   kept-here at left len start end o z e f =
       let w = one-within b at len start end e in
@@ -71,14 +72,16 @@ pub place-within : (l r : List ℕ) (age : ℕ) (a b : Kept) → KeptIn l age a 
 place-within l r age a b ka p e = omega (arith, place-short (keptReading l a .bytes) (keptReading r b .bytes), kept-long l age a ka, stored-bounds (a .number))
 
 module _ (l r : List ℕ) (age : ℕ) (a b : Kept) (ka : KeptIn l age a) (kb : KeptIn r age b) where
-  kept-same : (eqb (a .number) (b .number) && eqb (placeOf (keptReading l a .bytes) (keptReading r b .bytes)) (a .end - a .start)) ≡ sameReading (keptReading l a) (keptReading r b)
+  kept-same : (eqb (a .number) (b .number) && eqb (placeOf (keptReading l a .bytes) (keptReading r b .bytes)) (a .end - a .start))
+      ≡ sameReading (keptReading l a) (keptReading r b)
   unfolding sameReading
   kept-same =
       ap (λ (n : ℕ). eqb (a .number) (b .number) && eqb (placeOf (keptReading l a .bytes) (keptReading r b .bytes)) n) (ka .long ∙ sym (kept-long l age a ka))
       ∙ alike (a .number) (b .number) (keptReading l a .bytes) (keptReading r b .bytes) (λ e. kept-long l age a ka ∙ ap stored e ∙ sym (kept-long r age b kb))
 
   -- what the code makes of them
-  pub cookie-field-by : (p : ℕ) (s : Bool) → p ≡ placeOf (keptReading l a .bytes) (keptReading r b .bytes) → s ≡ (eqb (a .number) (b .number) && eqb p (a .end - a .start))
+  pub cookie-field-by : (p : ℕ) (s : Bool) → p ≡ placeOf (keptReading l a .bytes) (keptReading r b .bytes) →
+      s ≡ (eqb (a .number) (b .number) && eqb p (a .end - a .start))
       → record { code = 32 + age; left = a .number; right = b .number; place = p; same = s } ≡ cookieIn l r age
   unfolding cookieIn fieldOf
   cookie-field-by p s ep es =
@@ -100,7 +103,8 @@ module _ (b : List ℕ) where
       go Broken e = rest-whole b at h t e
   aged-rest (suc n) at h t = go (aged-rest n) (heldAt b at) refl
     where
-      go : ((at : ℕ) → at ≤ length b → isRun (runOf (drop at b)) ≡ true → agedAt b n at ≡ agedOf (restOf b at) n) → (x : Held) → heldAt b at ≡ x → agedAt b (suc n) at ≡ agedOf (restOf b at) (suc n)
+      go : ((at : ℕ) → at ≤ length b → isRun (runOf (drop at b)) ≡ true → agedAt b n at ≡ agedOf (restOf b at) n) → (x : Held) → heldAt b at ≡ x →
+          agedAt b (suc n) at ≡ agedOf (restOf b at) (suc n)
       go more (One len start end) e =
           ap (nextHeld (λ (x : ℕ). agedAt b n x)) e
           ∙ more end (one-within b at len start end e .3) (runs-on b at h t len start end e)
@@ -112,12 +116,14 @@ module _ (b : List ℕ) where
 module _ (cap : ℕ) (b : List ℕ) (y : Bytes b) (f : stashFits b ≡ true) (k : stashKnown cap b ≡ true) where
   held-is : heldOf cap (stashOf cap b) ≡ heldIn b
   unfolding heldOf emptyAt cookies queue
-  held-is = ap (λ (t : Bool). cond t (cookies cap (stashOf cap b)) []) (in-range cap (stashOf cap b) (read-laid cap b y f k .whole)) ∙ read-laid cap b y f k .holds
+  held-is = ap (λ (t : Bool). cond t (cookies cap (stashOf cap b)) []) (in-range cap (stashOf cap b) (read-laid cap b y f k .whole))
+      ∙ read-laid cap b y f k .holds
 
   pub place-is : getD b 0 0 ≡ stashOf cap b .read
   unfolding emptyAt
   place-is = sym (read-laid cap b y f k .reads)
 
+  -- promise: no10.2 (a body's cookies are the stash's)
   pub aged-is : (age : ℕ) → agedIn b age ≡ agedOf (heldOf cap (stashOf cap b)) age
   unfolding agedIn heldIn
   aged-is age = aged-rest b age 1 (has-place b f) (runs-first b f) ∙ sym (ap (λ (cs : List Cookie). agedOf cs age) held-is)

@@ -23,7 +23,8 @@ module _ (l : Settings) (p : State) (left : List ℕ) (r : Settings) (q : State)
       → m ≡ l .capacity → n ≡ r .capacity → h ≡ fieldOf 9 (plain m) (plain n)
       → j ≡ getD left 0 0 → k ≡ getD right 0 0 → f ≡ fieldOf 16 (plain j) (plain k)
       → c ≡ map (cookieIn left right) ages
-      → u ≡ stateNumbers p → v ≡ stateNumbers q → t ≡ eightOf 48 u v → record { settings = s; capacity = h; read = f; cookies = c; state = t } ≡ groupsIn l p left r q right
+      → u ≡ stateNumbers p → v ≡ stateNumbers q → t ≡ eightOf 48 u v →
+      record { settings = s; capacity = h; read = f; cookies = c; state = t } ≡ groupsIn l p left r q right
   unfolding groupsIn
   grouped ex ey es em en eh ej ek ef ec eu ev et =
       let first = es ∙ (λ i. eightOf 1 (ex i) (ey i)) in
@@ -42,13 +43,18 @@ pub record Of (a : Association) (s : Settings) (q : State) (b : List ℕ) : Type
   pub is : a ≡ record { settings = s; stash = stashOf (s .capacity) b; state = q }
 
 module _ {a b : Association} {l r : Settings} {p q : State} {left right : List ℕ} (m : Of a l p left) (n : Of b r q right) where
-  cookie-is : (age : ℕ) → cookieIn left right age ≡ fieldOf (32 + age) (agedOf (heldOf (l .capacity) (stashOf (l .capacity) left)) age) (agedOf (heldOf (r .capacity) (stashOf (r .capacity) right)) age)
+  cookie-is : (age : ℕ) → cookieIn left right age
+      ≡ fieldOf (32 + age) (agedOf (heldOf (l .capacity) (stashOf (l .capacity) left)) age) (agedOf (heldOf (r .capacity) (stashOf (r .capacity) right)) age)
   unfolding cookieIn
-  cookie-is age = λ i. fieldOf (32 + age) (aged-is (l .capacity) left (m .bytes) (m .fits) (m .known) age i) (aged-is (r .capacity) right (n .bytes) (n .fits) (n .known) age i)
+  cookie-is age = λ i. fieldOf (32 + age) (aged-is (l .capacity) left (m .bytes) (m .fits) (m .known) age i)
+      (aged-is (r .capacity) right (n .bytes) (n .fits) (n .known) age i)
 
-  place-field : fieldOf 16 (plain (getD left 0 0)) (plain (getD right 0 0)) ≡ fieldOf 16 (plain (stashOf (l .capacity) left .read)) (plain (stashOf (r .capacity) right .read))
-  place-field = λ i. fieldOf 16 (plain (place-is (l .capacity) left (m .bytes) (m .fits) (m .known) i)) (plain (place-is (r .capacity) right (n .bytes) (n .fits) (n .known) i))
+  place-field : fieldOf 16 (plain (getD left 0 0)) (plain (getD right 0 0))
+      ≡ fieldOf 16 (plain (stashOf (l .capacity) left .read)) (plain (stashOf (r .capacity) right .read))
+  place-field = λ i. fieldOf 16 (plain (place-is (l .capacity) left (m .bytes) (m .fits) (m .known) i))
+      (plain (place-is (r .capacity) right (n .bytes) (n .fits) (n .known) i))
 
+  -- promise: no10.1 (these are the fields of the two loaded associations)
   pub all-fields : allOf (groupsIn l p left r q right) ≡ fieldsOf a b
   unfolding groupsIn fieldsOf eightOf settingsNumbers stateNumbers
   all-fields =

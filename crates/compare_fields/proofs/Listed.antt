@@ -14,7 +14,20 @@ use Rattle.words.proofs.Tests.{both}
 use Rattle.association.specs.declared.Association.{Association}
 use Rattle.compare_fields.specs.declared.Field.{Field}
 use Rattle.compare_fields.specs.Readings.{Reading, settingsNumbers, stateNumbers, readingsOf}
-use Rattle.compare_fields.specs.Fields.{codes, placeOf, sameBytes, sameReading, fieldOf, fieldsFrom, fieldsOf, differing, listOf, entryBytes, listBytes, swapped}
+use Rattle.compare_fields.specs.Fields.{
+  codes,
+  placeOf,
+  sameBytes,
+  sameReading,
+  fieldOf,
+  fieldsFrom,
+  fieldsOf,
+  differing,
+  listOf,
+  entryBytes,
+  listBytes,
+  swapped,
+}
 use Rattle.compare_fields.specs.Shown.{Among, Past, Rising, Outline, outline, fieldBy, fieldsBy, outlinesOf, placesOf, listBy}
 use Rattle.compare_fields.proofs.Places.{eqb-sym, place-sym, same-sym, same-refl, same-eq, same-place}
 
@@ -35,6 +48,7 @@ agree-refl : (l : Reading) → sameReading l l ≡ true
 unfolding sameReading
 agree-refl l = rw (eq-eqb (l .number) (l .number) refl, same-refl (l .bytes))
 
+-- promise: no10.1 (readings agree exactly where they are equal)
 pub agree : (l r : Reading) → (sameReading l r ≡ true) ↔ (l ≡ r)
 agree l r = (agree-eq l r, λ e. subst (λ (x : Reading). sameReading l x ≡ true) e (agree-refl l))
 
@@ -125,6 +139,7 @@ differing-swapped (f ∷ fs) = go (differing-swapped fs) (f .same)
     go rest false = λ i. swapped f ∷ rest i
 
 -- with the records exchanged the same fields, their readings exchanged and their places kept
+-- promise: no10.4
 pub exchanged : (a b : Association) → listOf b a ≡ map swapped (listOf a b)
 unfolding listOf fieldsOf
 exchanged a b = ap differing (fields-swapped codes (readingsOf a) (readingsOf b)) ∙ differing-swapped (fieldsFrom codes (readingsOf a) (readingsOf b))
@@ -133,12 +148,14 @@ exchanged a b = ap differing (fields-swapped codes (readingsOf a) (readingsOf b)
 
 listed-in : (x : Field) (fs : List Field) → Among x (differing fs) → Among x fs × (x .same ≡ false)
 listed-in x [] m = absurd m
-listed-in x (f ∷ fs) m = either-way f fs (λ (gs : List Field). Among x gs → Among x (f ∷ fs) × (x .same ≡ false)) (first (listed-in x fs)) (λ e k. later (listed-in x fs k)) m
+listed-in x (f ∷ fs) m =
+    either-way f fs (λ (gs : List Field). Among x gs → Among x (f ∷ fs) × (x .same ≡ false)) (first (listed-in x fs)) (λ e k. later (listed-in x fs k)) m
   where
     later : Among x fs × (x .same ≡ false) → Among x (f ∷ fs) × (x .same ≡ false)
     later (k, e) = (inr k, e)
 
-    first : (Among x (differing fs) → Among x fs × (x .same ≡ false)) → f .same ≡ false → (x ≡ f) ⊎ Among x (differing fs) → Among x (f ∷ fs) × (x .same ≡ false)
+    first : (Among x (differing fs) → Among x fs × (x .same ≡ false)) → f .same ≡ false → (x ≡ f) ⊎ Among x (differing fs) → Among x (f ∷ fs) ×
+        (x .same ≡ false)
     first rest d (inl e) = (inl e, ap (λ (g : Field). g .same) e ∙ d)
     first rest d (inr k) = later (rest k)
 
@@ -148,6 +165,7 @@ listed-all x (f ∷ fs) (inl p) e = subst (Among x) (sym (kept f fs (sym (ap (λ
 listed-all x (f ∷ fs) (inr m) e = either-way f fs (Among x) (λ d. inr (listed-all x fs m e)) (λ d. listed-all x fs m e)
 
 -- a field is listed exactly where it is one of the fields, and its readings do not agree
+-- promise: no10.1 (a field is listed exactly where it is one of the fields and its readings differ)
 pub told : (a b : Association) (x : Field) → Among x (listOf a b) ↔ (Among x (fieldsOf a b) × (x .same ≡ false))
 unfolding listOf
 told a b x = (listed-in x (fieldsOf a b), λ p. listed-all x (fieldsOf a b) (p .0) (p .1))
@@ -203,10 +221,55 @@ rising-codes n [] p = tt
 rising-codes n (c ∷ cs) p = (below c cs (p .1), rising-codes c cs (p .1))
 
 codes-rise : RisingFrom 0 codes
-codes-rise =
-    (lit< tt, (lit< tt, (lit< tt, (lit< tt, (lit< tt, (lit< tt, (lit< tt, (lit< tt, (lit< tt, (lit< tt, (lit< tt, (lit< tt, (lit< tt, (lit< tt, (lit< tt, (lit< tt, (lit< tt, (lit< tt, (lit< tt, (lit< tt, (lit< tt, (lit< tt, (lit< tt, (lit< tt, (lit< tt, (lit< tt, tt))))))))))))))))))))))))))
+codes-rise = (
+  lit< tt,
+  (
+    lit< tt,
+    (
+      lit< tt,
+      (
+        lit< tt,
+        (
+          lit< tt,
+          (
+            lit< tt,
+            (
+              lit< tt,
+              (
+                lit< tt,
+                (
+                  lit< tt,
+                  (
+                    lit< tt,
+                    (
+                      lit< tt,
+                      (
+                        lit< tt,
+                        (
+                          lit< tt,
+                          (
+                            lit< tt,
+                            (
+                              lit< tt,
+                              (lit< tt, (lit< tt, (lit< tt, (lit< tt, (lit< tt, (lit< tt, (lit< tt, (lit< tt, (lit< tt, (lit< tt, (lit< tt, tt))))))))))),
+                            ),
+                          ),
+                        ),
+                      ),
+                    ),
+                  ),
+                ),
+              ),
+            ),
+          ),
+        ),
+      ),
+    ),
+  ),
+)
 
 -- in the order of the file, each once
+-- promise: no10.1 (the codes rise, so that each appears once)
 pub in-order : (a b : Association) → Rising (listOf a b)
 unfolding listOf fieldsOf
 in-order a b = rising-differing (fieldsOf a b) (rising-from codes (readingsOf a) (readingsOf b) (rising-codes 0 codes codes-rise))
@@ -224,15 +287,24 @@ bytes-by l r = go (eqb (length l) (length r)) refl (sameBytes l r) refl
 field-by : (c : ℕ) (l r : Reading) → fieldOf c l r ≡ fieldBy c (outline l) (outline r) (fieldOf c l r .place)
 unfolding fieldOf sameReading
 field-by c l r =
-    λ i. record { code = c; left = l .number; right = r .number; place = placeOf (l .bytes) (r .bytes); same = eqb (l .number) (r .number) && bytes-by (l .bytes) (r .bytes) i }
+    λ i. record {
+      code = c;
+      left = l .number;
+      right = r .number;
+      place = placeOf (l .bytes) (r .bytes);
+      same = eqb (l .number) (r .number)
+          && bytes-by (l .bytes) (r .bytes) i;
+    }
 
-fields-by : (cs : List ℕ) (ls rs : List Reading) → fieldsFrom cs ls rs ≡ fieldsBy cs (map outline ls) (map outline rs) (map (λ f. f .place) (fieldsFrom cs ls rs))
+fields-by : (cs : List ℕ) (ls rs : List Reading) →
+    fieldsFrom cs ls rs ≡ fieldsBy cs (map outline ls) (map outline rs) (map (λ f. f .place) (fieldsFrom cs ls rs))
 fields-by [] ls rs = refl
 fields-by (c ∷ cs) [] rs = refl
 fields-by (c ∷ cs) (l ∷ ls) [] = refl
 fields-by (c ∷ cs) (l ∷ ls) (r ∷ rs) = λ i. field-by c l r i ∷ fields-by cs ls rs i
 
 -- the list follows from numbers, stored lengths and places alone
+-- promise: no10.2 (the list follows from numbers, stored lengths and places: `specs/Shown`: `listBy`)
 pub no-byte-shown : (a b : Association) → listOf a b ≡ listBy (outlinesOf a) (outlinesOf b) (placesOf a b)
 unfolding listOf fieldsOf
 no-byte-shown a b = ap differing (fields-by codes (readingsOf a) (readingsOf b))
@@ -251,6 +323,7 @@ from-short (c ∷ cs) (l ∷ ls) [] = omega arith
 from-short (c ∷ cs) (l ∷ ls) (r ∷ rs) = omega (arith, from-short cs ls rs)
 
 -- no list has more than one entry for each field
+-- promise no10.6: The longest list has 26 entries, 494 bytes, and with that buffer 71 is never given.
 pub at-most : (a b : Association) → length (listOf a b) ≤ 26
 unfolding listOf fieldsOf
 at-most a b = omega (arith, differing-short (fieldsOf a b), from-short codes (readingsOf a) (readingsOf b))
@@ -259,6 +332,7 @@ pub entry-long : (f : Field) → length (entryBytes f) ≡ 19
 unfolding entryBytes
 entry-long f = refl
 
+-- promise: no10.6
 pub list-long : (fs : List Field) → length (listBytes fs) ≡ 19 * length fs
 list-long [] = refl
 list-long (f ∷ fs) = length-append (entryBytes f) (listBytes fs) ∙ omega (arith, entry-long f, list-long fs)

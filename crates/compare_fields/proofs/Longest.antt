@@ -46,7 +46,18 @@ full-whole =
 one : Association
 one =
     record {
-      settings = record { min = interval (pos 4); max = interval (pos 10); startup = 3; window = 1; upgrademark = 0; start = version V4; nts = true; source = named 0; capacity = 8 };
+      settings = record {
+        min = interval (pos 4);
+        max = interval
+            (pos 10);
+        startup = 3;
+        window = 1;
+        upgrademark = 0;
+        start = version V4;
+        nts = true;
+        source = named 0;
+        capacity = 8;
+      };
       stash = full-stash;
       state =
           record {
@@ -62,7 +73,18 @@ one =
 other : Association
 other =
     record {
-      settings = record { min = interval (pos 5); max = interval (pos 11); startup = 4; window = 2; upgrademark = 1; start = version V5; nts = false; source = named 1; capacity = 7 };
+      settings = record {
+        min = interval (pos 5);
+        max = interval
+            (pos 11);
+        startup = 4;
+        window = 2;
+        upgrademark = 1;
+        start = version V5;
+        nts = false;
+        source = named 1;
+        capacity = 7;
+      };
       stash = newOf;
       state =
           record {
@@ -80,11 +102,14 @@ one-whole = record { settings = refl; stash = full-whole; counted = refl; versio
 
 other-whole : Whole other
 unfolding other newOf settingsValid versionsValid idleValid noPending trailing
-other-whole = record { settings = refl; stash = new-whole 7 (omega arith) (omega arith); counted = refl; versions = refl; request = none-valid; idle = of-zeros 32 }
+other-whole =
+    record { settings = refl; stash = new-whole 7 (omega arith) (omega arith); counted = refl; versions = refl; request = none-valid; idle = of-zeros 32 }
 
 all-differ : length (listOf one other) ≡ 26
-unfolding listOf fieldsOf fieldOf sameReading settingsNumbers stateNumbers versionNumber agedOf heldOf inRange cookies queue seen stored wrap one other full-stash newOf emptySlot
+unfolding listOf fieldsOf fieldOf sameReading settingsNumbers stateNumbers versionNumber agedOf heldOf inRange cookies queue seen stored wrap one other
+    full-stash newOf emptySlot
 all-differ = refl
 
+-- promise: no10.6 (two whole records differ in every field)
 pub longest-there : (a : Association) × (b : Association) × Whole a × Whole b × (length (listOf a b) ≡ 26)
 longest-there = (one, other, one-whole, other-whole, all-differ)

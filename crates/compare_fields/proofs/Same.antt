@@ -1,4 +1,5 @@
--- Two whole records in which nothing is pending are equal exactly where no field differs. The unanswered polls are no field: in a whole record they follow from reach (RULES, No. 8).
+-- Two whole records in which nothing is pending are equal exactly where no field differs. The unanswered polls are no field: in a whole record they follow
+-- from reach (RULES, No. 8).
 -- Assumes nothing.
 use Prim.Native.Nat.{ℕ, zero, suc, _+_, _*_, _^_, _≤_, _<_}
 use mathlib.Core.Path.{_≡_, refl, sym, ap, subst, _∙_}
@@ -33,7 +34,20 @@ use Rattle.association.proofs.Whole.{none-retired}
 use Rattle.handover_groups.specs.Codes.{yesCode, yesOf, kindCode, triesCode, kindOf}
 use Rattle.handover_groups.proofs.OfCodes.{yes-kept, kind-kept}
 use Rattle.handover_file.proofs.Cookies.{AllKeep, cookies-keep}
-use Rattle.compare_fields.specs.Readings.{Reading, plain, bits64, versionNumber, settingsNumbers, stateNumbers, cookieReading, noCookie, heldOf, agedOf, ages, readingsOf}
+use Rattle.compare_fields.specs.Readings.{
+  Reading,
+  plain,
+  bits64,
+  versionNumber,
+  settingsNumbers,
+  stateNumbers,
+  cookieReading,
+  noCookie,
+  heldOf,
+  agedOf,
+  ages,
+  readingsOf,
+}
 use Rattle.compare_fields.specs.Fields.{listOf}
 use Rattle.compare_fields.proofs.Listed.{readings-equal, itself}
 
@@ -92,7 +106,8 @@ held-is cap s w = rw (in-range cap s w)
 
 -- ---- a record
 
-module _ (a b : Association) (v : Whole a) (w : Whole b) (f : Held a) (g : Held b) (none : a .state .request ≡ b .state .request) (e : readingsOf a ≡ readingsOf b) where
+module _ (a b : Association) (v : Whole a) (w : Whole b) (f : Held a) (g : Held b) (none : a .state .request ≡ b .state .request)
+    (e : readingsOf a ≡ readingsOf b) where
   at : (k : ℕ) → getD (readingsOf a) k (plain 0) ≡ getD (readingsOf b) k (plain 0)
   at k = ap (λ (l : List Reading). getD l k (plain 0)) e
 
@@ -187,7 +202,8 @@ module _ (a b : Association) (v : Whole a) (w : Whole b) (f : Held a) (g : Held 
   record-same : a ≡ b
   record-same = λ i. record { settings = settings-same i; stash = stash-alike i; state = state-same i }
 
--- the list is empty exactly when the two records are equal
+-- promise no10.3: The list is empty exactly when the two loaded records are equal. The unanswered polls (No. 8) are no field: in a whole record they follow
+--     from reach.
 pub empty-exactly : (a b : Association) → Whole a → Whole b → Held a → Held b → a .state .request ≡ b .state .request → (listOf a b ≡ []) ↔ (a ≡ b)
 empty-exactly a b v w f g none =
     (λ e. record-same a b v w f g none (readings-equal a b e), λ e. subst (λ (x : Association). listOf a x ≡ []) e (itself a))

@@ -1,4 +1,5 @@
--- What is read of a record to compare it with another (RULES, No. 10 and No. 12): each field's number, in the order of the hand-over file, and the stored bytes of each cookie.
+-- What is read from a record to compare it with another (RULES, No. 10 and No. 12): each field's number, in the order of the hand-over file, and the stored
+-- bytes of each cookie.
 -- Assumes nothing.
 use Prim.Native.Nat.{ℕ, _+_, _*_, _^_}
 use mathlib.Core.Bool.{cond}
@@ -15,7 +16,7 @@ use Rattle.association.specs.declared.State.{State}
 use Rattle.association.specs.declared.Association.{Association}
 use Rattle.handover_groups.specs.Codes.{yesCode, kindCode, triesCode}
 
--- what is read of a field: its number; and of a cookie, whose number is its length, the stored bytes too, which are compared and not shown
+-- what is read from a field: its number. A cookie's number is its length; its stored bytes are read too, and are compared but not shown
 pub record Reading : Type 0 where
   pub number : ℕ
   pub bytes : List ℕ
@@ -32,6 +33,7 @@ unfoldable pub versionNumber : Version → ℕ
 versionNumber v = kindCode (v .kind) * 256 + triesCode (v .kind)
 
 -- min, max, startup, window, upgrade mark, start version, nts, source
+-- promise no10.1: The comparison lists every differing field, in the file's order, with both readings.
 unfoldable pub settingsNumbers : Settings → List ℕ
 settingsNumbers s =
     bits64 (s .min .0)
@@ -45,6 +47,7 @@ settingsNumbers s =
     ∷ []
 
 -- reach, tries, version, last, remote minimum, stratum, reference identifier, denial
+-- promise: no10.1
 unfoldable pub stateNumbers : State → List ℕ
 stateNumbers s =
     s .effort .reach .0
@@ -61,7 +64,8 @@ stateNumbers s =
 abbrev pub cookieReading : Cookie → Reading
 cookieReading c = record { number = c .len; bytes = c .bytes }
 
--- 65,536 where the box has none of that age
+-- 65,536 if the box has none of that age
+-- promise: no10.2
 abbrev pub noCookie : Reading
 noCookie = record { number = 65536; bytes = [] }
 
@@ -69,7 +73,10 @@ noCookie = record { number = 65536; bytes = [] }
 unfoldable pub heldOf : ℕ → CookieStash → List Cookie
 heldOf cap s = cond (inRange cap s) (cookies cap s) []
 
--- the cookie of an age, 0 the oldest
+-- the cookie of an age; 0 is the oldest
+-- promise no10.2: Cookies are compared by age, and shown only by length and the place of the first differing stored byte, or of the shorter one's end.
+--     edit: compare_fields/cookies_past_the_shorter_stash_are_left_out, compare_fields/a_missing_cookie_reads_as_an_empty_one
+-- promise: no10.1
 unfoldable pub agedOf : List Cookie → ℕ → Reading
 agedOf cs age = getD (map cookieReading cs) age noCookie
 
@@ -80,5 +87,6 @@ ages = 0 ∷ 1 ∷ 2 ∷ 3 ∷ 4 ∷ 5 ∷ 6 ∷ 7 ∷ []
 abbrev pub stashReadings : ℕ → CookieStash → List Reading
 stashReadings cap s = plain cap ∷ plain (s .read) ∷ map (agedOf (heldOf cap s)) ages
 
+-- promise: no10.1
 abbrev pub readingsOf : Association → List Reading
 readingsOf a = map plain (settingsNumbers (a .settings)) ++ (stashReadings (a .settings .capacity) (a .stash) ++ map plain (stateNumbers (a .state)))

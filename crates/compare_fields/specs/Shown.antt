@@ -1,4 +1,4 @@
--- What the theorems on the list are stated with (RULES, No. 10): which fields are in it, in which order, and that it follows from numbers, lengths and places alone.
+-- Terms for the theorems on the list (RULES, No. 10): which fields are in it, in which order, and that it depends only on numbers, lengths and places.
 -- Assumes nothing.
 use Prim.Native.Nat.{ℕ, _<_}
 use mathlib.Core.Path.{_≡_}
@@ -38,7 +38,14 @@ outline r = record { number = r .number; stored = length (r .bytes) }
 -- a field, by outlines and a place alone
 abbrev pub fieldBy : ℕ → Outline → Outline → ℕ → Field
 fieldBy c l r p =
-    record { code = c; left = l .number; right = r .number; place = p; same = eqb (l .number) (r .number) && (eqb (l .stored) (r .stored) && eqb p (l .stored)) }
+    record {
+      code = c;
+      left = l .number;
+      right = r .number;
+      place = p;
+      same = eqb (l .number) (r .number)
+          && (eqb (l .stored) (r .stored) && eqb p (l .stored));
+    }
 
 abbrev pub fieldsBy : List ℕ → List Outline → List Outline → List ℕ → List Field
 fieldsBy (c ∷ cs) (l ∷ ls) (r ∷ rs) (p ∷ ps) = fieldBy c l r p ∷ fieldsBy cs ls rs ps

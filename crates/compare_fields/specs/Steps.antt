@@ -21,7 +21,7 @@ use Rattle.compare_fields.specs.Fields.{fieldOf}
 abbrev pub numberOf : ℕ → List ℕ → List ℕ → ℕ → Field
 numberOf first l r i = fieldOf (first + i) (plain (getD l i 0)) (plain (getD r i 0))
 
--- eight numbers, from a code on
+-- eight numbers, with codes from `first` on
 unfoldable pub eightOf : ℕ → List ℕ → List ℕ → List Field
 eightOf first l r =
     fieldOf first (plain (getD l 0 0)) (plain (getD r 0 0))
@@ -36,7 +36,7 @@ eightOf first l r =
 
 -- ---- the cookies of a stash's body
 
--- what is read of a cookie there
+-- what is read from a cookie there
 abbrev pub keptReading : List ℕ → Kept → Reading
 keptReading b k = record { number = k .number; bytes = part b (k .start) (k .end - k .start) }
 
@@ -46,7 +46,7 @@ unkept = record { number = 65536; start = 0; end = 0 }
 abbrev pub kept : ℕ → ℕ → ℕ → Kept
 kept len start end = record { number = len; start = start; end = end }
 
--- of what stands at an offset, the cookie itself, or what is read of those behind it
+-- from what is at an offset: the cookie itself, or what is read after it
 abbrev pub firstHeld : List ℕ → Held → Reading
 firstHeld b (One len start end) = keptReading b (kept len start end)
 firstHeld b End = noCookie
@@ -62,11 +62,11 @@ abbrev pub agedAt : List ℕ → ℕ → ℕ → Reading
 agedAt b zero at = firstHeld b (heldAt b at)
 agedAt b (suc age) at = nextHeld (λ end. agedAt b age end) (heldAt b at)
 
--- behind the reading place, the body's first byte
+-- after the reading place, the body's first byte
 unfoldable pub agedIn : List ℕ → ℕ → Reading
 agedIn b age = agedAt b age 1
 
--- where it lies
+-- where it is
 pub record KeptIn (b : List ℕ) (age : ℕ) (k : Kept) : Type 0 where
   pub reads : keptReading b k ≡ agedIn b age
   pub few : k .number ≤ 65536
@@ -74,7 +74,7 @@ pub record KeptIn (b : List ℕ) (age : ℕ) (k : Kept) : Type 0 where
   pub inside : k .end ≤ length b
   pub long : k .end - k .start ≡ stored (k .number)
 
--- the cookies of an age, each of its own body
+-- the cookies of an age, each from its own body
 unfoldable pub cookieIn : List ℕ → List ℕ → ℕ → Field
 cookieIn l r age = fieldOf (32 + age) (agedIn l age) (agedIn r age)
 

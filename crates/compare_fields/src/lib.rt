@@ -1,6 +1,6 @@
-// Two associations side by side, each as settings, state, and the body of its stash's record, which is read where it lies: every field that differs, in the
-// order of the hand-over file, with both readings.
-// Promises: nothing is listed exactly when the two are equal; exchanged, the readings are exchanged; of a cookie only its length and a place are told.
+// Compares two associations, each given as settings, state, and the body of its stash's record, which is read in place: every field that differs, in the order
+// of the hand-over file, with both readings.
+// Promises: the list is empty exactly when the two are equal; swapping the two swaps the readings; of a cookie only its length and a place are shown.
 // Rule: RULES, No. 10 and No. 12; definitions in specs/Readings.antt and specs/Fields.antt.
 use association::Settings;
 use association::State;
@@ -25,7 +25,7 @@ const SIGN_BITS: u64 = 0xFFFF_FFFF_FFFF_FF00;
 // The code of the oldest cookie.
 const FIRST_COOKIE: u8 = 32;
 
-// A field of two associations: its code, both readings, of a cookie the place of the first differing stored byte, and whether the two agree.
+// A field of two associations: its code, both readings, for a cookie the place of the first stored byte that differs, and whether the two agree.
 pub struct Field {
     pub code: u8,
     pub left: u64,
@@ -43,7 +43,7 @@ pub struct Groups {
     pub state: [Field; 8],
 }
 
-// Where a cookie lies in the body of its stash's record: its length as a reading, and its stored bytes, from start and before end.
+// Where a cookie is in the body of its stash's record: its length as a reading, and its stored bytes, from start to before end.
 struct Kept {
     number: u64,
     start: usize,
@@ -56,7 +56,7 @@ fn wide(b: u8) -> u64
     b as u64
 }
 
-// The 64 bits that a signed number is written in.
+// A signed number as 64 bits.
 fn bits64(d: i8) -> u64
     ensures { λ r. ⌜ r ≡ bits64 d ⌝ }
 {
@@ -135,7 +135,7 @@ fn number(code: u8, left: u64, right: u64) -> Field
     }
 }
 
-// Eight numbers, from a code on.
+// Eight numbers, with codes from `first` on.
 fn eight(first: u8, l: [u64; 8], r: [u64; 8]) -> [Field; 8]
     requires { ⌜ first ≤ 48 ⌝ }
     ensures { λ f. ⌜ f ≡ eightOf first l r ⌝ }
@@ -152,7 +152,8 @@ fn eight(first: u8, l: [u64; 8], r: [u64; 8]) -> [Field; 8]
     ]
 }
 
-// The place of the first differing byte, or the shorter one's end.
+// The place of the first byte that differs, or the end of the shorter one.
+// promise: no10.2
 fn place_of(l: &[u8], r: &[u8]) -> usize
     ensures { λ p. ⌜ p ≡ placeOf (now (l .entry)) (now (r .entry)) ⌝ }
 {
@@ -179,7 +180,8 @@ fn no_cookie() -> Kept
     }
 }
 
-// The cookie of an age, 0 the oldest.
+// The cookie of an age; 0 is the oldest.
+// promise: no10.2
 fn aged(body: &[u8], age: usize) -> Kept
     ensures { λ r. ⌜ KeptIn (now (body .entry)) age r ⌝ }
 {
@@ -208,14 +210,15 @@ fn aged(body: &[u8], age: usize) -> Kept
     }
 }
 
-// Cookies are alike where they have one length, and no stored byte differs before their end.
+// Two cookies are equal if their lengths are equal and no stored byte differs before their end.
 fn alike(left: u64, right: u64, place: usize, end: usize) -> bool
     ensures { λ r. ⌜ r ≡ eqb left right && eqb place end ⌝ }
 {
     if left == right { place == end } else { false }
 }
 
-// The cookies of an age, each of its own body.
+// The field of the cookies of an age, each read from its own body.
+// promise: no10.2
 fn cookie_field(l: &[u8], r: &[u8], age: u8) -> Field
     requires { ⌜ age < 8 ⌝ }
     ensures { λ f. ⌜ f ≡ cookieIn (now (l .entry)) (now (r .entry)) age ⌝ }
@@ -252,7 +255,8 @@ fn cookie_fields(l: &[u8], r: &[u8]) -> [Field; 8]
     ]
 }
 
-// All fields, those that agree among them.
+// All fields, including those that agree.
+// promise: no10.1 (over settings, state and the stash's body on each side; `specs/Steps`: `groupsIn`)
 pub fn fields(l: Settings, p: State, left: &[u8], r: Settings, q: State, right: &[u8]) -> Groups
     ensures { λ g. ⌜ g ≡ groupsIn l p (now (left .entry)) r q (now (right .entry)) ⌝ }
 {

@@ -1,4 +1,5 @@
--- A record with any mark, a length and a body, at an offset of a file, is read back: its mark and its length there, its body behind them, and behind that what follows.
+-- A record with any mark, a length and a body, at an offset of a file, is read back: its mark and its length there, its body behind them, and behind that
+-- what follows.
 -- Assumes nothing.
 use Prim.Native.Nat.{ℕ, _+_, _-_, _≤_, _<_}
 use mathlib.Core.Path.{_≡_, refl, sym, ap, _∙_}
@@ -45,7 +46,8 @@ module _ (l : List ℕ) (m : ℕ) (c rest : List ℕ) (at : ℕ) (fits : m < 655
   third : drop (at + 4) l ≡ c ++ rest
   third =
       let e : at + 2 + 2 ≡ at + 4 = omega arith in
-      ap (λ (n : ℕ). drop n l) (sym e) ∙ sym (drop-drop 2 (at + 2) l) ∙ ap (drop 2) second ∙ drop-at (toBe 2 (length c)) (c ++ rest) 2 (length-toBe 2 (length c))
+      ap (λ (n : ℕ). drop n l) (sym e) ∙ sym (drop-drop 2 (at + 2) l) ∙ ap (drop 2) second
+      ∙ drop-at (toBe 2 (length c)) (c ++ rest) 2 (length-toBe 2 (length c))
 
   body-here : part l (at + 4) (length c) ≡ c
   unfolding part
@@ -54,5 +56,6 @@ module _ (l : List ℕ) (m : ℕ) (c rest : List ℕ) (at : ℕ) (fits : m < 655
   rest-here : drop (at + 4 + length c) l ≡ rest
   rest-here = sym (drop-drop (length c) (at + 4) l) ∙ ap (drop (length c)) third ∙ drop-at c rest (length c) refl
 
+  -- promise: 3.12 (a record with any mark is read back)
   pub marked : Marked l m c rest at
   marked = record { long = long-here; mark = mark-here; len = length-here; body = body-here; behind = rest-here }

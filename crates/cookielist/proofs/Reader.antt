@@ -72,7 +72,8 @@ module _ (l : List ℕ) (at : ℕ) where
       omega (arith, eqb-true (length l - at) 0 (b .0))
 
 -- what follows an entry depends on the cookies from its end alone
-after : (l : List ℕ) (at : ℕ) (f g : ℕ → Listed) → ((end : ℕ) → at + 4 ≤ end → end ≤ length l → f end ≡ g end) → (e : Entry) → entryAt l at ≡ e → onEntry l f e ≡ onEntry l g e
+after : (l : List ℕ) (at : ℕ) (f g : ℕ → Listed) → ((end : ℕ) → at + 4 ≤ end → end ≤ length l → f end ≡ g end) → (e : Entry) → entryAt l at ≡ e →
+    onEntry l f e ≡ onEntry l g e
 after l at f g same (Cookie start end) e =
     let w = placed l at start end e in
     ap (before (part l start (end - start))) (same end (omega arith) (w .within))
@@ -91,7 +92,8 @@ pub turn : (l : List ℕ) (at : ℕ) → cookiesFrom l at ≡ onEntry l (cookies
 unfolding cookiesFrom
 turn l at =
     enough (length l - at) (suc (length l - at)) l at (omega arith) (omega arith)
-    ∙ after l at _ (λ end. cookiesN (length l - end) l end) (λ end a b. enough (length l - at) (length l - end) l end (omega arith) (omega arith)) (entryAt l at) refl
+    ∙ after l at _ (λ end. cookiesN (length l - end) l end) (λ end a b. enough (length l - at) (length l - end) l end (omega arith) (omega arith))
+    (entryAt l at) refl
 
 -- ---- the law, entry by entry
 

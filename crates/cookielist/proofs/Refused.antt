@@ -38,6 +38,7 @@ module _ (l : List ℕ) where
   upto zero at h = on at (λ end a b. absurd (omega arith)) (entryAt l at) refl
   upto (suc n) at h = on at (λ end a b. upto n end (omega arith)) (entryAt l at) refl
 
+  -- promise: 3.12 (no cookie list exactly if an entry on the way is rejected with 33)
   pub list-refused : (isWhole (cookiesIn l) ≡ false) ↔ Refused l 0
   unfolding cookiesIn
   list-refused = (upto (length l) 0 (omega arith), λ r. fails (r .reached) (r .number))

@@ -1,4 +1,5 @@
--- The writer and the reader of a cookie list undo each other: a written list is read as its cookies, and the cookies of a whole list written again are the list.
+-- The writer and the reader of a cookie list undo each other: a written list is read as its cookies, and the cookies of a whole list written again are the
+-- list.
 -- Assumes nothing.
 use Prim.Native.Nat.{ℕ, _+_, _-_, _≤_}
 use mathlib.Core.Path.{_≡_, refl, sym, ap, _∙_}
@@ -12,7 +13,21 @@ use Rattle.words.specs.Bytes.{part, toBe}
 use Rattle.words.proofs.Bytes.{Bytes, bytes-part, length-part, part-drop, be-below, toBe-be}
 use Rattle.cookielist.specs.declared.Entry.{Entry}
 use Rattle.cookielist.specs.declared.Entry.the-variants.{Cookie, End, Broken}
-use Rattle.cookielist.specs.List.{AllShort, markedOf, recordOf, listOf, recordMarkAt, lengthAt, entryAt, Listed, whole, broken, before, cookiesFrom, cookiesIn}
+use Rattle.cookielist.specs.List.{
+  AllShort,
+  markedOf,
+  recordOf,
+  listOf,
+  recordMarkAt,
+  lengthAt,
+  entryAt,
+  Listed,
+  whole,
+  broken,
+  before,
+  cookiesFrom,
+  cookiesIn,
+}
 use Rattle.cookielist.proofs.Marked.{Marked, marked}
 use Rattle.cookielist.proofs.Reader.{Placed, placed, ended, read-cookie, read-end, read-broken}
 
@@ -57,10 +72,12 @@ written (c ∷ cs) short l at h e =
     let next = written cs (short .1) l (at + 4 + length c) (omega arith) (w .behind) in
     rw (read-record l c (listOf cs) at (short .0) e, next)
 
+-- promise: 3.12
 pub list-read : (cs : List (List ℕ)) → AllShort cs → cookiesIn (listOf cs) ≡ whole cs
 unfolding cookiesIn
 list-read cs short = written cs short (listOf cs) 0 (omega arith) refl
 
+-- promise: 3.12
 pub empty-list : cookiesIn [] ≡ whole []
 empty-list = list-read [] tt
 
@@ -69,7 +86,8 @@ empty-list = list-read [] tt
 module _ (l : List ℕ) (bytes : Bytes l) (at start end : ℕ) (w : Placed l at start end) where
   mark-again : part l at 2 ≡ 0xC0 ∷ 0x0E ∷ []
   unfolding recordMarkAt
-  mark-again = sym (toBe-be 2 (part l at 2) (bytes-part l at 2 bytes) (length-part l at 2 (omega (arith, w .starts, w .ends, w .within)))) ∙ ap (toBe 2) (w .mark)
+  mark-again = sym (toBe-be 2 (part l at 2) (bytes-part l at 2 bytes) (length-part l at 2 (omega (arith, w .starts, w .ends, w .within))))
+      ∙ ap (toBe 2) (w .mark)
 
   length-again : part l (at + 2) 2 ≡ toBe 2 (lengthAt l at)
   unfolding lengthAt
@@ -89,7 +107,8 @@ module _ (l : List ℕ) (bytes : Bytes l) (at start end : ℕ) (w : Placed l at 
   record-again =
       let body = part l start (end - start) in
       let a : drop at l ≡ 0xC0 ∷ 0x0E ∷ drop (at + 2) l = sym (part-drop l at 2) ∙ ap (λ r. r ++ drop (at + 2) l) mark-again in
-      let b : drop (at + 2) l ≡ toBe 2 (lengthAt l at) ++ drop (at + 2 + 2) l = sym (part-drop l (at + 2) 2) ∙ ap (λ r. r ++ drop (at + 2 + 2) l) length-again in
+      let b : drop (at + 2) l ≡ toBe 2 (lengthAt l at) ++ drop (at + 2 + 2) l = sym (part-drop l (at + 2) 2)
+      ∙ ap (λ r. r ++ drop (at + 2 + 2) l) length-again in
       let s : at + 2 + 2 ≡ start = omega (arith, w .starts) in
       let e : start + (end - start) ≡ end = omega (arith, w .ends) in
       let c : drop (at + 2 + 2) l ≡ body ++ drop end l = rw s (sym (part-drop l start (end - start)) ∙ ap (λ n. body ++ drop n l) e) in
@@ -113,7 +132,8 @@ nothing-again l at h (Cookie start end) p q = absurd (before-none (part l start 
 nothing-again l at h End p q = record { same = sym (rw (ended l at h p) (drop-length l)); short = tt }
 nothing-again l at h Broken p q = let f = sym (read-broken l at p) ∙ q in let z : _≡_ {A = ℕ} 0 1 = cc in absurd (omega arith)
 
-cookie-again : (l : List ℕ) → Bytes l → (at : ℕ) (c : List ℕ) (cs : List (List ℕ)) → ((end : ℕ) → end ≤ length l → cookiesFrom l end ≡ whole cs → Again l end cs)
+cookie-again : (l : List ℕ) → Bytes l → (at : ℕ) (c : List ℕ) (cs : List (List ℕ)) →
+    ((end : ℕ) → end ≤ length l → cookiesFrom l end ≡ whole cs → Again l end cs)
     → (e : Entry) → entryAt l at ≡ e → cookiesFrom l at ≡ whole (c ∷ cs) → Again l at (c ∷ cs)
 cookie-again l bytes at c cs later (Cookie start end) p q =
     let w = placed l at start end p in
@@ -131,6 +151,7 @@ again [] l bytes at h e = nothing-again l at h (entryAt l at) refl e
 again (c ∷ cs) l bytes at h e = cookie-again l bytes at c cs (λ end k p. again cs l bytes end k p) (entryAt l at) refl e
 
 module _ (l : List ℕ) (bytes : Bytes l) (cs : List (List ℕ)) (e : cookiesIn l ≡ whole cs) where
+  -- promise: 3.12
   pub list-written : listOf cs ≡ l
   unfolding cookiesIn
   list-written = again cs l bytes 0 (omega arith) e .same

@@ -1,4 +1,5 @@
--- The cookie list (RULES, "Settings and a whole record"): a run of records, each the mark C0 0E, the length in two bytes, big-endian, and the bytes. An empty list is legal.
+-- The cookie list (RULES, "Settings and a whole record"): a run of records, each the mark C0 0E, the length in two bytes, big-endian, and the bytes. It may be
+-- empty.
 -- Assumes nothing.
 use Prim.Native.Nat.{ℕ, zero, suc, _+_, _-_, _≤_}
 use mathlib.Core.List.{List, [], _∷_, _++_}
@@ -18,14 +19,17 @@ unfoldable pub markedOf : ℕ → List ℕ → List ℕ
 markedOf m c = toBe 2 m ++ (toBe 2 (length c) ++ c)
 
 -- a cookie's record
+-- promise 3.12: A cookie list is a run of records: C0 0E, length, bytes. An empty list is valid.
+--     edit: cookielist/the_mark_is_wrong, cookielist/a_length_past_the_end, cookielist/a_broken_list_is_read
 unfoldable pub recordOf : List ℕ → List ℕ
 recordOf c = 0xC0 ∷ 0x0E ∷ toBe 2 (length c) ++ c
 
+-- promise: 3.12
 abbrev pub listOf : List (List ℕ) → List ℕ
 listOf [] = []
 listOf (c ∷ cs) = recordOf c ++ listOf cs
 
--- cookies whose lengths two bytes can name
+-- cookies whose lengths fit two bytes
 abbrev pub AllShort : List (List ℕ) → Type 0
 AllShort [] = Unit
 AllShort (c ∷ cs) = (length c ≤ 65535) × AllShort cs
@@ -39,7 +43,9 @@ recordMarkAt l at = be (part l at 2)
 unfoldable pub lengthAt : List ℕ → ℕ → ℕ
 lengthAt l at = be (part l (at + 2) 2)
 
--- what stands at an offset: past the bytes is broken, nothing left the end; four bytes of mark and length, the mark C0 0E, and as many bytes as the length says make a cookie
+-- what is at an offset: past the bytes it is broken; with nothing left it is the end; four bytes of mark and length, the mark C0 0E, and as many bytes as the
+-- length says are a cookie
+-- promise: 3.12
 unfoldable pub entryAt : List ℕ → ℕ → Entry
 entryAt l at =
     cond (ltb (length l) at) Broken
@@ -50,18 +56,20 @@ entryAt l at =
     (Cookie (at + 4) (at + 4 + lengthAt l at)))
     Broken)))
 
--- the number in RULES: 33 where the list is broken; a cookie and the end are refused by none
+-- the number in RULES: 33 if the list is broken; a cookie and the end are not rejected
+-- promise: 3.12
 abbrev pub refusalOf : Entry → Option ℕ
 refusalOf (Cookie start end) = none
 refusalOf End = none
 refusalOf Broken = some 33
 
--- an offset that the reader comes to: where it starts, and where a cookie ends that stands at one
+-- an offset that the reader reaches: where it starts, and the end of each cookie at such an offset
 pub data Reached (l : List ℕ) : ℕ → ℕ → Type 0 where
   here : {at : ℕ} → Reached l at at
   past : {at start end to : ℕ} → entryAt l at ≡ Cookie start end → Reached l end to → Reached l at to
 
--- the reader comes from an offset to one where what stands there is refused with 33
+-- from an offset, the reader reaches one at which the list is rejected with 33
+-- promise: 3.12
 pub record Refused (l : List ℕ) (at : ℕ) : Type 0 where
   pub place : ℕ
   pub reached : Reached l at place
@@ -72,6 +80,7 @@ pub data Listed : Type 0 where
   whole : List (List ℕ) → Listed
   broken : Listed
 
+-- promise no9.4: A list without damage comes out byte for byte with no gaps.
 abbrev pub isWhole : Listed → Bool
 isWhole (whole cs) = true
 isWhole broken = false
@@ -91,13 +100,14 @@ abbrev pub cookiesN : ℕ → List ℕ → ℕ → Listed
 cookiesN zero l at = onEntry l (λ end. broken) (entryAt l at)
 cookiesN (suc n) l at = onEntry l (λ end. cookiesN n l end) (entryAt l at)
 
--- the cookies from an offset on; of so many bytes no more cookies can be read
+-- the cookies from an offset on; there are no more cookies than bytes
 unfoldable pub cookiesFrom : List ℕ → ℕ → Listed
 cookiesFrom l at = cookiesN (length l - at) l at
 
+-- promise: 3.12, no9.4
 unfoldable pub cookiesIn : List ℕ → Listed
 cookiesIn l = cookiesFrom l 0
 
--- a list that is broken is refused with NTS only
+-- a broken list is rejected with NTS only
 abbrev pub listBroken : Bool → List ℕ → Bool
 listBroken nts l = nts && not (isWhole (cookiesIn l))

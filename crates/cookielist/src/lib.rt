@@ -1,5 +1,5 @@
-// The list in which cookies are handed over, in this project's own form: a run of records, each a mark, a length and a cookie.
-// Promises: what is written is read back; a list is refused exactly where an entry on the way is broken.
+// The list in which cookies are passed, in this project's own format: a run of records, each a mark, a length and a cookie.
+// Promises: what is written is read back; a list is rejected exactly if a read from its start meets a broken entry.
 // Rule: RULES, "Settings and a whole record"; definitions in specs/List.antt.
 ghost use mathlib.Core.Path.{_≡_};
 ghost use Rattle.cookielist.specs.List.{entryAt, isWhole, cookiesIn};
@@ -13,14 +13,15 @@ pub const HEAD_BYTES: usize = 4;
 // The longest cookie that is kept or sent.
 pub const MAX_COOKIE: usize = 724;
 
-// What stands at an offset of a cookie list: a cookie, whose bytes are those from start and before end; nothing more; or neither.
+// What is at an offset of a cookie list: a cookie, with its bytes from start to before end; the end of the list; or something broken.
 pub enum Entry {
     Cookie { start: usize, end: usize },
     End,
     Broken,
 }
 
-// Past the bytes, and where no whole record stands, the list is broken.
+// The list is broken past its bytes, and where the bytes that are left do not start with a whole record.
+// promise: 3.12
 pub fn entry_at(list: &[u8], at: usize) -> Entry
     ensures { λ r. ⌜ r ≡ entryAt (now (list .entry)) at ⌝ }
 {
@@ -49,6 +50,7 @@ pub fn entry_at(list: &[u8], at: usize) -> Entry
 }
 
 // Whether a list of bytes is a cookie list.
+// promise: 3.12
 pub fn list_whole(list: &[u8]) -> bool
     ensures { λ r. ⌜ r ≡ isWhole (cookiesIn (now (list .entry))) ⌝ }
 {

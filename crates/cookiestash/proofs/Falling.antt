@@ -58,7 +58,9 @@ module _ (cap : ℕ) (s : CookieStash) (i : InRange cap s) where
   none-falls = let e : s .held + 0 - cap ≡ 0 = omega (arith, within cap (s .read) (s .held) i) in rw e
 
   -- what falls out where a cookie is stored comes before what falls out after it
-  pub falls-first : cap ≤ length (s .slots) → (c : List ℕ) → length c ≤ 65535 → (cs : List (List ℕ)) → fallenAll cap s (c ∷ cs) ≡ oldest cap s ++ fallenAll cap (storeOf cap s c) cs
+  -- promise: no5.2 (one by one it is the same), no12.2
+  pub falls-first : cap ≤ length (s .slots) → (c : List ℕ) → length c ≤ 65535 → (cs : List (List ℕ)) →
+      fallenAll cap s (c ∷ cs) ≡ oldest cap s ++ fallenAll cap (storeOf cap s c) cs
   unfolding fallenAll full
   falls-first room c h cs =
       let w = within cap (s .read) (s .held) i in
@@ -79,13 +81,17 @@ module _ (cap : ℕ) (s : CookieStash) (i : InRange cap s) where
 
 module _ (cap : ℕ) (s : CookieStash) (i : InRange cap s) (room : cap ≤ length (s .slots)) (cs : List (List ℕ)) (h : AllShort cs) where
   -- what was held and what is stored, oldest first: the beginning fell out, and the rest is held
+  -- promise no5.3: Nothing is lost unseen: held before and stored is fallen out and held after, cookie for cookie, in lengths and in counts.
   pub none-unseen : cookies cap s ++ map cookieOf cs ≡ fallenAll cap s cs ++ cookies cap (storeAll cap s cs)
   unfolding fallenAll
   none-unseen = rw (store-all cap s i room cs h) (sym (take-append-drop (s .held + length cs - cap) (cookies cap s ++ map cookieOf cs)))
 
+  -- promise: no5.3
   pub lengths-kept : lengths (cookies cap s) + lengths (map cookieOf cs) ≡ lengths (fallenAll cap s cs) + lengths (cookies cap (storeAll cap s cs))
-  lengths-kept = sym (lengths-append (cookies cap s) (map cookieOf cs)) ∙ ap lengths none-unseen ∙ lengths-append (fallenAll cap s cs) (cookies cap (storeAll cap s cs))
+  lengths-kept = sym (lengths-append (cookies cap s) (map cookieOf cs)) ∙ ap lengths none-unseen
+      ∙ lengths-append (fallenAll cap s cs) (cookies cap (storeAll cap s cs))
 
+  -- promise: no5.3
   pub counts-kept : s .held + length cs ≡ length (fallenAll cap s cs) + storeAll cap s cs .held
   counts-kept =
       omega (
@@ -99,6 +105,7 @@ module _ (cap : ℕ) (s : CookieStash) (i : InRange cap s) (room : cap ≤ lengt
       )
 
   -- as many as do not fit
+  -- promise: no5.2, no12.2
   pub as-many : length (fallenAll cap s cs) ≡ s .held + length cs - cap
   unfolding fallenAll
   as-many =
@@ -115,7 +122,12 @@ added d cs = record { count = d .count + length cs; bytes = d .bytes + lengths c
 added-oldest : (s : CookieStash) (d : Dropped) (cs : List Q.Cookie) (b : Bool) → let x = slotAt (s .slots) (s .read) in
     added d (cond b (seen x ∷ []) [] ++ cs) ≡ added (plusOf d (cond b (record { fell = true; len = x .len }) noneFallen)) cs
 unfolding seen
-added-oldest s d cs true = λ i. record { count = (let e : d .count + suc (length cs) ≡ d .count + 1 + length cs = omega arith in e) i; bytes = (let x = slotAt (s .slots) (s .read) .len in let e : d .bytes + (x + lengths cs) ≡ d .bytes + x + lengths cs = omega arith in e) i }
+added-oldest s d cs true =
+    λ i. record {
+      count = (let e : d .count + suc (length cs) ≡ d .count + 1 + length cs = omega arith in e) i;
+      bytes
+          = (let x = slotAt (s .slots) (s .read) .len in let e : d .bytes + (x + lengths cs) ≡ d .bytes + x + lengths cs = omega arith in e) i;
+    }
 added-oldest s d cs false = refl
 
 added-none : (d : Dropped) → added d [] ≡ d
@@ -143,7 +155,8 @@ module _ (cap : ℕ) (s : CookieStash) where
   nothing-by false i = refl
 
   -- an answer that is no cookie, by its tag, ends the storing
-  pub falls-stop : (l : List ℕ) (at : ℕ) (e : Entry) (d : Dropped) → entryAt l at ≡ e → (tagOf E.the-type e ≡ 1) ⊎ (tagOf E.the-type e ≡ 2) → added d (fallenListed cap s (cookiesFrom l at)) ≡ d
+  pub falls-stop : (l : List ℕ) (at : ℕ) (e : Entry) (d : Dropped) → entryAt l at ≡ e → (tagOf E.the-type e ≡ 1) ⊎ (tagOf E.the-type e ≡ 2) →
+      added d (fallenListed cap s (cookiesFrom l at)) ≡ d
   falls-stop l at (Cookie start end) d p h = absurd (⊎-elim (λ q. omega arith) (λ q. omega arith) h)
   falls-stop l at End d p h = rw (read-end l at p, nothing-by (inRange cap s) refl) (added-none d)
   falls-stop l at Broken d p h = rw (read-broken l at p) (added-none d)
@@ -158,7 +171,8 @@ module _ (cap : ℕ) (s : CookieStash) where
     unfolding storeOf fallenOf
     out-none i = (rw i, rw i)
 
-    in-falls : (cs : List (List ℕ)) → InRange cap s → added d (fallenAll cap s (c ∷ cs)) ≡ added (plusOf d (fallenOf cap s c)) (fallenAll cap (storeOf cap s c) cs)
+    in-falls : (cs : List (List ℕ)) → InRange cap s →
+        added d (fallenAll cap s (c ∷ cs)) ≡ added (plusOf d (fallenOf cap s c)) (fallenAll cap (storeOf cap s c) cs)
     unfolding oldestOf
     in-falls cs i =
         let w = within cap (s .read) (s .held) i in
@@ -169,18 +183,23 @@ module _ (cap : ℕ) (s : CookieStash) where
     unfolding inRange
     falls-by cs true true i j = in-falls cs i
     falls-by cs true false i j = let k : false ≡ true = sym j ∙ store-range cap s c i in let z : _≡_ {A = ℕ} 0 1 = cc in absurd (omega arith)
-    falls-by cs false true i j = let k : false ≡ true = sym i ∙ ap (inRange cap) (sym (out-none i .0)) ∙ j in let z : _≡_ {A = ℕ} 0 1 = cc in absurd (omega arith)
+    falls-by cs false true i j = let k : false ≡ true = sym i ∙ ap (inRange cap) (sym (out-none i .0)) ∙ j in let z : _≡_ {A = ℕ} 0 1 = cc in
+        absurd (omega arith)
     falls-by cs false false i j = rw (out-none i .1)
 
-    falls-listed : (r : Listed) → isWhole r ≡ true → added d (fallenListed cap s (before c r)) ≡ added (plusOf d (fallenOf cap s c)) (fallenListed cap (storeOf cap s c) r)
+    falls-listed : (r : Listed) → isWhole r ≡ true →
+        added d (fallenListed cap s (before c r)) ≡ added (plusOf d (fallenOf cap s c)) (fallenListed cap (storeOf cap s c) r)
     falls-listed (whole cs) e = falls-by cs (inRange cap s) (inRange cap (storeOf cap s c)) refl refl
     falls-listed broken e = let z : _≡_ {A = ℕ} 0 1 = cc in absurd (omega arith)
 
   -- what falls out by a cookie, and then by those behind it
-  pub falls-cookie : length (s .slots) ≡ 8 → (d : Dropped) (l : List ℕ) → Bytes l → (at start end : ℕ) → entryAt l at ≡ Cookie start end → isWhole (cookiesFrom l end) ≡ true →
-      let c = part l start (end - start) in added d (fallenListed cap s (cookiesFrom l at)) ≡ added (plusOf d (fallenOf cap s c)) (fallenListed cap (storeOf cap s c) (cookiesFrom l end))
+  pub falls-cookie : length (s .slots) ≡ 8 → (d : Dropped) (l : List ℕ) → Bytes l → (at start end : ℕ) → entryAt l at ≡ Cookie start end →
+      isWhole (cookiesFrom l end) ≡ true →
+      let c = part l start (end - start) in added d (fallenListed cap s (cookiesFrom l at))
+      ≡ added (plusOf d (fallenOf cap s c)) (fallenListed cap (storeOf cap s c) (cookiesFrom l end))
   falls-cookie n d l bytes at start end e k =
-      rw (read-cookie l at start end e) (falls-listed n d (part l start (end - start)) (short-again l bytes at start end (placed l at start end e)) (cookiesFrom l end) k)
+      rw (read-cookie l at start end e) (falls-listed n d (part l start (end - start)) (short-again l bytes at start end (placed l at start end e))
+      (cookiesFrom l end) k)
 
 -- ---- the sums are small
 
@@ -221,13 +240,15 @@ module _ (cap : ℕ) (s : CookieStash) (t : Typed s) where
       let few : lengths (take k (held ++ given)) ≤ lengths held + lengths given = omega (arith, lengths-take k (held ++ given), lengths-append held given) in
       (omega (arith, length-take k (held ++ given)), omega arith)
 
-  fit-by : (l : List ℕ) → Bytes l → length l < 18446744073709551616 → (r : Listed) → cookiesIn l ≡ r → (b : Bool) → inRange cap s ≡ b → Fit (tallyOf (fallenListed cap s r))
+  fit-by : (l : List ℕ) → Bytes l → length l < 18446744073709551616 → (r : Listed) → cookiesIn l ≡ r → (b : Bool) → inRange cap s ≡ b →
+      Fit (tallyOf (fallenListed cap s r))
   unfolding inRange
   fit-by l bytes n (whole cs) e true i = rw i (all-fit i cs (list-short l bytes cs e) (rw (list-written l bytes cs e) n))
   fit-by l bytes n (whole cs) e false i = rw i (omega arith, omega arith)
   fit-by l bytes n broken e b i = (omega arith, omega arith)
 
   -- no list that a slice can hold is so long that a sum overflows
+  -- promise: no5.4
   pub fits : (l : List ℕ) → Bytes l → length l < 18446744073709551616 → Fit (droppedOf cap s l)
   unfolding droppedOf
   fits l bytes n = fit-by l bytes n (cookiesIn l) refl (inRange cap s) refl

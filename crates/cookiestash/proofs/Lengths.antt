@@ -44,15 +44,18 @@ swap true false = refl
 swap false true = refl
 swap false false = refl
 
-free-lens : (cap : ℕ) (s : CookieStash) → allFree (freeSlots cap s) ≡ zeros (drop cap (lensOf s)) && roundFree cap (lensOf s) (wrap cap (s .read + s .held)) (cap - s .held)
+free-lens : (cap : ℕ) (s : CookieStash) →
+    allFree (freeSlots cap s) ≡ zeros (drop cap (lensOf s)) && roundFree cap (lensOf s) (wrap cap (s .read + s .held)) (cap - s .held)
 unfolding freeSlots lensOf
 free-lens cap s =
     let at = wrap cap (s .read + s .held) in
-    free-both (walk cap (s .slots) at (cap - s .held)) (drop cap (s .slots)) ∙ (λ j. round cap (s .slots) at (cap - s .held) j && past cap (s .slots) j) ∙ swap (roundFree cap (lens (s .slots)) at (cap - s .held)) (zeros (drop cap (lens (s .slots))))
+    free-both (walk cap (s .slots) at (cap - s .held)) (drop cap (s .slots)) ∙ (λ j. round cap (s .slots) at (cap - s .held) j && past cap (s .slots) j)
+    ∙ swap (roundFree cap (lens (s .slots)) at (cap - s .held)) (zeros (drop cap (lens (s .slots))))
 
 -- what a take finds, by whether there is a cookie
 abbrev taking : ℕ → CookieStash → Bool → Taken
-taking cap s b = cond b (record { found = true; slot = slotAt (s .slots) (s .read); stash = restOf cap s }) (record { found = false; slot = emptySlot; stash = s })
+taking cap s b =
+    cond b (record { found = true; slot = slotAt (s .slots) (s .read); stash = restOf cap s }) (record { found = false; slot = emptySlot; stash = s })
 
 take-found : (cap : ℕ) (s : CookieStash) (b : Bool) → b ≡ taking cap s b .found
 take-found cap s true = refl

@@ -35,7 +35,10 @@ round i h = by (ltb i 8) refl
 -- a cookie of at most 724 bytes is kept whole
 kept-whole : (c : List ℕ) → length c ≤ 724 → keptIn (slotOf c) ≡ c
 unfolding slotOf stored
-kept-whole c h = rw (le-ltb 724 (length c) h, le-leb (length c) 724 h) (take-at (take (length c) c) (replicate (724 - length c) 0) (length c) (length-take-le (length c) c (omega arith)) ∙ take-all (length c) c (omega arith))
+kept-whole c h =
+    rw (le-ltb 724 (length c) h, le-leb (length c) 724 h)
+    (take-at (take (length c) c) (replicate (724 - length c) 0) (length c) (length-take-le (length c) c (omega arith))
+    ∙ take-all (length c) c (omega arith))
 
 kept-none : keptIn emptySlot ≡ []
 unfolding emptySlot
@@ -45,7 +48,8 @@ pub ring-new : ringOf newOf ≡ empty
 unfolding newOf emptySlot
 ring-new = refl
 
-ring-same : {c d : List (List ℕ)} {r q v u : ℕ} → c ≡ d → r ≡ q → v ≡ u → _≡_ {A = Ring} (record { cookies = c; read = r; valid = v }) (record { cookies = d; read = q; valid = u })
+ring-same : {c d : List (List ℕ)} {r q v u : ℕ} → c ≡ d → r ≡ q → v ≡ u →
+    _≡_ {A = Ring} (record { cookies = c; read = r; valid = v }) (record { cookies = d; read = q; valid = u })
 ring-same p q r = λ i. record { cookies = p i; read = q i; valid = r i }
 
 module _ (s : CookieStash) (w : Whole 8 s) where
@@ -54,7 +58,8 @@ module _ (s : CookieStash) (w : Whole 8 s) where
   ring-store c h = ap ringOf (store-put 8 s w c (omega arith)) ∙ by (ltb (s .held) 8) refl
     where
       at : map keptIn (set (s .slots) (wrap 8 (s .read + s .held)) (slotOf c)) ≡ set (map keptIn (s .slots)) ((s .read + s .held) % 8) c
-      at = map-set keptIn (s .slots) (wrap 8 (s .read + s .held)) (slotOf c) ∙ rw (kept-whole c h, round (s .read + s .held) (omega (arith, w .reads, w .counts)))
+      at = map-set keptIn (s .slots) (wrap 8 (s .read + s .held)) (slotOf c)
+          ∙ rw (kept-whole c h, round (s .read + s .held) (omega (arith, w .reads, w .counts)))
 
       by : (t : Bool) → ltb (s .held) 8 ≡ t → ringOf (putOf 8 s (slotOf c)) ≡ store (ringOf s) c
       by true e =

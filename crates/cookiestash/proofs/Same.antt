@@ -49,7 +49,8 @@ module _ (cap : ℕ) (s : CookieStash) (w : Whole cap s) where
   unfolding queue
   queue-at j h = walk-at cap (s .slots) (s .read) (s .held) j (w .reads) (w .counts) h
 
-module _ (cap : ℕ) (s t : CookieStash) (v : Whole cap s) (w : Whole cap t) (n : length (s .slots) ≡ length (t .slots)) (r : s .read ≡ t .read) (c : cookies cap s ≡ cookies cap t) where
+module _ (cap : ℕ) (s t : CookieStash) (v : Whole cap s) (w : Whole cap t) (n : length (s .slots) ≡ length (t .slots)) (r : s .read ≡ t .read)
+    (c : cookies cap s ≡ cookies cap t) where
   held-same : s .held ≡ t .held
   held-same = sym (length-cookies cap s) ∙ ap length c ∙ length-cookies cap t
 
@@ -60,7 +61,8 @@ module _ (cap : ℕ) (s t : CookieStash) (v : Whole cap s) (w : Whole cap t) (n 
             let m : j < t .held = omega (arith, held-same) in
             let d : Slot = record { bytes = []; len = 0 } in
             let e : seen (slotAt (s .slots) (wrap cap (s .read + j))) ≡ seen (slotAt (t .slots) (wrap cap (t .read + j)))
-            = ap seen (sym (queue-at cap s v j l)) ∙ sym (held-at cap s v d j l) ∙ ap (λ (q : List Cookie). getD q j (seen d)) c ∙ held-at cap t w d j m ∙ ap seen (queue-at cap t w j m) in
+            = ap seen (sym (queue-at cap s v j l)) ∙ sym (held-at cap s v d j l) ∙ ap (λ (q : List Cookie). getD q j (seen d)) c ∙ held-at cap t w d j m
+            ∙ ap seen (queue-at cap t w j m) in
             slot-same _ _
             (v .each _ (omega (arith, wrap-lt cap (s .read + j) (omega (arith, v .reads)), v .room)))
             (w .each _ (omega (arith, wrap-lt cap (t .read + j) (omega (arith, w .reads)), w .room))) e
@@ -77,6 +79,7 @@ module _ (cap : ℕ) (s t : CookieStash) (v : Whole cap s) (w : Whole cap t) (n 
         | no m ↦ v .past k (omega arith) h ∙ sym (w .past k (omega arith) (omega (arith, n)))
       ]
 
+  -- promise 3.8: A whole stash is determined by its reading place and its cookies.
   pub stash-same : s ≡ t
   stash-same =
       let e : s .slots ≡ t .slots = ext-getD (record { bytes = []; len = 0 }) (s .slots) (t .slots) n slot-at-same in

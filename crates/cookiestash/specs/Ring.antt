@@ -1,4 +1,5 @@
--- The crate's stash on values, as its file cookiestash.rs has it (RULES, No. 12): an array of eight cookies, a place to read and a count; the places go round by the remainder.
+-- The crate's stash on values, as its file cookiestash.rs has it (RULES, No. 12): an array of eight cookies, a place to read and a count; places wrap modulo
+-- 8.
 -- Assumes nothing.
 use mathlib.Core.Bool.{Bool, cond}
 use mathlib.Core.List.{List, [], map}
@@ -24,7 +25,7 @@ store r c =
     (record { cookies = set (r .cookies) ((r .read + r .valid) % 8) c; read = r .read; valid = r .valid + 1 })
     (record { cookies = set (r .cookies) ((r .read + r .valid) % 8) c; read = (r .read + 1) % 8; valid = r .valid })
 
--- none where none is valid; else the one at the place to read, where an empty one is left
+-- none if none is valid; otherwise the one at the place to read, which is left empty
 pub record Got : Type 0 where
   pub cookie : Option (List ℕ)
   pub ring : Ring

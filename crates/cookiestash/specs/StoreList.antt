@@ -11,5 +11,6 @@ abbrev pub storeListed : ℕ → CookieStash → Listed → CookieStash
 storeListed cap s (whole cs) = storeAll cap s cs
 storeListed cap s broken = s
 
+-- promise: 3.13, no5.6
 unfoldable pub storeListOf : ℕ → CookieStash → List ℕ → CookieStash
 storeListOf cap s l = storeListed cap s (cookiesIn l)

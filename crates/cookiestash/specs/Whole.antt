@@ -25,15 +25,23 @@ abbrev pub allFree : List Slot → Bool
 allFree [] = true
 allFree (x ∷ xs) = eqb (x .len) 0 && allFree xs
 
--- the slots that hold no cookie: the rest of the round behind the newest, and those past the capacity
+-- the slots that hold no cookie: the rest of the ring after the newest, and those past the capacity
 unfoldable pub freeSlots : ℕ → CookieStash → List Slot
 freeSlots cap s = walk cap (s .slots) (wrap cap (s .read + s .held)) (cap - s .held) ++ drop cap (s .slots)
 
 -- the test: in range, padded, and free slots have length 0
+-- promise 3.10: A whole stash has read < capacity and held ≤ capacity. Free slots and slots past the capacity have length 0. Bytes past the stored ones are
+--     zero (No. 12).
+--     edit: cookiestash/a_slot_past_the_capacity_is_held
+-- promise: 3.10 (test)
 unfoldable pub wholeOf : ℕ → CookieStash → Bool
 wholeOf cap s = inRange cap s && (allPadded (s .slots) && allFree (freeSlots cap s))
 
--- what the rules read of a stash: whether it is whole; whether it has a cookie, the length of the oldest, and the gap, counted after the take; the place and the count
+-- the summary that the rules read: whether the stash is whole; whether it has a cookie, the length of the oldest, and the gap, counted after the take; the
+-- place and the count
+-- promise 3.7: What the rules read of a stash.
+--     edit: cookiestash/the_gap_before_the_take
+-- promise: 10.4, no12.3
 abbrev pub seenOf : ℕ → CookieStash → Seen
 seenOf cap s =
     record {
@@ -45,12 +53,12 @@ seenOf cap s =
       held = s .held;
     }
 
--- ---- the same, of the slots' lengths
+-- ---- the same, from the slots' lengths
 
 unfoldable pub lensOf : CookieStash → List ℕ
 lensOf s = map (λ x. x .len) (s .slots)
 
--- the n places from a place on, going round, have length 0
+-- the n places from a place on, wrapping around, have length 0
 abbrev pub roundFree : ℕ → List ℕ → ℕ → ℕ → Bool
 roundFree cap lens at zero = true
 roundFree cap lens at (suc n) = eqb (getD lens at 0) 0 && roundFree cap lens (wrap cap (at + 1)) n
@@ -59,7 +67,7 @@ roundFree cap lens at (suc n) = eqb (getD lens at 0) 0 && roundFree cap lens (wr
 abbrev pub hasOf : ℕ → ℕ → ℕ → Bool
 hasOf cap read held = rangeOf cap read held && ltb 0 held
 
--- what the rules read, of a place and a count, of whether no slot has bytes past its stored ones, and of the slots' lengths
+-- the summary, from a place and a count, from whether every slot is zero past its stored bytes, and from the slots' lengths
 unfoldable pub seenFrom : ℕ → ℕ → ℕ → Bool → List ℕ → Seen
 seenFrom cap read held padded lens =
     record {
@@ -80,6 +88,7 @@ pub record WholeSlot (x : Slot) : Type 0 where
   pub padded : drop (stored (x .len)) (x .bytes) ≡ replicate (724 - stored (x .len)) 0
 
 -- and of a stash
+-- promise: 3.10 (statement)
 pub record Whole (cap : ℕ) (s : CookieStash) : Type 0 where
   pub reads : s .read < cap
   pub counts : s .held ≤ cap
@@ -89,7 +98,7 @@ pub record Whole (cap : ℕ) (s : CookieStash) : Type 0 where
   pub free : (k : ℕ) → s .held ≤ k → k < cap → slotAt (s .slots) (wrap cap (s .read + k)) ≡ emptySlot
   pub past : (k : ℕ) → cap ≤ k → k < length (s .slots) → slotAt (s .slots) k ≡ emptySlot
 
--- what the types alone say of a stash
+-- what the types alone say about a stash
 pub record Typed (s : CookieStash) : Type 0 where
   pub eight : length (s .slots) ≡ 8
   pub each : (k : ℕ) → k < 8 → (length (slotAt (s .slots) k .bytes) ≡ 724) × (slotAt (s .slots) k .len ≤ 65535)

@@ -1,6 +1,6 @@
 // The cookies that a client holds, given out oldest first.
-// Promises: the stash is a queue of at most as many cookies as its capacity; what is given out is no longer held, and a whole stash stays whole.
-// Rule: RULES, part 3 and No. 5; definitions in specs/Stash.antt, as a queue in specs/Queue.antt, when it is whole in specs/Whole.antt, what falls out in specs/Falling.antt.
+// Promises: the stash is a queue of at most as many cookies as its capacity; a cookie that was given out is no longer held; a whole stash stays whole.
+// Rule: RULES, part 3 and No. 5; definitions in specs/Stash.antt, Queue.antt (a queue), Whole.antt (when it is whole) and Falling.antt (what falls out).
 use cookielist::Entry;
 ghost use mathlib.Core.Path.{_≡_};
 ghost use mathlib.Core.Bool.{_&&_};
@@ -17,13 +17,13 @@ pub const SLOT_BYTES: usize = cookielist::MAX_COOKIE;
 // How many slots a stash has, and so the largest capacity.
 pub const MAX_COOKIES: usize = 8;
 
-// How many cookies the crate's stash holds: the capacity where none is chosen.
+// How many cookies the crate's stash holds: the default capacity.
 pub const CAPACITY: u8 = 8;
 
-// The longest cookie that a slot's length can name.
+// The greatest length that a slot can record.
 pub const MAX_LENGTH: usize = 65535;
 
-// One cookie: its length, and its bytes from the start, with zeros behind. Of a cookie longer than a slot only the length is kept.
+// One cookie: its length, and its bytes from the start, followed by zeros. If a cookie is longer than a slot, only its length is kept.
 #[repr(C)]
 pub struct Slot {
     pub bytes: [u8; 724],
@@ -38,39 +38,40 @@ pub struct CookieStash {
     pub held: usize,
 }
 
-// What `get` gives: whether there was a cookie, the cookie, and the stash without it.
+// What `get` returns: whether there was a cookie, the cookie, and the stash without it.
 pub struct Taken {
     pub found: bool,
     pub slot: Slot,
     pub stash: CookieStash,
 }
 
-// What falls out where one cookie is stored: whether an older one does, and how long it is.
+// What falls out when one cookie is stored: whether an older one does, and its length.
 pub struct Fallen {
     pub fell: bool,
     pub len: u16,
 }
 
-// What falls out where cookies are stored: how many, and their lengths summed.
+// What falls out when cookies are stored: how many, and the sum of their lengths.
 #[repr(C)]
 pub struct Dropped {
     pub count: u64,
     pub bytes: u64,
 }
 
-// What `store` gives: the stash with the cookie, and what fell out of it.
+// What `store` returns: the stash with the cookie, and what fell out of it.
 pub struct StoreOut {
     pub stash: CookieStash,
     pub fallen: Fallen,
 }
 
-// What `store_list` gives: the stash with the cookies, and what fell out of it.
+// What `store_list` returns: the stash with the cookies, and what fell out of it.
 pub struct StoreListOut {
     pub stash: CookieStash,
     pub dropped: Dropped,
 }
 
-// What the rules read of a stash: whether it is whole; whether it has a cookie, how long the oldest is, and how many more there is room for once that is taken; its place and count.
+// The summary of a stash that the rules read: whether it is whole; whether it has a cookie, how long the oldest is, and how many more there is room for once
+// that one is taken; its place and its count.
 pub struct Seen {
     pub whole: bool,
     pub found: bool,
@@ -87,14 +88,14 @@ pub fn stored_bytes(length: usize) -> usize
     if length <= SLOT_BYTES { length } else { 0 }
 }
 
-// The place after the last is the first.
+// Wraps a place around: after the last comes the first.
 pub fn wrapped(cap: usize, place: usize) -> usize
     ensures { λ r. ⌜ r ≡ wrap cap place ⌝ }
 {
     if place < cap { place } else { place - cap }
 }
 
-// Whether a place and a count are those of a stash of a capacity, which has no more slots than there are.
+// Whether a place and a count are in range for a stash of this capacity. The capacity may be at most the number of slots.
 pub fn in_range(cap: usize, read: usize, held: usize) -> bool
     ensures { λ r. ⌜ r ≡ rangeOf cap read held ⌝ }
 {
@@ -104,7 +105,7 @@ pub fn in_range(cap: usize, read: usize, held: usize) -> bool
     if read < cap { held <= cap } else { false }
 }
 
-// How many more cookies there is room for, of how many are held.
+// How many more cookies there is room for if so many are held.
 fn room(capacity: u8, held: usize) -> u8
     ensures { λ r. ⌜ r ≡ capacity - held ⌝ }
 {
@@ -112,7 +113,7 @@ fn room(capacity: u8, held: usize) -> u8
     if held < cap { (cap - held) as u8 } else { 0 }
 }
 
-// The bytes of the slot that holds a cookie: the stored ones, and zeros behind them.
+// The bytes of the slot that holds a cookie: the stored ones, then zeros.
 pub fn kept_bytes(cookie: &[u8]) -> [u8; 724]
     ensures { λ r. ⌜ r ≡ slotOf (now (cookie .entry)) .bytes ⌝ }
 {
@@ -140,7 +141,7 @@ fn unused(lens: [u16; 8], from: usize) -> bool
     true
 }
 
-// Whether the slots that hold no cookie have length 0: those past the capacity, and the rest of the round.
+// Whether the slots that hold no cookie have length 0: those past the capacity, and the free ones of the ring.
 fn freed(lens: [u16; 8], cap: usize, read: usize, held: usize) -> bool
     requires { ⌜ (cap ≤ 8) × (read < cap) × (held ≤ cap) ⌝ }
     ensures { λ r. ⌜ r ≡ (zeros (drop cap lens) && roundFree cap lens (wrap cap (read + held)) (cap - held)) ⌝ }
@@ -160,7 +161,8 @@ fn freed(lens: [u16; 8], cap: usize, read: usize, held: usize) -> bool
     true
 }
 
-// What the rules read of a stash, of its place and count, of whether no slot has bytes past its stored ones, and of the slots' lengths. The oldest cookie's length is looked up: no slot is taken, and none cleared.
+// The summary of a stash, given its place, its count, the slots' lengths, and whether every slot is zero past its stored bytes. The oldest cookie's length is
+// looked up: no slot is taken, and none is cleared.
 pub fn seen_from(capacity: u8, read: usize, held: usize, padded: bool, lens: [u16; 8]) -> Seen
     ensures { λ r. ⌜ r ≡ seenFrom capacity read held padded lens ⌝ }
 {
@@ -201,6 +203,7 @@ pub fn seen_from(capacity: u8, read: usize, held: usize, padded: bool, lens: [u1
 }
 
 impl Slot {
+    // promise: 3.1
     pub fn empty() -> Slot
         ensures { λ r. ⌜ r ≡ emptySlot ⌝ }
     {
@@ -230,7 +233,7 @@ impl Slot {
         words::zeros_from(&bytes, 0)
     }
 
-    // Whether the bytes past the stored ones are all zero. An empty slot is tested whole: where the bounds are known the compiler copies nothing.
+    // Whether the bytes past the stored ones are all zero. An empty slot is tested as a whole: with constant bounds the compiler copies nothing.
     fn padded(self) -> bool
         ensures { λ r. ⌜ r ≡ padded self ⌝ }
     {
@@ -251,7 +254,7 @@ impl Dropped {
         Dropped { count: 0, bytes: 0 }
     }
 
-    // One more that fell out, or none.
+    // Adds one cookie that fell out, or none.
     fn plus(self, fallen: Fallen) -> Dropped
         requires { ⌜ Fit (plusOf self fallen) ⌝ }
         ensures { λ r. ⌜ r ≡ plusOf self fallen ⌝ }
@@ -267,6 +270,7 @@ impl Dropped {
 }
 
 impl CookieStash {
+    // promise: 3.1
     pub fn new() -> CookieStash
         ensures { λ r. ⌜ r ≡ newOf ⌝ }
     {
@@ -278,7 +282,7 @@ impl CookieStash {
         }
     }
 
-    // A slot goes behind the newest; when all are held the oldest falls out, since a newer cookie is good for longer.
+    // Puts a slot after the newest. If all are held the oldest falls out, since a newer cookie is valid for longer.
     fn put(mut self, cap: usize, slot: Slot) -> CookieStash
         requires { ⌜ (cap ≤ 8) × (self .read < cap) × (self .held ≤ cap) ⌝ }
         ensures { λ r. ⌜ r ≡ putOf cap self slot ⌝ }
@@ -295,7 +299,7 @@ impl CookieStash {
         self
     }
 
-    // What falls out where one more is put: the oldest, when all are held.
+    // What falls out when one more is put: the oldest, if all are held.
     fn falls(self, cap: usize) -> Fallen
         requires { ⌜ (cap ≤ 8) × (self .read < cap) ⌝ }
         ensures { λ r. ⌜ r ≡ oldestOf cap self ⌝ }
@@ -313,7 +317,8 @@ impl CookieStash {
         }
     }
 
-    // A stash that is out of range, or a cookie whose length no slot can name, changes nothing.
+    // Stores a cookie. Changes nothing if the stash is out of range, or if the cookie is longer than a slot can record.
+    // promise: 3.2, 3.3, 3.6, 3.9, no5.1, no5.6
     pub fn store(self, capacity: u8, cookie: &[u8]) -> StoreOut
         ensures { λ r. ⌜ r ≡ storedOf capacity self (now (cookie .entry)) ⌝ }
     {
@@ -333,7 +338,8 @@ impl CookieStash {
         StoreOut { stash, fallen }
     }
 
-    // The oldest cookie, whose slot is cleared: a cookie that is used twice would tell who watches that both requests are the same client's.
+    // Takes the oldest cookie and clears its slot: a cookie that is used twice would show an observer that both requests come from the same client.
+    // promise: 3.4, 3.9
     pub fn get(mut self, capacity: u8) -> Taken
         ensures { λ r. ⌜ r ≡ getOf capacity self ⌝ }
     {
@@ -360,13 +366,14 @@ impl CookieStash {
     }
 
     // How many more cookies there is room for.
+    // promise: 3.5
     pub fn gap(self, capacity: u8) -> u8
         ensures { λ r. ⌜ r ≡ gapOf capacity self ⌝ }
     {
         room(capacity, self.held)
     }
 
-    // Whether no slot has bytes past its stored ones.
+    // Whether every slot is zero past its stored bytes.
     fn all_padded(self) -> bool
         ensures { λ r. ⌜ r ≡ allPadded (self .slots) ⌝ }
     {
@@ -395,7 +402,8 @@ impl CookieStash {
         lens
     }
 
-    // What the rules read of a stash: also whether it is whole, that is, whether the place and the count are in range, free slots have length 0, and bytes past the stored ones are zero.
+    // The summary of a stash. It is whole if the place and the count are in range, free slots have length 0, and bytes past the stored ones are zero.
+    // promise: 3.7, 3.9, 3.10 (`whole` in what it gives), 10.4, no12.3
     pub fn seen(self, capacity: u8) -> Seen
         ensures { λ r. ⌜ r ≡ seenOf capacity self ⌝ }
     {
@@ -406,7 +414,9 @@ impl CookieStash {
 }
 
 impl CookieStash {
-    // Stores the cookies of a list in order; of a broken list it stores nothing. No list is so long that the sums overflow: what falls out was held or is in the list, where each cookie has four bytes before it.
+    // Stores the cookies of a list in order, or nothing if the list is broken. The sums cannot overflow: what falls out was held or is in the list, where each
+    // cookie has four bytes before it.
+    // promise: 3.9, 3.13, no5.2, no5.6
     pub fn store_list(mut self, capacity: u8, list: &[u8]) -> StoreListOut
         ensures { λ r. ⌜ r ≡ storedListOf capacity self (now (list .entry)) ⌝ }
     {

@@ -1,6 +1,6 @@
-// The drill, a program: replays a log against the association and answers each of its lines.
-// Promises: it ends and stays in its bounds. What it prints is tested, not proved: tools/reference and the crate have the same answers (docs/EXCEPTIONS.md).
-// Rule: the language is docs/DRILL.md's, the numbers are those of RULES.
+// The drill: a program that replays a log against the association and answers each of its lines.
+// Promises: it ends and stays in its bounds. What it prints is tested, not proved: tools/reference and the crate give the same answers (docs/EXCEPTIONS.md).
+// Rule: docs/DRILL.md defines the language, RULES the numbers.
 use association::Association;
 use drill_calls::calls;
 use drill_calls::polls;
@@ -25,10 +25,10 @@ const MAX_LINE: usize = 32768;
 
 const MAX_ANSWER: usize = 16384;
 
-// The first argument that names a log; before it stands the program's own name.
+// The first argument that names a log; argument 0 is the program's own name.
 const FIRST_LOG: usize = 1;
 
-// The commands, by their places in their table: first those that give the next association, then those that leave it as it is.
+// The commands, by their places in their table: first those that return the next association, then those that leave it unchanged.
 mod command {
     pub const NEW: usize = 0;
 
@@ -94,7 +94,7 @@ fn start() -> Log {
     }
 }
 
-// Which command a line's word is.
+// The command that a line's word names.
 fn command_of(word: &[u8]) -> usize {
     match text::index_of(
         b"new metered load blank timer reply reply5 poke save accept show cookies collect request salvage calendar plan profile compare",
@@ -105,7 +105,7 @@ fn command_of(word: &[u8]) -> usize {
     }
 }
 
-// The commands that give the next association.
+// Runs a command that returns the next association.
 fn change(command: usize, a: Association, line: &[u8], number: u64, out: &mut [u8]) -> Ran {
     match command {
         command::NEW => calls::new(a, line, number, out),
@@ -120,7 +120,7 @@ fn change(command: usize, a: Association, line: &[u8], number: u64, out: &mut [u
     }
 }
 
-// The commands that only read the association, or have none: where the answer ends.
+// Runs a command that only reads the association, or needs none. Returns where the answer ends.
 fn told(command: usize, a: Association, line: &[u8], number: u64, out: &mut [u8]) -> usize {
     match command {
         command::ACCEPT => calls::accept(a, line, number, out),
@@ -158,7 +158,7 @@ fn is_asked(line: &[u8]) -> bool {
     }
 }
 
-// What a line that is asked is answered.
+// The answer to a line that needs one.
 fn answered(log: Log, line: &[u8], out: &mut [u8]) -> Ran {
     let a = log.association;
     if log.long {
@@ -171,7 +171,7 @@ fn answered(log: Log, line: &[u8], out: &mut [u8]) -> Ran {
     answer(a, line, log.number, out)
 }
 
-// Answers a line, in one write, and makes ready for the next one.
+// Answers a line with one write, and prepares for the next one.
 fn handle(log: Log, line: &[u8], out: &mut [u8]) -> Log {
     let mut next = log;
     next.used = 0;
@@ -196,7 +196,7 @@ fn has_room(used: usize, room: usize, more: usize) -> bool {
     }
 }
 
-// Adds bytes to the line; where they have no room the line is too long.
+// Adds bytes to the line. If they do not fit, the line is too long.
 fn added(log: Log, line: &mut [u8], piece: &[u8]) -> Log {
     let mut next = log;
     if !has_room(log.used, line.len(), piece.len()) {
@@ -207,7 +207,7 @@ fn added(log: Log, line: &mut [u8], piece: &[u8]) -> Log {
     next
 }
 
-// The last piece of a line is there: it is answered.
+// Adds the last piece of a line, and answers the line.
 fn finished(log: Log, piece: &[u8], line: &mut [u8], out: &mut [u8]) -> Log {
     let whole = added(log, line, piece);
     handle(whole, text::part(line, 0, whole.used), out)
@@ -253,8 +253,8 @@ fn turn(fd: i32, log: Log, line: &mut [u8], out: &mut [u8]) -> Log {
     taken(log, &chunk[..n], line, out)
 }
 
-// Reads a log to its end and answers it, from the blank record on; says whether it could be read. A proved loop has to end, so its
-// turns are counted down, from a number that no run uses up.
+// Reads a log to its end and answers it, from the blank record on. Returns whether it could be read. A proved loop has to end, so its turns are counted down
+// from a number that no run reaches.
 fn replay(fd: i32, line: &mut [u8], out: &mut [u8]) -> bool {
     let mut log = start();
     let mut turns = u64::MAX;
@@ -268,7 +268,7 @@ fn replay(fd: i32, line: &mut [u8], out: &mut [u8]) -> bool {
     true
 }
 
-// A line of the program's own, about a log file.
+// Prints a message about a log file.
 fn say(before: &[u8], name: &[u8], after: &[u8], out: &mut [u8]) {
     let at = print::text(out, 0, before);
     let at = print::text(out, at, name);
@@ -309,7 +309,7 @@ fn replay_arguments(count: usize, line: &mut [u8], out: &mut [u8]) {
     }
 }
 
-// With no arguments the log is the standard input; else each argument names a log.
+// Without arguments the log is the standard input; otherwise each argument names a log.
 fn main() {
     let mut line = [0u8; MAX_LINE];
     let mut out = [0u8; MAX_ANSWER];

@@ -64,7 +64,7 @@ pub fn settings_of(v: Values) -> Settings {
     }
 }
 
-// What a line says of an association to be made: its settings and its first cookie list.
+// What a line says about an association to be made: its settings and its first cookie list.
 pub fn new_values(line: &[u8], number: u64, out: &mut [u8]) -> Values {
     keys::read(
         line,
@@ -74,7 +74,7 @@ pub fn new_values(line: &[u8], number: u64, out: &mut [u8]) -> Values {
     )
 }
 
-// The number of new or metered, whose word is given; with 0, what fell out of the first list.
+// Writes the number of new or metered, after its word; with 0, also what fell out of the first list.
 pub fn put_made(out: &mut [u8], word: &[u8], number: u8, dropped: Dropped) -> usize {
     let at = print::number(out, 0, word, number as u64);
     if number != 0 {
@@ -113,7 +113,7 @@ fn bloom_of(n: u64) -> Bloom {
     }
 }
 
-// The answer over an association whose line is read.
+// The answer to a line that has been read.
 fn accepted(a: Association, v: Values, line: &[u8], out: &mut [u8]) -> usize {
     let mut local = [0u32; MAX_IDENTIFIERS];
     value::identifiers(v.text(accept_key::LOCAL, line), &mut local);
@@ -135,7 +135,7 @@ pub fn accept(a: Association, line: &[u8], number: u64, out: &mut [u8]) -> usize
     accepted(a, v, line, out)
 }
 
-// The first so many of a list.
+// The first `count` numbers of a list.
 fn part32(s: &[u32], count: usize) -> &[u32] {
     if count <= s.len() {
         &s[0..count]

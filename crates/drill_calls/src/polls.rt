@@ -27,7 +27,7 @@ mod key {
     pub const ROOM: usize = 4;
 }
 
-// The number of a kind among the words of its kind of value.
+// The number of the word for a kind of request.
 fn number_of(kind: SendKind) -> u64 {
     match kind {
         SendKind::V4 => send::V4,
@@ -48,7 +48,7 @@ fn put_kind(out: &mut [u8], at: usize, kind: SendKind) -> usize {
     )
 }
 
-// A poll that is sent, with the cookie that it takes.
+// Writes a poll that is sent, with the cookie that it takes.
 fn put_sent(
     out: &mut [u8],
     at: usize,
@@ -63,7 +63,7 @@ fn put_sent(
     print::number(out, at, b" asked=", asked as u64)
 }
 
-// The timer's answer; where a poll is sent its cookie stands at the start of the buffer.
+// Writes the timer's answer. If a poll is sent, its cookie is at the start of the buffer.
 fn put_timer(out: &mut [u8], answer: TimerAnswer, buffer: &[u8]) -> usize {
     let at = print::number(out, 0, b"timer ", answer.number() as u64);
     let TimerAnswer::Sent {

@@ -1,4 +1,4 @@
-// The calls metered and profile: an association for a metered link, and whether settings and list will do for one.
+// The calls metered and profile: make an association for a metered link, and say whether settings and list meet the profile.
 use crate::calls;
 use association::Association;
 use association::Settings;

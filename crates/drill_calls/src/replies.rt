@@ -107,7 +107,7 @@ pub fn put_dropped(out: &mut [u8], at: usize, dropped: Dropped) -> usize {
     print::number(out, at, b" lost=", dropped.bytes)
 }
 
-// The answer to either form, whose word is given.
+// Writes the answer to either form, after its word.
 fn put_reply(out: &mut [u8], word: &[u8], replied: Replied) -> usize {
     let answer = replied.answer;
     let at = print::number(out, 0, word, answer.number() as u64);
@@ -128,7 +128,7 @@ fn answered(done: ReplyOut, word: &[u8], out: &mut [u8]) -> Ran {
     Ran { association, end }
 }
 
-// What the collector makes of decrypted bytes, nothing where it refuses.
+// The length of the list that the collector makes of decrypted bytes; 0 if it rejects them.
 fn collected(decrypted: &[u8], list: &mut [u8]) -> usize {
     match collector::collect(decrypted, list) {
         Collected::Done(len) => len,
@@ -224,7 +224,7 @@ fn uid_of(n: u64) -> Uid {
     }
 }
 
-// Each name has its bit.
+// The kisses that a number names: each has its bit.
 fn kisses_of(n: u64) -> Kisses {
     Kisses {
         rate: n & kiss::RATE != 0,

@@ -18,7 +18,7 @@ mod load_key {
     pub const FILE: usize = 0;
 }
 
-// The writer's answer; a file that is written stands at the start of the buffer.
+// Writes the answer of save. A written file is at the start of the buffer.
 fn put_saved(out: &mut [u8], answer: SaveAnswer, buffer: &[u8]) -> usize {
     let at = print::number(out, 0, b"save ", answer.number() as u64);
     let SaveAnswer::Saved(len) = answer else {
@@ -28,7 +28,7 @@ fn put_saved(out: &mut [u8], answer: SaveAnswer, buffer: &[u8]) -> usize {
     print::field(out, at, b" file=", text::part(buffer, 0, len))
 }
 
-// The association goes into a buffer of so many bytes, and comes back without its cookies where it did.
+// Saves the association to a buffer. If that succeeds, it comes back without its cookies.
 fn saved(a: Association, buffer: &mut [u8], out: &mut [u8]) -> Ran {
     let done = handover_save::save(a, buffer);
     let answer = done.answer;
@@ -58,7 +58,7 @@ fn put_retired(out: &mut [u8], at: usize, number: u8, retired: bool) -> usize {
     print::choice(out, at, b" retired=", retired)
 }
 
-// The association of a file takes the place of the one before it, the blank record where the file is refused.
+// Replaces the association with that of a file, or with the blank record if the file is rejected.
 fn loaded(file: &[u8], out: &mut [u8]) -> Ran {
     let done = handover_load::load(file);
     let answer = done.answer;

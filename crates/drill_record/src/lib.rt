@@ -1,5 +1,5 @@
-// The drill's commands on the record itself: it is shown, set by hand, written to a hand-over file and loaded from one. A refused line leaves all as it was.
+// The drill's commands on the record itself: show it, set it by hand, write it to a hand-over file, load it from one. A rejected line changes nothing.
 // Promises: every function ends and stays in its bounds; the answers are those of the proved calls. What is printed is tested, not proved (docs/EXCEPTIONS.md).
-// Rule: the commands are docs/DRILL.md's.
+// Rule: docs/DRILL.md defines the commands.
 pub mod handovers;
 pub mod record;

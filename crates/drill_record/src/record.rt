@@ -146,7 +146,7 @@ fn put_polls(out: &mut [u8], at: usize, polls: Polls) -> usize {
     print::small(out, at, b" remote=", remote.0)
 }
 
-// How the polls went, and how the next ones go.
+// Writes the effort, the version and the poll exponents.
 fn put_polling(out: &mut [u8], state: State) -> usize {
     let effort = state.effort;
     let at = put_effort(out, effort);
@@ -156,7 +156,7 @@ fn put_polling(out: &mut [u8], state: State) -> usize {
     put_polls(out, at, polls)
 }
 
-// What is awaited, and what came.
+// Writes the pending request and the source.
 fn put_answers(out: &mut [u8], at: usize, state: State) -> usize {
     let request = state.request;
     let at = put_request(out, at, request);
@@ -191,7 +191,7 @@ pub fn show(a: Association, line: &[u8], number: u64, out: &mut [u8]) -> usize {
     put_record(out, a)
 }
 
-// The stored bytes of a cookie, of which one that is longer than a slot has none.
+// Writes the stored bytes of a cookie; one that is longer than a slot has none.
 fn put_cookie(out: &mut [u8], at: usize, slot: Slot) -> usize {
     let bytes = slot.bytes;
     print::bytes(out, at, text::part(&bytes, 0, slot.len as usize))
@@ -219,7 +219,7 @@ fn put_cookies(out: &mut [u8], from: usize, stash: CookieStash, capacity: u8) ->
     at
 }
 
-// How many cookies a record holds, and each; none where the record is not whole.
+// Writes how many cookies a record holds, and each of them; none if the record is not whole.
 fn put_held(out: &mut [u8], a: Association) -> usize {
     if !a.whole() {
         return print::text(out, 0, b"cookies 0");
@@ -251,7 +251,7 @@ pub fn blank(a: Association, line: &[u8], number: u64, out: &mut [u8]) -> Ran {
     Ran { association, end }
 }
 
-// One field of the effort, of the source or of the polls, or the version.
+// Sets one field of the effort, of the source or of the polls, or the version.
 fn poke_state(state: State, key: usize, n: u64) -> State {
     let mut next = state;
     let mut effort = state.effort;
@@ -307,7 +307,7 @@ fn with_uid(request: Pending, digits: &[u8]) -> Pending {
     }
 }
 
-// One field of the request, which is present or absent as it was: so an absent one can be made other than zero.
+// Sets one field of the request, which stays present or absent: so an absent one can be made nonzero.
 fn poke_request(request: Pending, key: usize, n: u64, digits: &[u8]) -> Pending {
     let mut next = request;
     match key {
@@ -328,7 +328,7 @@ fn poke_request(request: Pending, key: usize, n: u64, digits: &[u8]) -> Pending 
     next
 }
 
-// One byte of a slot, stored or not: so one past the stored bytes can be made other than zero.
+// Sets one byte of a slot, stored or not: so one past the stored bytes can be made nonzero.
 fn poke_slot(slot: Slot, at: usize, byte: u8) -> Slot {
     let mut bytes = slot.bytes;
     if at < SLOT_BYTES {
@@ -405,7 +405,7 @@ fn poke_pending(state: State, key: usize, n: u64, digits: &[u8]) -> State {
     next
 }
 
-// Each group of the record has its keys. The value is a number, and where 64 bits do not hold it its digits.
+// Each group of the record has its keys. The value is a number, or digits if it does not fit 64 bits.
 fn poked(a: Association, key: usize, n: u64, digits: &[u8]) -> Association {
     let mut next = a;
     match key {
@@ -433,7 +433,7 @@ fn poked(a: Association, key: usize, n: u64, digits: &[u8]) -> Association {
     next
 }
 
-// A poke that is refused leaves the record as it was.
+// A rejected poke leaves the record unchanged.
 fn refused(a: Association, number: u64, what: &[u8], out: &mut [u8]) -> Ran {
     let end = print::error(out, number, what, b"");
     Ran {
@@ -467,8 +467,9 @@ fn poke_by(
     poke_to(a, i, keys::kind_of(table, i), value, number, out)
 }
 
-// The keys of poke: reach, tries, unanswered, stratum, startup and capacity are unsigned 8-bit numbers, refid is 8 hexadecimal digits, last, remote, min
-// and max are signed 8-bit numbers, deadline, read, held and window unsigned 64-bit ones, id 16 digits, uid 32 bytes, answered 0 or 1, slotbyte a byte of a slot, version and start versions as `new` takes them.
+// The keys of poke: reach, tries, unanswered, stratum, startup and capacity are unsigned 8-bit numbers; last, remote, min and max are signed 8-bit numbers;
+// deadline, read, held and window are unsigned 64-bit numbers; refid is 8 hexadecimal digits and id is 16; uid is 32 bytes; answered is 0 or 1; slotbyte is a
+// byte of a slot; version and start are versions as `new` takes them.
 pub fn poke(a: Association, line: &[u8], number: u64, out: &mut [u8]) -> Ran {
     let v = keys::read(line, number, b"key:t value:t", out);
     if v.refused {

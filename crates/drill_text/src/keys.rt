@@ -1,8 +1,8 @@
 // Reading the keys of a command by its table.
 //
-// An entry of a table is KEY:KIND, or KEY:KIND=DEFAULT where the key may be left out, in the order of the command's description.
-// A line is refused for the first fault in this order: its length; its command; then from left to right the first thing that is no
-// key=value, an unknown key or a repeated one; then, key by key in the table's order, a key that is missing or whose value does not do.
+// An entry of a table is KEY:KIND, or KEY:KIND=DEFAULT if the key is optional, in the order of the command's description.
+// A line is rejected for the first fault in this order: its length; its command; then from left to right the first thing that is not key=value, an unknown key
+// or a repeated one; then, key by key in the table's order, a missing key or a bad value.
 use crate::print;
 use crate::text;
 use crate::text::Found;
@@ -12,7 +12,7 @@ use crate::value::Number;
 // How many keys a command may have.
 const MAX_KEYS: usize = 20;
 
-// How far behind its colon an entry has its kind, and its default.
+// How far after its colon an entry has its kind, and its default.
 const TO_KIND: usize = 1;
 
 const TO_DEFAULT: usize = 3;
@@ -26,7 +26,7 @@ pub enum Fault {
     Bad(usize),
 }
 
-// Where a key's value stands in the line, where the line has it, and the value as a number.
+// Where a key's value is in the line, if the line has it, and the value as a number.
 pub struct Value {
     pub given: bool,
     pub start: usize,
@@ -38,7 +38,7 @@ pub struct Value {
 pub struct Values {
     pub all: [Value; MAX_KEYS],
     pub fault: Fault,
-    // Whether the line was refused, and where the refusal ends.
+    // Whether the line was rejected, and where the error ends in the answer.
     pub refused: bool,
     pub end: usize,
 }
@@ -62,7 +62,7 @@ fn ended(all: [Value; MAX_KEYS], fault: Fault) -> Values {
     }
 }
 
-// The key that a word is, or as many as there may be where it is none.
+// The place of a word among the table's keys, or MAX_KEYS if it is not a key.
 fn key_of(table: &[u8], word: &[u8]) -> usize {
     match text::index_of(table, word) {
         Found::At(key) => key,
@@ -70,7 +70,7 @@ fn key_of(table: &[u8], word: &[u8]) -> usize {
     }
 }
 
-// Where the pairs of a line have the values.
+// Finds the values of a line's pairs.
 fn pairs(line: &[u8], table: &[u8]) -> Values {
     let mut all = no_values();
     let mut at = text::find(line, 0, b' ', b' ');
@@ -129,7 +129,7 @@ fn entry(line: &[u8], old: Value, table: &[u8], colon: usize, end: usize) -> Fil
     filled_of(value::parse(kind, default))
 }
 
-// The values as numbers, where the pairs had no fault.
+// The values as numbers, if the pairs had no fault.
 fn numbers(line: &[u8], table: &[u8], found: [Value; MAX_KEYS]) -> Values {
     let mut all = found;
     let mut at = 0;
@@ -191,7 +191,7 @@ fn is_fine(fault: Fault) -> bool {
     if let Fault::Fine = fault { true } else { false }
 }
 
-// Reads the values of a line's keys; where that fails, the refusal is written.
+// Reads the values of a line's keys. If that fails, it writes the error.
 pub fn read(line: &[u8], number: u64, table: &[u8], out: &mut [u8]) -> Values {
     let mut v = pairs(line, table);
     let first = v.fault;
@@ -233,7 +233,7 @@ impl Values {
         words::u64_as_i64(self.number(key))
     }
 
-    // The value as it stands in the line; nothing where the line does not have it.
+    // The value as the line has it, or empty if the line does not have it.
     pub fn text(self, key: usize, line: &[u8]) -> &[u8] {
         if key < MAX_KEYS {
             let v = self.all[key];
@@ -243,7 +243,7 @@ impl Values {
         }
     }
 
-    // The value's bytes go to the start of a buffer.
+    // Writes the value's bytes to the start of a buffer.
     pub fn bytes(self, key: usize, line: &[u8], out: &mut [u8]) -> usize {
         value::write_bytes(self.text(key, line), out)
     }

@@ -47,7 +47,7 @@ pub mod start {
     pub const UPGRADED: u64 = 2;
 
     pub const V5: u64 = 3;
-    // Upgrading has tries behind it: its number is not its place but this one and the tries, which are the number's low 8 bits.
+    // Upgrading comes with tries: its number is not its place but this one plus the tries, which are the low 8 bits.
     pub const UPGRADING_TRIES: u64 = 0x100;
 }
 

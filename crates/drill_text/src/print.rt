@@ -1,9 +1,8 @@
-// The answer's line is built in a lent buffer: each function writes at a place and gives the place behind. What has no room is left out.
+// The answer's line is built in a lent buffer: each function writes at a place and returns the place after it. What does not fit is left out.
 use crate::value;
 use crate::value::ID_DIGITS;
 use crate::value::REFID_DIGITS;
 
-// The base of hexadecimal numbers.
 const HEX: u8 = value::HEX as u8;
 
 // How many decimal digits a number of 64 bits may have.
@@ -44,7 +43,7 @@ fn signed(out: &mut [u8], at: usize, n: i64) -> usize {
     }
 }
 
-// A number in so many hexadecimal digits.
+// A number in `width` hexadecimal digits.
 pub fn hexadecimal(out: &mut [u8], at: usize, n: u64, width: usize) -> usize {
     let mut digits = [0u8; ID_DIGITS];
     let k = io::hex(n, width, &mut digits);
@@ -104,13 +103,13 @@ pub fn number(out: &mut [u8], at: usize, key: &[u8], n: u64) -> usize {
     decimal(out, next, n)
 }
 
-// The same of bytes.
+// The same for bytes.
 pub fn field(out: &mut [u8], at: usize, key: &[u8], s: &[u8]) -> usize {
     let next = text(out, at, key);
     bytes(out, next, s)
 }
 
-// The same of yes or no.
+// The same for yes or no.
 pub fn choice(out: &mut [u8], at: usize, key: &[u8], yes: bool) -> usize {
     let next = text(out, at, key);
     if yes {
@@ -141,7 +140,7 @@ pub fn identifier(out: &mut [u8], at: usize, key: &[u8], n: u32) -> usize {
     hexadecimal(out, next, n as u64, REFID_DIGITS)
 }
 
-// The refusal of a line, by its number: what is wrong, and the key where there is one.
+// The error for a line, by its number: what is wrong, and the key if there is one.
 pub fn error(out: &mut [u8], line: u64, what: &[u8], key: &[u8]) -> usize {
     let at = number(out, 0, b"error ", line);
     let at = byte(out, at, b' ');

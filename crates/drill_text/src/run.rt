@@ -1,11 +1,11 @@
-// What the commands over an association share: what a line's run leaves, and the version that a value names.
+// Shared by the commands on an association: the result of a line, and the version that a value names.
 use crate::names;
 use crate::value;
 use association::Association;
 use version::ProtocolVersion;
 use version::Version;
 
-// What a line's run leaves: the association, and where its answer ends in the buffer.
+// The result of a line: the association, and where its answer ends in the buffer.
 pub struct Ran {
     pub association: Association,
     pub end: usize,

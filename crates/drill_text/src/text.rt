@@ -29,7 +29,7 @@ pub fn byte_at(s: &[u8], i: usize) -> u8 {
     if i < s.len() { s[i] } else { 0 }
 }
 
-// The bytes of a text from a place on and before another; none where there is no such part.
+// The bytes of a text from one place to before another; none if there is no such part.
 pub fn part(s: &[u8], from: usize, to: usize) -> &[u8] {
     if from <= to {
         if to <= s.len() { &s[from..to] } else { &s[..0] }
@@ -54,7 +54,7 @@ pub fn same(a: &[u8], b: &[u8]) -> bool {
 
 // A table is a text of entries with a space between them. An entry begins with its word, which ends at a colon, a space or the table's end.
 
-// Which of the table's words a text is.
+// The place of a word in the table.
 pub fn index_of(table: &[u8], word: &[u8]) -> Found {
     let mut at = 0;
     let mut i = 0;
@@ -73,7 +73,7 @@ pub fn index_of(table: &[u8], word: &[u8]) -> Found {
     Found::Nowhere
 }
 
-// Where the entry of a number starts in the table, or where the table ends.
+// Where an entry starts in the table, by its number, or where the table ends.
 pub fn entry_at(table: &[u8], number: usize) -> usize {
     let mut at = 0;
     let mut i = 0;
@@ -88,7 +88,7 @@ pub fn entry_at(table: &[u8], number: usize) -> usize {
     at
 }
 
-// The word of the entry of a number.
+// The word of an entry, by the entry's number.
 pub fn word(table: &[u8], number: usize) -> &[u8] {
     let at = entry_at(table, number);
     part(table, at, find(table, at, b':', b' '))

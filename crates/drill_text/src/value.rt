@@ -1,4 +1,4 @@
-// Values: what a kind of value takes, as a number.
+// Values: what each kind of value accepts, as a number.
 //
 // A kind is a letter:
 //   n u64, u u8, a 0 or 1, b i8, s i64     a decimal number; a signed one may begin with '-' and is given as its 64 bits
@@ -24,7 +24,7 @@ ghost use Prim.Native.Nat.{_≤_};
 // How many bytes a packet, decrypted bytes, a cookie list or a request's cookie may have.
 pub const MAX_BYTES: usize = 4096;
 
-// The number of the word collect in the place of a cookie list: more than a list has bytes.
+// The number of the word collect in place of a cookie list: greater than the length of any list.
 pub const COLLECT: u64 = MAX_BYTES as u64 + 1;
 
 // The most bytes of the buffer that the timer is lent.
@@ -36,7 +36,7 @@ pub const COLLECT_ROOM: usize = 4096;
 // The most that the request writer is lent.
 pub const REQUEST_ROOM: usize = 6144;
 
-// The most entries of a calendar: twice those that it may have, so that more can be asked of it.
+// The most entries of a calendar in a line: twice what a calendar may have, so that too many can be tried.
 pub const MAX_ENTRIES: usize = 128;
 
 // The most bytes that a hand-over file may have, and the most that its writer is lent.
@@ -45,7 +45,6 @@ pub const FILE_ROOM: usize = 8192;
 // What the buffer of a timer, of a request or of a hand-over file is filled with before it is lent.
 pub const FILLER: u8 = 0xAA;
 
-// The bytes of a request's unique identifier.
 pub const UID_BYTES: usize = 32;
 
 // The hexadecimal digits of a number of 64 bits.
@@ -59,15 +58,14 @@ const LAST_SLOT: u64 = 7;
 
 const LAST_PLACE: u64 = 723;
 
-// How far up a byte of a slot has the bits of its slot and of its place; the byte itself has the lowest.
+// How far the slot and the place are shifted up in the number of a slot's byte; the byte itself is lowest.
 pub const SLOT_SHIFT: u64 = 32;
 
 pub const PLACE_SHIFT: u64 = 8;
 
-// Where the start of a calendar's entry stands in its number; the repeat is below it.
+// How far the start of a calendar's entry is shifted up in its number; the repeat is below it.
 const START_SHIFT: u64 = 16;
 
-// The hexadecimal digits of a byte.
 const BYTE_DIGITS: usize = 2;
 
 const UID_DIGITS: usize = UID_BYTES * BYTE_DIGITS;
@@ -75,23 +73,21 @@ const UID_DIGITS: usize = UID_BYTES * BYTE_DIGITS;
 // The base of hexadecimal numbers; no digit has this value.
 pub const HEX: u64 = 16;
 
-// The bits of a hexadecimal digit.
 const HEX_BITS: u64 = 4;
 
-// The base of decimal numbers.
 const DECIMAL: u64 = 10;
 
-// The most that one more decimal digit may follow.
+// The greatest number that one more decimal digit may follow.
 const MAX_TENTH: u64 = u64::MAX / DECIMAL;
 
 const MAX_U8: u64 = u8::MAX as u64;
 
 const MAX_U16: u64 = u16::MAX as u64;
 
-// How far down signed numbers of 8 bits reach.
+// Signed numbers of 8 bits go down to minus this.
 const HALF_I8: u64 = 1 << 7;
 
-// How far down signed numbers of 64 bits reach.
+// Signed numbers of 64 bits go down to minus this.
 const HALF_I64: u64 = 1 << 63;
 
 pub enum Number {
@@ -99,7 +95,7 @@ pub enum Number {
     Bad,
 }
 
-// A hexadecimal digit's value, or the base for what is none.
+// The value of a hexadecimal digit, or the base if it is not a digit.
 fn digit(b: u8) -> u64
     ensures { λ r. ⌜ r ≤ 16 ⌝ }
 {
@@ -142,7 +138,7 @@ fn decimal(s: &[u8], least: u64, most: u64) -> Number {
     Number::Is(n)
 }
 
-// A signed number of a type that reaches from -half up to half, which it does not have, as its 64 bits.
+// A signed number from -half to half - 1, as its 64 bits.
 fn signed(s: &[u8], half: u64) -> Number {
     if text::byte_at(s, 0) == b'-' {
         match decimal(text::part(s, 1, s.len()), 0, half) {
@@ -154,7 +150,7 @@ fn signed(s: &[u8], half: u64) -> Number {
     }
 }
 
-// Writes the bytes of hexadecimal digits, two each, from the buffer's start on, and gives how many; '-' stands for none.
+// Writes the bytes of hexadecimal digits, two each, to the start of the buffer, and returns how many; '-' means none.
 pub fn write_bytes(s: &[u8], out: &mut [u8]) -> usize {
     let mut i = 1;
     let mut n = 0;
@@ -180,7 +176,7 @@ fn all_digits(s: &[u8]) -> bool {
     true
 }
 
-// The number of hexadecimal digits, of which the last 16 count.
+// The value of hexadecimal digits; only the last 16 count.
 fn hexadecimal(s: &[u8]) -> u64 {
     let mut n: u64 = 0;
     let mut i = 0;
@@ -191,7 +187,7 @@ fn hexadecimal(s: &[u8]) -> u64 {
     n
 }
 
-// Exactly so many hexadecimal digits.
+// Exactly `count` hexadecimal digits.
 fn digits(s: &[u8], count: usize) -> Number {
     if s.len() != count {
         return Number::Bad;
@@ -206,7 +202,7 @@ fn is_dash(s: &[u8]) -> bool {
     if s.len() == 1 { s[0] == b'-' } else { false }
 }
 
-// A number of bytes, so many at most: none, or two digits each.
+// How many bytes a text has, two digits each, at most `most`; '-' means none.
 fn bytes(s: &[u8], most: usize) -> Number {
     if is_dash(s) {
         return Number::Is(0);
@@ -226,7 +222,7 @@ fn bytes(s: &[u8], most: usize) -> Number {
     Number::Is((s.len() / BYTE_DIGITS) as u64)
 }
 
-// 32 bytes, or none for 32 zero ones.
+// 32 bytes, or '-' for 32 zeros.
 fn uid(s: &[u8]) -> Number {
     if is_dash(s) {
         return Number::Is(0);
@@ -293,7 +289,7 @@ fn store(out: &mut [u32], i: usize, id: u64) {
     }
 }
 
-// Identifiers joined by commas: how many there are. As many as there is room for go into the buffer.
+// Identifiers joined by commas: returns how many there are, and writes as many as fit to the buffer.
 pub fn identifiers(s: &[u8], out: &mut [u32]) -> Number {
     if is_dash(s) {
         return Number::Is(0);
@@ -325,7 +321,7 @@ fn store16(out: &mut [u16], i: usize, n: u64) {
     }
 }
 
-// An entry of a calendar: a start and a repeat with a stroke between them, the start above the repeat's bits.
+// An entry of a calendar: a start and a repeat with a slash between them. In the number the start is above the repeat's bits.
 fn entry(s: &[u8]) -> Number {
     let stroke = text::find(s, 0, b'/', b'/');
     if s.len() <= stroke {
@@ -340,7 +336,7 @@ fn entry(s: &[u8]) -> Number {
     Number::Is((start << START_SHIFT) | repeat)
 }
 
-// Entries joined by commas: how many there are. As many as there is room for go into the buffers.
+// Entries joined by commas: returns how many there are, and writes as many as fit to the buffers.
 pub fn entries(s: &[u8], starts: &mut [u16], repeats: &mut [u16]) -> Number {
     if is_dash(s) {
         return Number::Is(0);
@@ -369,7 +365,7 @@ fn entry_count(s: &[u8]) -> Number {
     entries(s, &mut starts, &mut repeats)
 }
 
-// Repeats joined by commas: how many there are. As many as there is room for go into the buffer.
+// Repeats joined by commas: returns how many there are, and writes as many as fit to the buffer.
 pub fn repeats(s: &[u8], out: &mut [u16]) -> Number {
     if is_dash(s) {
         return Number::Is(0);
@@ -396,7 +392,7 @@ fn repeat_count(s: &[u8]) -> Number {
     repeats(s, &mut out)
 }
 
-// A version: upgrading has its tries behind a colon, and the others have none.
+// A version: upgrading has its tries after a colon, and the others have none.
 fn version(s: &[u8]) -> Number {
     let colon = text::find(s, 0, b':', b':');
     let Number::Is(name) = place(text::part(s, 0, colon), b"v4 upgrading upgraded v5") else {
@@ -417,7 +413,7 @@ fn version(s: &[u8]) -> Number {
     }
 }
 
-// A byte of a slot: the slot, the place in it and the byte, with a stroke between them.
+// A byte of a slot: the slot, the place in it and the byte, with slashes between them.
 fn slot_byte(s: &[u8]) -> Number {
     let first = text::find(s, 0, b'/', b'/');
     if s.len() <= first {
@@ -439,7 +435,7 @@ fn slot_byte(s: &[u8]) -> Number {
     Number::Is((slot << SLOT_SHIFT) | (at << PLACE_SHIFT) | byte)
 }
 
-// What a text says as a value of a kind.
+// Parses a text as a value of a kind.
 pub fn parse(kind: u8, s: &[u8]) -> Number {
     match kind {
         b'n' => decimal(s, 0, u64::MAX),
@@ -486,7 +482,7 @@ pub fn low32(n: u64) -> u32 {
     (n % 0x1_0000_0000) as u32
 }
 
-// A number, or the most that it may be.
+// A number, but at most `most`.
 pub fn at_most(n: u64, most: usize) -> usize
     ensures { λ r. ⌜ r ≤ most ⌝ }
 {

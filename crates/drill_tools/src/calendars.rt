@@ -71,7 +71,7 @@ fn put_starts(out: &mut [u8], at: usize, starts: &[u16]) -> usize {
     print::joined(out, at, starts)
 }
 
-// The planner's answer, with a buffer of as many starts as there are repeats lent.
+// Writes the planner's answer. The lent buffer has as many starts as there are repeats.
 fn put_planned(out: &mut [u8], cap: u8, repeats: &[u16], starts: &mut [u16]) -> usize {
     let answer = calendar::plan(cap, repeats, starts);
     let at = print::number(out, 0, b"plan ", answer.number() as u64);

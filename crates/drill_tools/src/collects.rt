@@ -14,7 +14,7 @@ mod key {
     pub const ROOM: usize = 1;
 }
 
-// The collector's answer over decrypted bytes, with a buffer of so many bytes lent.
+// Writes the collector's answer for decrypted bytes and a lent buffer.
 fn put_collected(out: &mut [u8], decrypted: &[u8], buffer: &mut [u8]) -> usize {
     let collected = collector::collect(decrypted, buffer);
     let at = print::number(out, 0, b"collect ", collected.number() as u64);

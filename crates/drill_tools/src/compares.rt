@@ -21,7 +21,7 @@ mod key {
     pub const ROOM: usize = 2;
 }
 
-// Where the right reading and the place stand in an entry; the code and the left reading are in front of them.
+// Where the right reading and the place are in an entry; the code and the left reading come before them.
 const RIGHT_AT: usize = 9;
 
 const PLACE_AT: usize = 17;
@@ -65,7 +65,7 @@ fn is_cookie(code: u8) -> bool {
     }
 }
 
-// The name of a field, behind a space; the table has a word for each code, `-` where a code is no field's.
+// Writes the name of a field, after a space. The table has a word for each code, and `-` for a code without a field.
 fn put_name(out: &mut [u8], at: usize, code: u8) -> usize {
     let names =
         b"- min max startup window mark start nts source capacity - - - - - - read - - - - - - - - - - - - - - - cookie0 cookie1 cookie2 cookie3 cookie4 cookie5 cookie6 cookie7 - - - - - - - - reach tries version last remote stratum refid denial";

@@ -43,7 +43,7 @@ fn kind_of(n: u64) -> SendKind {
     }
 }
 
-// The writer's answer; a packet that is written stands at the start of the buffer.
+// Writes the request writer's answer. A written packet is at the start of the buffer.
 fn put_requested(out: &mut [u8], answer: Requested, buffer: &[u8]) -> usize {
     let at = print::number(out, 0, b"request ", answer.number() as u64);
     let Requested::Written(len) = answer else {

@@ -15,7 +15,7 @@ mod key {
     pub const ROOM: usize = 1;
 }
 
-// Where the gaps start, as far as that is told, or '-' for none.
+// Writes where the gaps start, as far as the places are reported, or '-' for none.
 fn put_places(out: &mut [u8], from: usize, s: Salvaged) -> usize {
     let gaps = s.gaps;
     if gaps == 0 {

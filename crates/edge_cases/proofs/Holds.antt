@@ -1,4 +1,5 @@
--- Every claim of the starred table holds, a line for each row: each is computed from the definitions; the nine cookies are any nine, and the calls any that come so far.
+-- Every claim of the starred table holds, a line for each row: each is computed from the definitions; the nine cookies are any nine, and the calls any that
+-- come so far.
 -- Assumes nothing.
 use mathlib.Core.Path.{_≡_, refl, sym, _∙_}
 use mathlib.Core.Bool.{Bool, true, false, cond}

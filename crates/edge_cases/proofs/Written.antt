@@ -65,7 +65,10 @@ compared-hold =
     & end
 
 pub handed-hold : All Right handed
-unfolding be part zeros trailing stored emptySlot wrap full inRange putOf restOf getOf gapOf queue seen cookies stash.padded stash.freeSlots stash.wholeOf settingsValid noPending effortValid versionsValid pendingValid idleValid wholeSeen wholeOf settingsBytes settingsOf settingsKnown effortBytes effortOf versionBytes versionOf versionKnown pollsBytes pollsOf sourceBytes sourceOf sourceKnown recordOf bodyLength found cookieBytes stashBytes lenOf firstOf runOf stashFits heldIn stashKnown slotFor emptyAt stashOf fileOf known recordIn retired settledSettings settledState settled loadIn loadOf
+unfolding be part zeros trailing stored emptySlot wrap full inRange putOf restOf getOf gapOf queue seen cookies stash.padded stash.freeSlots stash.wholeOf
+    settingsValid noPending effortValid versionsValid pendingValid idleValid wholeSeen wholeOf settingsBytes settingsOf settingsKnown effortBytes effortOf
+    versionBytes versionOf versionKnown pollsBytes pollsOf sourceBytes sourceOf sourceKnown recordOf bodyLength found cookieBytes stashBytes lenOf firstOf
+    runOf stashFits heldIn stashKnown slotFor emptyAt stashOf fileOf known recordIn retired settledSettings settledState settled loadIn loadOf
 handed-hold =
     refl
     & refl

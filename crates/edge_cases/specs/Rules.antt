@@ -1,5 +1,6 @@
--- Cases of RULES beside the starred ones, either side of each edge: what a version expects and sends, the fallback, the deadline, the ranges of the settings, the first list, and the metered profile.
--- A case is a call of a definition and what it is to give, and `Right` says what the case claims. proofs/Rules.antt has the one theorem.
+-- Cases of RULES other than the starred ones, on both sides of each edge: what a version expects and sends, the fallback, the deadline, the ranges of the
+-- settings, the first list, and the metered profile. A case is a call of a definition with its expected result, and `Right` says what the case claims.
+-- proofs/Rules.antt has the one theorem.
 -- Assumes nothing.
 use mathlib.Core.Path.{_≡_}
 use mathlib.Core.Bool.{Bool, true, false}

@@ -1,5 +1,5 @@
--- RULES, "Either side of each edge": the starred cases as one table of the definitions. A case is a call of a definition and what it is to give,
--- and `Right` says what the case claims. proofs/Holds.antt has the one theorem: every claim of the table holds.
+-- RULES, "Either side of each edge": the starred cases as one table over the definitions. A case is a call of a definition with its expected result, and
+-- `Right` says what the case claims. proofs/Holds.antt has the one theorem: every claim of the table holds.
 -- Assumes nothing.
 use mathlib.Core.Path.{_≡_}
 use mathlib.Core.Bool.{Bool, true, false}
@@ -34,30 +34,41 @@ use Rattle.time_types.specs.Poll.{afterRate}
 
 pub data Case : Type 0 where
   -- any nine cookies stored: the second comes out first
+  -- promise: 3.3
   nine-stored : Case
   -- and in a stash of four the sixth (RULES, No. 12)
+  -- promise: no12.2
   nine-in-four : Case
   -- a reach register and its count of unanswered polls
+  -- promise: 2.3 (0 8; 128 7)
   counts : (reach count : ℕ) → Case
   -- a reach register, polled
+  -- promise: 2.1 (128 0)
   polled : (reach next : ℕ) → Case
   -- the gap after the take and the cookie's length, the timer's number, and how many new cookies are asked for
+  -- promise: 10.4
   asks : (gap length number asked : ℕ) → Case
   -- when a poll was sent and its window, and a time at which it is live
+  -- promise: 11.2
   live-at : (sent window time : ℕ) → Case
-  -- when a poll was sent and its window, and the number that a reply gives at a time
+  -- when a poll was sent and its window, and the number that a reply gets at a time
   late-at : (sent window time number : ℕ) → Case
-  -- nothing is pending, a reply has been measured since the last sent poll or not, and the number that a reply gives (RULES, No. 3)
+  -- nothing is pending, a reply has been measured since the last sent poll or not, and the number that a reply gets (RULES, No. 3)
   unasked : (answered : Bool) (number : ℕ) → Case
   -- a version and a plain reply
+  -- promise: 4.2 (with 2, 1, 0)
   plain-reply : (kind next : ProtocolVersion) → Case
   -- the remote minimum, the upper limit and the last poll, and the remote minimum after RATE
+  -- promise: 11.4, no7.1 (both rows; remote 12, limit 10, last 4 gives 12)
   rated : (remote limit last next : ℤ) → Case
   -- T1 to T4, and delay, offset and local time
+  -- promise: 5.5, 11.8
   measured : (t1 t2 t3 t4 : ℕ) (delay offset : ℤ) (local : ℕ) → Case
   -- the sum of an offset, halved
+  -- promise: 5.4 (-3 -1)
   halved : (sum half : ℤ) → Case
   -- a difference of timestamps
+  -- promise: 5.1
   differ : (a b : ℕ) (difference : ℤ) → Case
 
 -- how many new cookies an answer asks for

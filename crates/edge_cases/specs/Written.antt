@@ -1,5 +1,5 @@
--- Cases of what is written and read, byte by byte: the three requests of docs/REQUESTS.md with the writer's refusals, the file of docs/HANDOVER.md, damaged cookie lists (No. 9), and a comparison in which every field differs (No. 10).
--- The bytes stand here as the documents have them, and no definition makes them.
+-- Cases of what is written and read, byte by byte: the three requests of docs/REQUESTS.md and what the writer rejects, the file of docs/HANDOVER.md, damaged
+-- cookie lists (No. 9), and a comparison in which every field differs (No. 10). The bytes are copied from the papers; no definition makes them.
 -- Assumes nothing.
 use mathlib.Core.Path.{_≡_}
 use mathlib.Core.Bool.{Bool, true, false}
@@ -83,7 +83,7 @@ file =
 abbrev pub noRequest : Pending
 noRequest = record { present = false; id = 0; uid = replicate 32 0; deadline = 0; answered = false }
 
--- a slot that holds a cookie, zeros behind it
+-- a slot that holds a cookie, followed by zeros
 abbrev pub holding : List ℕ → Slot
 holding c = record { bytes = c ++ replicate (724 - length c) 0; len = length c }
 
@@ -131,7 +131,7 @@ box =
           };
     }
 
--- a file of another kind: upgraded from the start and V5 now, a stash of seven that goes round, a remote minimum below zero, a denial; no two fields of a length are alike
+-- another file: upgraded from the start and V5 now, a stash of seven that wraps, a remote minimum below zero, a denial; no two fields of a length are equal
 abbrev pub otherFile : List ℕ
 otherFile =
     0x53 ∷ 0x45 ∷ 0x00 ∷ 0x1b ∷ 0x05 ∷ 0x0b ∷ 0x03 ∷ 0x00 ∷ 0x00 ∷ 0x00 ∷ 0x01 ∷ 0x65 ∷ 0xa0 ∷ 0xbc ∷ 0x00 ∷ 0x01
@@ -247,7 +247,15 @@ Right (writes kind c asked room n) = request.numberOf (request.requestOf kind (i
 Right (loads bytes a) = loadOf bytes ≡ loaded (Loaded false) a
 Right (saves a bytes) = fileOf a ≡ bytes
 Right (salvages bytes kept skipped places len) =
-    salvageOf bytes (length bytes) ≡ record { number = 0; kept = kept; skipped = skipped; gaps = length places; places = places ++ replicate (32 - length places) 0; len = len }
+    salvageOf bytes (length bytes) ≡ record {
+      number = 0;
+      kept = kept;
+      skipped = skipped;
+      gaps = length places;
+      places = places
+          ++ replicate (32 - length places) 0;
+      len = len;
+    }
 Right (cleans bytes clean) = cleanOf bytes ≡ clean
 Right (differ a b fields) = listOf a b ≡ fields
 Right (enters field bytes) = entryBytes field ≡ bytes

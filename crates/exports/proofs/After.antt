@@ -80,6 +80,8 @@ module _ (b : List ℕ) (y : Bytes b) (i : TimerInput) (buffer : List ℕ) where
   unfolding timer.timerCall
   rang-none e = unless (timer.timerPacked (timedOf (unpacked b) i buffer)) (timer.gave Rang.NotWhole b buffer) e
 
+  -- promise exports.5: A rejection leaves every byte of record and buffer: the timer's 21, 22, 31, 32, the reply's 1, 2, 4, 12 to 14, 32, 33, save's 32 and
+  --     60.
   pub timer-refused : T (leaves (timer-answer.numberOf (rang .answer))) → rang ≡ timer.gave (rang .answer) b buffer
   timer-refused t = by (ok b) refl
     where
@@ -87,7 +89,8 @@ module _ (b : List ℕ) (y : Bytes b) (i : TimerInput) (buffer : List ℕ) where
       by true e =
           let q = rang-on e in
           let r = timerOf (unpacked b) i (length buffer) in
-          let n : T (leaves (timer-answer.numberOf (r .answer))) = subst (λ (k : TimerAnswer). T (leaves (timer-answer.numberOf k))) (ap (λ (c : timer.TimerCall). c .answer) q) t in
+          let n : T (leaves (timer-answer.numberOf (r .answer))) = subst (λ (k : TimerAnswer). T (leaves (timer-answer.numberOf k)))
+          (ap (λ (c : timer.TimerCall). c .answer) q) t in
           let same = ap packed (record-left (unpacked b) i buffer n) ∙ bytes-again b y e in
           let kept = pending-left (unpacked b) i buffer (λ z. subst (λ (k : ℕ). T (leaves k)) z n) .untouched in
           q ∙ ((λ j. timer.gave (r .answer) (same j) (kept j)) ∙ sym (ap (λ (c : timer.TimerCall). timer.gave (c .answer) b buffer) q))
@@ -110,6 +113,7 @@ module _ (b : List ℕ) (y : Bytes b) (read : ReplyRead) (t : Arrival) where
   unfolding reply.repliedCall
   came-none e = unless (reply.replyPacked (repliedOf (unpacked b) read t)) (reply.gave reply.noRecord b) e
 
+  -- promise: exports.5
   pub reply-refused : T (turnsAway (reply-answer.numberOf (came .replied .answer))) → came ≡ reply.gave (came .replied) b
   reply-refused z = by (ok b) refl
     where
@@ -117,7 +121,8 @@ module _ (b : List ℕ) (y : Bytes b) (read : ReplyRead) (t : Arrival) where
       by true e =
           let q = came-on e in
           let r = repliedOf (unpacked b) read t in
-          let n : T (turnsAway (reply-answer.numberOf (r .replied .answer))) = subst (λ (k : ReplyAnswer). T (turnsAway (reply-answer.numberOf k))) (ap (λ (c : reply.ReplyCall). c .replied .answer) q) z in
+          let n : T (turnsAway (reply-answer.numberOf (r .replied .answer))) = subst (λ (k : ReplyAnswer). T (turnsAway (reply-answer.numberOf k)))
+          (ap (λ (c : reply.ReplyCall). c .replied .answer) q) z in
           let same = ap packed (heard (unpacked b) read t (given (unpacked b) read t) .same n) ∙ bytes-again b y e in
           q ∙ ((λ j. reply.gave (r .replied) (same j)) ∙ sym (ap (λ (c : reply.ReplyCall). reply.gave (c .replied) b) q))
       by false e = let q = came-none e in q ∙ sym (ap (λ (c : reply.ReplyCall). reply.gave (c .replied) b) q)
@@ -130,7 +135,8 @@ Zeroed num b c = (num (c .answer) ≡ 0 → ⊥) → (num (c .answer) ≡ 31 →
 abbrev pub Stays : {A : Type 0} → (A → ℕ) → List ℕ → made.Call A → Type 0
 Stays num b c = num (c .answer) ≡ 31 → c .bytes ≡ b
 
-module _ {A : Type 0} (num : A → ℕ) (b : List ℕ) (cap number : ℕ) (said wrong : A) (d : Dropped) (a : Association) (is : num said ≡ number) (last : num wrong ≡ 31) where
+module _ {A : Type 0} (num : A → ℕ) (b : List ℕ) (cap number : ℕ) (said wrong : A) (d : Dropped) (a : Association) (is : num said ≡ number)
+    (last : num wrong ≡ 31) where
   zeroed : Zeroed num b (made.madeIn b cap number said wrong d a)
   zeroed =
       either (Zeroed num b) (eqb number 0)
@@ -159,29 +165,35 @@ metered-never-31 P.UpgradingStart e = omega (arith, e)
 metered-never-31 P.LongCookie e = omega (arith, e)
 
 module _ (s : Settings) (list b : List ℕ) where
+  -- promise: exports.4
   pub new-refused : Zeroed made.newNumber b (made.newCall s list b)
   unfolding made.newCall
   new-refused =
       let o = new.newOf s list in
       zeroed made.newNumber b (s .capacity) (new.numberOf (o .answer)) (B.Said (o .answer)) B.WrongSize (o .dropped) (o .association) refl refl
 
+  -- promise: exports.4
   pub new-wrong-size : Stays made.newNumber b (made.newCall s list b)
   unfolding made.newCall
   new-wrong-size =
       let o = new.newOf s list in
-      stays made.newNumber b (s .capacity) (new.numberOf (o .answer)) (B.Said (o .answer)) B.WrongSize (o .dropped) (o .association) refl refl (new-never-31 (o .answer))
+      stays made.newNumber b (s .capacity) (new.numberOf (o .answer)) (B.Said (o .answer)) B.WrongSize (o .dropped) (o .association) refl refl
+      (new-never-31 (o .answer))
 
+  -- promise: exports.4
   pub metered-refused : Zeroed made.meteredNumber b (made.meteredCall s list b)
   unfolding made.meteredCall
   metered-refused =
       let o = metered.meteredOf s list in
       zeroed made.meteredNumber b (s .capacity) (metered.numberOf (o .answer)) (M.Said (o .answer)) M.WrongSize (o .dropped) (o .association) refl refl
 
+  -- promise: exports.4
   pub metered-wrong-size : Stays made.meteredNumber b (made.meteredCall s list b)
   unfolding made.meteredCall
   metered-wrong-size =
       let o = metered.meteredOf s list in
-      stays made.meteredNumber b (s .capacity) (metered.numberOf (o .answer)) (M.Said (o .answer)) M.WrongSize (o .dropped) (o .association) refl refl (metered-never-31 (o .answer))
+      stays made.meteredNumber b (s .capacity) (metered.numberOf (o .answer)) (M.Said (o .answer)) M.WrongSize (o .dropped) (o .association) refl refl
+      (metered-never-31 (o .answer))
 
 -- ---- save: 32 and 60 leave each byte of the record and of the buffer
 
@@ -206,6 +218,7 @@ module _ (b : List ℕ) (y : Bytes b) (out : List ℕ) where
       two true true z = same ShortBuffer
       two true false z = absurd (z refl)
 
+  -- promise: exports.5
   pub save-refused : Kept (save.saveCall b out)
   unfolding save.saveCall
   save-refused = by (ok b) refl
@@ -235,13 +248,16 @@ module _ (b : List ℕ) where
   left L.WrongLength a = λ z. absurd (omega (arith, z))
   left L.NoAssociation a = λ z. absurd (omega (arith, z))
 
+  -- promise: exports.4
   pub load-refused : (file : List ℕ) → Cleared (load.loadedBy b (loadOf file))
   load-refused file = cleared (loadOf file .answer) (loadOf file .association)
 
+  -- promise: exports.4
   pub load-wrong-size : (file : List ℕ) → Left (load.loadedBy b (loadOf file))
   load-wrong-size file = left (loadOf file .answer) (loadOf file .association)
 
 -- the file of a whole record loads as that record, with nothing sent, into bytes that are as many as its capacity asks for
+-- promise exports.6: The file of a whole record loads as that record, with nothing sent.
 pub handed-over : (a : Association) → Whole a → Fit a → (b : List ℕ) → length b ≡ 92 + a .settings .capacity * 726 →
     load.loadedBy b (loadOf (fileOf a)) ≡ load.gave (record { number = 0; retired = false }) (packed (unsent a))
 unfolding unsent
@@ -256,7 +272,9 @@ unlisted list out (C.Done n) z = absurd (z refl)
 unlisted list out C.Broken z = refl
 unlisted list out C.TooLong z = refl
 
-pub collect-refused : (decrypted out : List ℕ) → (collectedAs (collector.collectOf decrypted (length out)) .number ≡ 0 → ⊥) → collector.bufferOf decrypted out ≡ out
+-- promise: exports.10
+pub collect-refused : (decrypted out : List ℕ) → (collectedAs (collector.collectOf decrypted (length out)) .number ≡ 0 → ⊥) →
+    collector.bufferOf decrypted out ≡ out
 unfolding collector.bufferOf
 collect-refused decrypted out z = unlisted (collector.listIn decrypted) out (collector.collectOf decrypted (length out)) z
 
@@ -266,8 +284,10 @@ unsent-packet packet out R.VersionFive z = refl
 unsent-packet packet out R.ShortBuffer z = refl
 unsent-packet packet out R.CookieOrCount z = refl
 
+-- promise: exports.10
 pub request-refused : (kind : SendKind) (poll : PollInterval) (id mark : ℕ) (uid cookie : List ℕ) (asked : ℕ) (out : List ℕ)
-    → (requestedAs (request.requestOf kind poll id mark uid cookie asked (length out)) .number ≡ 0 → ⊥) → request.bufferOf kind poll id mark uid cookie asked out ≡ out
+    → (requestedAs (request.requestOf kind poll id mark uid cookie asked (length out)) .number ≡ 0 → ⊥) →
+    request.bufferOf kind poll id mark uid cookie asked out ≡ out
 unfolding request.bufferOf
 request-refused kind poll id mark uid cookie asked out z =
     unsent-packet (request-spec.packetOf kind poll id mark uid cookie asked) out (request.requestOf kind poll id mark uid cookie asked (length out)) z

@@ -1,5 +1,5 @@
-// What a caller from C or Rust links: the calls of the association, over a record in bytes that the caller lends, and the tools beside it.
-// Promises: each is the call behind it, its answer told in numbers and every lent byte as that call leaves it; any bytes at all are answered.
+// What a C or Rust program links: the association's calls, over a record in bytes that the caller lends, and the tools beside it.
+// Promises: each returns as numbers the answer of the call that it makes, and leaves every lent byte as that call does; any bytes get an answer.
 // Rule: RULES, parts 7 and 10 to 12, and No. 1, No. 5, No. 6, No. 9 to No. 11 and No. 13; definitions in specs/Calls.antt, of the tools in exports_tools.
 use cookiestash::Dropped;
 use exports_tools::CCalendarAnswer;
@@ -44,9 +44,10 @@ ghost use Rattle.exports_values.specs.Answers.{bloomIn, collectedAs, requestedA
 ghost use Rattle.exports.specs.Calls.{made, madeBy, meteredBy, profiledOf, timed, timedAs, toldAs, replied, repliedAs};
 ghost use Rattle.exports.specs.Calls.{saved, savedBy, loaded, loadedAs, viewOf};
 
-// What the header that a program was compiled with has to say too.
+// The header that a program was compiled with has to have the same revision.
 const REVISION: u32 = 0xBCF8_1C62;
 
+// promise: exports.7
 #[no_mangle]
 pub extern "C" fn reckonstile_revision() -> u32
     ensures { λ r. ⌜ r ≡ 0xBCF81C62 ⌝ }
@@ -54,7 +55,8 @@ pub extern "C" fn reckonstile_revision() -> u32
     REVISION
 }
 
-// The record becomes blank, every byte zero: 0.
+// Makes the record blank, every byte zero: 0.
+// promise: exports.7
 #[no_mangle]
 pub extern "C" fn reckonstile_blank(bytes: &mut [u8]) -> u32
     ensures { λ r. ⌜ (r ≡ 0) × (now (bytes .exit) ≡ replicate (length (now (bytes .entry))) 0) ⌝ }
@@ -63,7 +65,8 @@ pub extern "C" fn reckonstile_blank(bytes: &mut [u8]) -> u32
     0
 }
 
-// The bytes become a new association: 0. Blank where it is refused: 30, 33, 38; then 31 where they are not as many as the capacity asks for, and stay.
+// Makes a new association in the bytes: 0. A rejected one leaves them blank: 30, 33, 38. Then 31 if their number does not fit the capacity, with no change.
+// promise: exports.7, exports.8
 #[no_mangle]
 pub extern "C" fn reckonstile_new(bytes: &mut [u8], settings: CSettings, list: &[u8]) -> CNewAnswer
     ensures { λ r. ⌜ made r (now (bytes .exit)) ≡ madeBy settings (now (list .entry)) (now (bytes .entry)) ⌝ }
@@ -80,7 +83,8 @@ pub extern "C" fn reckonstile_new(bytes: &mut [u8], settings: CSettings, list: &
     exports_values::new_answer(told.number(), dropped)
 }
 
-// The bytes become a metered association: 0. Blank where it is refused: 30, 33 to 37; then 31 where they are not as many as the capacity asks for, and stay.
+// Makes a metered association in the bytes: 0. A rejected one leaves them blank: 30, 33 to 37. Then 31 if their number does not fit the capacity: no change.
+// promise: exports.7, exports.8
 #[no_mangle]
 pub extern "C" fn reckonstile_metered(
     bytes: &mut [u8],
@@ -101,7 +105,8 @@ pub extern "C" fn reckonstile_metered(
     exports_values::new_answer(told.number(), dropped)
 }
 
-// The number that `reckonstile_metered` gives where the bytes are as many as the capacity asks for; there is no record.
+// The number that `reckonstile_metered` returns if the number of bytes fits the capacity; there is no record.
+// promise: exports.7
 #[no_mangle]
 pub extern "C" fn reckonstile_profile(settings: CSettings, list: &[u8]) -> u32
     ensures { λ r. ⌜ r ≡ profiledOf settings (now (list .entry)) ⌝ }
@@ -117,6 +122,7 @@ pub extern "C" fn reckonstile_profile(settings: CSettings, list: &[u8]) -> u32
 }
 
 // The timer: 20 to 24, 31, 32.
+// promise: exports.7
 #[no_mangle]
 pub extern "C" fn reckonstile_timer(
     bytes: &mut [u8],
@@ -144,6 +150,7 @@ fn told(out: Replied) -> CReplied
 }
 
 // A reply of V3 or V4, as bytes: 0 to 14, 32, 33.
+// promise: exports.7, exports.8
 #[no_mangle]
 pub extern "C" fn reckonstile_reply(
     bytes: &mut [u8],
@@ -162,7 +169,8 @@ pub extern "C" fn reckonstile_reply(
     told(out)
 }
 
-// A reply of V5, decoded by the caller: the same numbers. One with a code of no kind cannot be decoded: 1, after the test of the record.
+// A V5 reply, decoded by the caller: the same numbers. One with an unknown code cannot be decoded: 1, after the test of the record.
+// promise: exports.8, exports.9
 #[no_mangle]
 pub extern "C" fn reckonstile_reply_decoded(
     bytes: &mut [u8],
@@ -185,6 +193,7 @@ pub extern "C" fn reckonstile_reply_decoded(
 }
 
 // Whether the source may be used: 0, 40, 41, 42, 32. The record is only read.
+// promise: exports.7
 #[no_mangle]
 pub extern "C" fn reckonstile_accept(bytes: &[u8], stratum: u8, local: &[u32], bloom: u32) -> u32
     ensures { λ r. ⌜ r ≡ numberOf (acceptCall (now (bytes .entry)) stratum (now (local .entry)) (bloomIn bloom)) ⌝ }
@@ -195,7 +204,8 @@ pub extern "C" fn reckonstile_accept(bytes: &[u8], stratum: u8, local: &[u32], b
     number as u32
 }
 
-// The record as a hand-over file, from the buffer's start on: 0, 32, 60. Its cookies are the file's then, and it comes back without them.
+// Writes the record as a hand-over file to the start of the buffer: 0, 32, 60. The cookies then belong to the file, and the record no longer has them.
+// promise: exports.7
 #[no_mangle]
 pub extern "C" fn reckonstile_save(bytes: &mut [u8], out: &mut [u8]) -> CWritten
     ensures { λ r. ⌜ saved r (now (bytes .exit)) (now (out .exit)) ≡ savedBy (saveCall (now (bytes .entry)) (now (out .entry))) ⌝ }
@@ -204,8 +214,9 @@ pub extern "C" fn reckonstile_save(bytes: &mut [u8], out: &mut [u8]) -> CWritten
     exports_values::saved(answer)
 }
 
-// The bytes become the association of a hand-over file, with nothing sent yet: 0, and whether a version of it was of the retired kind.
-// Blank where it is refused: 61, 62, 63; then 31 where they are not as many as its capacity asks for, and stay.
+// Loads a hand-over file into the bytes, with nothing sent yet: 0, and whether a version in it was of the retired kind. A rejected file leaves them blank: 61,
+// 62, 63. Then 31 if their number does not fit its capacity, with no change.
+// promise: exports.7
 #[no_mangle]
 pub extern "C" fn reckonstile_load(bytes: &mut [u8], file: &[u8]) -> CLoadAnswer
     ensures { λ r. ⌜ loaded r (now (bytes .exit)) ≡ loadedAs (loadedBy (now (bytes .entry)) (loadOf (now (file .entry)))) ⌝ }
@@ -214,7 +225,7 @@ pub extern "C" fn reckonstile_load(bytes: &mut [u8], file: &[u8]) -> CLoadAnswer
     exports_values::load_answer(told.number, told.retired)
 }
 
-// What a display or a log shows: 0, the settings and the state; or 32, and those of zeros.
+// What a display or a log shows: 0 with the settings and the state, or 32 with those of an all-zero record.
 #[repr(C)]
 pub struct CView {
     pub settings: CSettings,
@@ -223,6 +234,7 @@ pub struct CView {
 }
 
 // The settings and the state of a record as numbers; the record is only read.
+// promise: exports.12
 #[no_mangle]
 pub extern "C" fn reckonstile_look(bytes: &[u8]) -> CView
     ensures { λ r. ⌜ r ≡ viewOf (openedOf (now (bytes .entry))) ⌝ }
@@ -246,7 +258,8 @@ pub extern "C" fn reckonstile_look(bytes: &[u8]) -> CView
     }
 }
 
-// The cookies among decrypted fields, as a list from the buffer's start on: 0, 1, 31.
+// Writes the cookies among decrypted fields, as a list, to the start of the buffer: 0, 1, 31.
+// promise: exports.10
 #[no_mangle]
 pub extern "C" fn reckonstile_collect(decrypted: &[u8], out: &mut [u8]) -> CWritten
     ensures { λ r. ⌜ (r ≡ collectedAs (collectOf (now (decrypted .entry)) (length (now (out .entry)))))
@@ -256,7 +269,8 @@ pub extern "C" fn reckonstile_collect(decrypted: &[u8], out: &mut [u8]) -> CWrit
     exports_values::collected(answer)
 }
 
-// The request that a timer's 20 asks for, from the buffer's start on: 0, 50, 51, 52.
+// Writes the request for a timer's 20 to the start of the buffer: 0, 50, 51, 52.
+// promise: exports.10
 #[no_mangle]
 pub extern "C" fn reckonstile_write_request(
     kind: u8,
@@ -277,7 +291,8 @@ pub extern "C" fn reckonstile_write_request(
     exports_values::requested(answer)
 }
 
-// What stands at an offset of a packet, so that nobody writes the walk over its fields again: 0, 1.
+// What is at an offset of a packet, so that no caller has to write the walk over the fields: 0, 1.
+// promise: exports.12
 #[no_mangle]
 pub extern "C" fn reckonstile_field_at(packet: &[u8], at: usize) -> CField
     ensures { λ r. ⌜ r ≡ fieldAs (packetStep (now (packet .entry)) at) ⌝ }
@@ -286,7 +301,8 @@ pub extern "C" fn reckonstile_field_at(packet: &[u8], at: usize) -> CField
     exports_values::field(step)
 }
 
-// The clean list of a damaged one, from the buffer's start on: 0, 70.
+// Writes the clean list of a damaged one to the start of the buffer: 0, 70.
+// promise: exports.11
 #[no_mangle]
 pub extern "C" fn reckonstile_salvage(list: &[u8], out: &mut [u8]) -> CSalvaged
     ensures { λ r. ⌜ (r ≡ salvagedAs (salvageOf (now (list .entry)) (length (now (out .entry)))))
@@ -295,7 +311,8 @@ pub extern "C" fn reckonstile_salvage(list: &[u8], out: &mut [u8]) -> CSalvaged
     exports_tools::salvage(list, out)
 }
 
-// The fields in which two hand-over files differ, from the buffer's start on: 0, 61 to 63, 71.
+// Writes the fields in which two hand-over files differ to the start of the buffer: 0, 61 to 63, 71.
+// promise: exports.11
 #[no_mangle]
 pub extern "C" fn reckonstile_compare(left: &[u8], right: &[u8], out: &mut [u8]) -> CCompared
     ensures { λ r. ⌜ (r ≡ comparedAs (compareOf (now (left .entry)) (now (right .entry)) (length (now (out .entry)))))
@@ -305,6 +322,7 @@ pub extern "C" fn reckonstile_compare(left: &[u8], right: &[u8], out: &mut [u8])
 }
 
 // Whether a poll calendar is accepted: 0, 80 to 83.
+// promise: exports.11
 #[no_mangle]
 pub extern "C" fn reckonstile_check_calendar(
     cap: u8,
@@ -316,7 +334,8 @@ pub extern "C" fn reckonstile_check_calendar(
     exports_tools::check(cap, starts, repeats)
 }
 
-// The starts of a plan, from the buffer's start on: 0, 80, 81, 84, 31.
+// Writes the starts of a plan to the start of the buffer: 0, 80, 81, 84, 31.
+// promise: exports.11
 #[no_mangle]
 pub extern "C" fn reckonstile_plan_calendar(
     cap: u8,

@@ -25,6 +25,7 @@ use Rattle.exports_tools.specs.Told.{salvagedAs, checkedAs, plannedAs, c
 
 -- ---- the numbers
 
+-- promise: exports.11
 pub check-number : (r : CheckAnswer) → checkedAs r .number ≡ numberOf r
 check-number C.Accepted = refl
 check-number C.TooMany = refl
@@ -32,6 +33,7 @@ check-number (C.BadRepeat k) = refl
 check-number (C.LateStart k) = refl
 check-number (C.OverCap m) = refl
 
+-- promise: exports.11
 pub plan-number : (r : PlanAnswer) → plannedAs r .number ≡ plan.planNumberOf r
 plan-number P.Planned = refl
 plan-number P.TooMany = refl
@@ -39,6 +41,7 @@ plan-number (P.BadRepeat k) = refl
 plan-number (P.NoFit k) = refl
 plan-number P.NoRoom = refl
 
+-- promise: exports.11 (the number is that of RULES, in all three)
 pub compare-number : (x : CompareAnswer) → comparedAs x .number ≡ compareNumber x
 compare-number (Listed n) = refl
 compare-number (WrongMark s) = refl
@@ -48,15 +51,18 @@ compare-number ShortBuffer = refl
 
 -- ---- what is refused leaves the buffer as it was
 
+-- promise: exports.11
 pub salvage-refused : (l out : List ℕ) → salvagedAs (salvage.salvageOf l (length out)) .number ≡ 70 → salvage.bufferOf l out ≡ out
 salvage-refused l out e = refused-buffer l out (refused-exactly l (length out) .0 e)
 
+-- promise: exports.11 (both: a rejection leaves the buffer)
 pub plan-refused : (cap : ℕ) (repeats out : List ℕ) → (plannedAs (plan.planOf cap repeats (length out)) .number ≡ 0 → ⊥) → plan.bufferOf cap repeats out ≡ out
 plan-refused cap repeats out z = refused-untouched cap repeats out (λ e. z (plan-number (plan.planOf cap repeats (length out)) ∙ e))
 
 -- ---- places, written one by one
 
-pub widens : (p w : List ℕ) (i : ℕ) → i < length w → ((k : ℕ) → k < i → getD w k 0 ≡ getD p k 0) → (k : ℕ) → k < i + 1 → getD (set w i (getD p i 0)) k 0 ≡ getD p k 0
+pub widens : (p w : List ℕ) (i : ℕ) → i < length w → ((k : ℕ) → k < i → getD w k 0 ≡ getD p k 0) → (k : ℕ) → k < i + 1 →
+    getD (set w i (getD p i 0)) k 0 ≡ getD p k 0
 widens p w i h f k l = by (eqb k i) refl
   where
     by : (b : Bool) → eqb k i ≡ b → getD (set w i (getD p i 0)) k 0 ≡ getD p k 0

@@ -1,4 +1,4 @@
--- How the answers of the tools (RULES, No. 9, No. 10 and No. 13) are told in numbers.
+-- The answers of the tools (RULES, No. 9, No. 10 and No. 13) as numbers.
 -- Assumes nothing.
 use Prim.Native.Nat.{ℕ, min}
 use Rattle.salvage.specs.declared.Salvaged.{Salvaged}
@@ -14,11 +14,13 @@ use Rattle.exports_tools.specs.declared.CSalvaged.{CSalvaged}
 use Rattle.exports_tools.specs.declared.CCalendarAnswer.{CCalendarAnswer}
 use Rattle.exports_tools.specs.declared.CCompared.{CCompared}
 
--- how many gaps have their places told: up to 32
+-- how many gaps have their places reported: up to 32
 abbrev pub toldOf : ℕ → ℕ
 toldOf gaps = min gaps 32
 
 -- the report of a salvage, field by field
+-- promise exports.11: The tools, which have no record, are the calls that they wrap: the number, all that is reported or named, every lent byte.
+--     edit: exports_tools/the_kept_are_told_as_gaps
 abbrev pub salvagedAs : Salvaged → CSalvaged
 salvagedAs s =
     record { number = s .number; told = toldOf (s .gaps); kept = s .kept; skipped = s .skipped; gaps = s .gaps; length = s .len; places = s .places }
@@ -30,6 +32,7 @@ named number place = record { number = number; named = 1; place = place }
 abbrev pub unnamed : ℕ → CCalendarAnswer
 unnamed number = record { number = number; named = 0; place = 0 }
 
+-- promise: exports.11
 abbrev pub checkedAs : CheckAnswer → CCalendarAnswer
 checkedAs C.Accepted = unnamed 0
 checkedAs C.TooMany = unnamed 80
@@ -38,6 +41,7 @@ checkedAs (C.LateStart k) = named 82 k
 checkedAs (C.OverCap m) = named 83 m
 
 -- 31: there is a plan, and the lent buffer has no room for it
+-- promise: exports.11
 abbrev pub plannedAs : PlanAnswer → CCalendarAnswer
 plannedAs P.Planned = unnamed 0
 plannedAs P.TooMany = unnamed 80
@@ -53,6 +57,7 @@ sideCode Right = 2
 abbrev pub refused : ℕ → Side → CCompared
 refused number side = record { number = number; side = sideCode side; entries = 0 }
 
+-- promise: exports.11
 abbrev pub comparedAs : CompareAnswer → CCompared
 comparedAs (Listed n) = record { number = 0; side = 0; entries = n }
 comparedAs (WrongMark s) = refused 61 s

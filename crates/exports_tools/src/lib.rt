@@ -1,5 +1,5 @@
 // The tools beside the association, as C and Rust call them: salvage of a cookie list, check and plan of a poll calendar, comparison of two files.
-// Promises: each is the call behind it, with its answer told in numbers and each lent byte as that call leaves it.
+// Promises: each returns as numbers the answer of the call that it makes, and leaves each lent byte as that call does.
 // Rule: RULES, No. 9, No. 10 and No. 13; definitions in specs/Told.antt.
 use calendar::CheckAnswer;
 use calendar::PlanAnswer;
@@ -15,7 +15,7 @@ ghost use Rattle.calendar.specs.Plan.{planOf, bufferOf as planned};
 ghost use Rattle.handover_compare.specs.Answers.{compareOf, outOf};
 ghost use Rattle.exports_tools.specs.Told.{toldOf, salvagedAs, named, unnamed, checkedAs, plannedAs, sideCode, refused, comparedAs};
 
-// What salvaging answers, as numbers without padding: `told` places say where the first gaps start, and the others are 0.
+// What salvage answers, as numbers without padding. The first `told` places say where gaps start; the others are 0.
 #[repr(C)]
 pub struct CSalvaged {
     pub number: u32,
@@ -27,7 +27,7 @@ pub struct CSalvaged {
     pub places: [u64; 32],
 }
 
-// What the check and the planner answer: where `named` is 1 the answer names an entry or a minute, which is `place`; else both are 0.
+// What the check and the planner answer. If `named` is 1, `place` is the entry or the minute that the answer names; otherwise both are 0.
 #[repr(C)]
 pub struct CCalendarAnswer {
     pub number: u32,
@@ -35,7 +35,7 @@ pub struct CCalendarAnswer {
     pub place: u64,
 }
 
-// How many gaps have their places told.
+// How many gaps have their places reported.
 fn told(gaps: usize) -> u32
     ensures { λ r. ⌜ r ≡ toldOf gaps ⌝ }
 {
@@ -75,7 +75,7 @@ fn salvaged(s: Salvaged) -> CSalvaged
     }
 }
 
-// The clean list of a damaged one, from the buffer's start on: 0, 70.
+// Writes the clean list of a damaged one to the start of the buffer: 0, 70.
 pub fn salvage(list: &[u8], out: &mut [u8]) -> CSalvaged
     ensures { λ r. ⌜ (r ≡ salvagedAs (salvageOf (now (list .entry)) (length (now (out .entry)))))
         × (now (out .exit) ≡ cleaned (now (list .entry)) (now (out .entry))) ⌝ }
@@ -136,7 +136,7 @@ pub fn check(cap: u8, starts: &[u16], repeats: &[u16]) -> CCalendarAnswer
     checked(answer)
 }
 
-// The starts of a plan, from the buffer's start on: 0, 80, 81, 84, 31.
+// Writes the starts of a plan to the start of the buffer: 0, 80, 81, 84, 31.
 pub fn plan(cap: u8, repeats: &[u16], starts: &mut [u16]) -> CCalendarAnswer
     ensures { λ r. ⌜ (r ≡ plannedAs (planOf cap (now (repeats .entry)) (length (now (starts .entry)))))
         × (now (starts .exit) ≡ planned cap (now (repeats .entry)) (now (starts .entry))) ⌝ }
@@ -149,9 +149,9 @@ pub fn plan(cap: u8, repeats: &[u16], starts: &mut [u16]) -> CCalendarAnswer
 #[repr(C)]
 pub struct CCompared {
     pub number: u32,
-    // Which file is refused: 1 the left one, 2 the right one; else 0.
+    // Which file is rejected: 1 the left one, 2 the right one; otherwise 0.
     pub side: u32,
-    // How many fields differ: each has an entry of 19 bytes, from the buffer's start on.
+    // How many fields differ. Each has an entry of 19 bytes; the entries begin at the start of the buffer.
     pub entries: u64,
 }
 
@@ -164,7 +164,6 @@ fn side_code(side: Side) -> u32
     }
 }
 
-// A file is refused.
 fn refused(number: u32, side: Side) -> CCompared
     ensures { λ r. ⌜ r ≡ refused number side ⌝ }
 {
@@ -196,7 +195,8 @@ fn compared(answer: CompareAnswer) -> CCompared
     }
 }
 
-// The fields in which two hand-over files differ, from the buffer's start on: 0, 61 to 63, 71.
+// Writes the fields in which two hand-over files differ to the start of the buffer: 0, 61 to 63, 71.
+// promise: exports.11
 pub fn compare(left: &[u8], right: &[u8], out: &mut [u8]) -> CCompared
     ensures { λ r. ⌜ (r ≡ comparedAs (compareOf (now (left .entry)) (now (right .entry)) (length (now (out .entry)))))
         × (now (out .exit) ≡ outOf (now (left .entry)) (now (right .entry)) (now (out .entry))) ⌝ }

@@ -85,6 +85,7 @@ bit-back n e = by (eqb n 1) refl
 
 -- ---- settings
 
+-- promise: exports.7
 pub settings-back : (s : Settings) → unpackSettings (packSettings s) ≡ record { ok = true; settings = s }
 unfolding packSettings settingsIn
 settings-back s =
@@ -104,6 +105,7 @@ settings-back s =
           };
     }
 
+-- promise: exports.7
 pub csettings-back : (c : CSettings) → settingsOk c ≡ true → packSettings (settingsIn c) ≡ c
 unfolding packSettings settingsIn
 csettings-back c e =
@@ -131,6 +133,7 @@ settings-tested u b g e f = ap (λ (k : UnpackedSettings). k .ok) (sym e) ∙ f
 
 -- ---- the numbers
 
+-- promise: exports.7
 pub timer-number : (r : TimerAnswer) → timerAnswer r .number ≡ timer-answer.numberOf r
 timer-number (T.Sent kind poll len asked) = refl
 timer-number T.Reset = refl
@@ -140,6 +143,7 @@ timer-number T.CookieTooLarge = refl
 timer-number T.ShortBuffer = refl
 timer-number T.NotWhole = refl
 
+-- promise: exports.7
 pub reply-number : (r : ReplyAnswer) → replyAnswer r .number ≡ reply-answer.numberOf r
 reply-number (R.Measured m) = refl
 reply-number R.Undecodable = refl

@@ -45,6 +45,9 @@ sendCode S.NtsV5 = 5
 abbrev pub unsent : ℕ → CTimerAnswer
 unsent number = record { number = number; kind = 0; poll = interval (pos 0); asked = 0; length = 0 }
 
+-- promise exports.7: The exported calls `reckonstile_*` have their answers as numbers, and the number is that of RULES. `exports/proofs/Determined` has a
+--     theorem for each.
+--     edit: exports_values/a_field_is_told_with_another_kind, exports/a_refused_setting_is_a_wrong_size
 abbrev pub timerAnswer : TimerAnswer → CTimerAnswer
 timerAnswer (T.Sent kind poll len asked) = record { number = 20; kind = sendCode kind; poll = poll; asked = asked; length = len }
 timerAnswer T.Reset = unsent 21
@@ -89,6 +92,7 @@ measuredAs m =
       rootdisp = m .rootdisp;
     }
 
+-- promise: exports.7
 abbrev pub replyAnswer : ReplyAnswer → CReplyAnswer
 replyAnswer (R.Measured m) = measuredAs m
 replyAnswer R.Undecodable = unmeasured 1
@@ -110,34 +114,38 @@ replyAnswer R.BrokenList = unmeasured 33
 -- ---- new
 
 -- 0: the association is made; with what fell out of its first list (RULES, No. 5)
+-- promise exports.8: The answers of `new`, `metered` and both replies have the two sums of No. 5.
 abbrev pub newAnswer : ℕ → Dropped → CNewAnswer
 newAnswer number dropped = record { number = number; made = cond (eqb number 0) 1 0; dropped = dropped }
 
 -- ---- accept
 
--- 0 no filter, 1 absent; any other code is taken for present, so that what cannot be read accepts nothing
+-- 0 is no filter, 1 is absent; any other code counts as present, so that an unknown code accepts nothing
 abbrev pub bloomIn : ℕ → Bloom
 bloomIn code = cond (eqb code 0) B.NoFilter (cond (eqb code 1) B.Absent B.Present)
 
 -- ---- what is written to a buffer
 
--- so many bytes are written; or none are, for a reason
+-- so many bytes are written; or none, and the number says why
 abbrev pub wrote : ℕ → CWritten
 wrote length = record { number = 0; written = 1; length = length }
 
 abbrev pub unwritten : ℕ → CWritten
 unwritten number = record { number = number; written = 0; length = 0 }
 
+-- promise: exports.7
 abbrev pub savedAs : SaveAnswer → CWritten
 savedAs (H.Saved length) = wrote length
 savedAs H.NotWhole = unwritten 32
 savedAs H.ShortBuffer = unwritten 60
 
+-- promise exports.10: `collect` and `write_request` give number, length and every byte of the buffer. On every number but 0 the buffer stays.
 abbrev pub collectedAs : Collected → CWritten
 collectedAs (C.Done length) = wrote length
 collectedAs C.Broken = unwritten 1
 collectedAs C.TooLong = unwritten 31
 
+-- promise: exports.10
 abbrev pub requestedAs : Requested → CWritten
 requestedAs (W.Written length) = wrote length
 requestedAs W.VersionFive = unwritten 50
@@ -146,7 +154,8 @@ requestedAs W.CookieOrCount = unwritten 52
 
 -- ---- what is read from a file
 
--- the number, and 1 where a version of the file was of the retired kind (RULES, No. 14)
+-- the number, and 1 if a version in the file was of the retired kind (RULES, No. 14)
+-- promise: exports.7
 abbrev pub loadAnswer : ℕ → Bool → CLoadAnswer
 loadAnswer number retired = record { number = number; retired = cond retired 1 0 }
 
@@ -155,7 +164,8 @@ loadAnswer number retired = record { number = number; retired = cond retired 1 0
 abbrev pub noField : ℕ → CField
 noField number = record { number = number; found = 0; kind = 0; spare = 0; body = 0; length = 0; next = 0 }
 
--- 0 a field, or the end of the walk; 1 neither
+-- 0 a field, or the end of the walk; 1 something broken
+-- promise: exports.12
 abbrev pub fieldAs : Step → CField
 fieldAs (F.Field kind start len next) = record { number = 0; found = 1; kind = kind; spare = 0; body = start; length = len; next = next }
 fieldAs F.End = noField 0

@@ -38,11 +38,13 @@ kissesIn rate deny rstr ntsn any = record { rate = truth rate; deny = truth deny
 abbrev pub uidsOk : ℕ → ℕ → ℕ → Bool
 uidsOk authenticated encrypted untrusted = (leb authenticated 2 && leb encrypted 2) && leb untrusted 2
 
--- whether every code is of a kind
+-- whether every code is known
+-- promise exports.9: A decoded reply with an unknown code is undecodable: 1, after 32.
 unfoldable pub decodedOk : CDecoded → Bool
 decodedOk d =
     (leb (d .leap) 4 && isBit (d .mode)) && (bitsOk (d .rate) (d .deny) (d .rstr) (d .ntsn) (d .any) && uidsOk (d .authenticated) (d .encrypted) (d .untrusted))
 
+-- promise: exports.7
 unfoldable pub decodedIn : CDecoded → DecodedReply
 decodedIn d =
     record {
@@ -62,6 +64,7 @@ decodedIn d =
       untrusted = uidIn (d .untrusted);
     }
 
--- a reply with a code of no kind is one that cannot be decoded
+-- a reply with an unknown code cannot be decoded
+-- promise: exports.9
 abbrev pub decodedRead : CDecoded → ReplyRead
 decodedRead d = cond (decodedOk d) (Decoded (decodedOf (decodedIn d))) Undecodable

@@ -15,6 +15,7 @@ use Rattle.exports_values.specs.Codes.{isKind, versionIn, kindOut, leftO
 abbrev pub settingsOk : CSettings → Bool
 settingsOk c = isKind (c .start) (c .left) && (isBit (c .nts) && eqb (c .spare) 0)
 
+-- promise: exports.7
 unfoldable pub settingsIn : CSettings → Settings
 settingsIn c =
     record {
@@ -32,6 +33,7 @@ settingsIn c =
 abbrev pub unpackSettings : CSettings → UnpackedSettings
 unpackSettings c = record { ok = settingsOk c; settings = settingsIn c }
 
+-- promise: exports.7
 unfoldable pub packSettings : Settings → CSettings
 packSettings s =
     record {
@@ -50,6 +52,7 @@ packSettings s =
 
 -- ---- state
 
+-- promise: exports.7
 unfoldable pub packState : State → CState
 packState s =
     record {

@@ -1,4 +1,4 @@
-// The values that cross to C and back: settings, answers and decoded replies as numbers, and what each means to the rules.
+// The values that are passed to C and back: settings, answers and decoded replies as numbers, and what each means to the rules.
 // Promises: every number is read or written as its definition says, in fields of one width on every target; settings have one form.
 // Rule: RULES, "Settings and a whole record", parts 10 to 12, No. 5 and No. 6; definitions in specs/, where Codes.antt has the numbers.
 use accept::Bloom;
@@ -37,7 +37,7 @@ ghost use Rattle.exports_values.specs.Decoded.{leapIn, modeIn, uidIn, bi
 
 // ---- settings and state
 
-// No field is followed by padding: what a caller finds there after a call no contract tells.
+// No padding follows any field: no contract would say what a caller finds there after a call.
 #[repr(C)]
 pub struct CSettings {
     pub window: u64,
@@ -49,16 +49,16 @@ pub struct CSettings {
     pub nts: u16,
     // How many cookies the stash holds at most.
     pub capacity: u8,
-    // 0: so that nothing else lies between the fields.
+    // Always 0, so that there is no padding between the fields.
     pub spare: u8,
-    // The tries that are left while upgrading; else 0.
+    // The tries that are left while upgrading; otherwise 0.
     pub left: u8,
     pub startup: u8,
     pub min: PollInterval,
     pub max: PollInterval,
 }
 
-// No padding in it either.
+// It has no padding either.
 #[repr(C)]
 pub struct CState {
     pub reach: Reach,
@@ -173,7 +173,7 @@ fn wide_bit(b: bool) -> u32
 
 // ---- settings in, settings and state out
 
-// What is unpacked, and whether every code of it is of a kind.
+// The unpacked settings, and whether every code in them is known.
 pub struct UnpackedSettings {
     pub ok: bool,
     pub settings: Settings,
@@ -267,14 +267,14 @@ pub fn pack_state(s: State) -> CState
 
 // ---- the timer
 
-// A unique identifier: an array is passed to an exported function only within a struct.
+// A unique identifier. It is a struct because an exported function takes an array only within a struct.
 #[repr(C)]
 pub struct CUid {
     pub bytes: [u8; 32],
 }
 
-// The timer's number, and what is sent: 1 V4, 2 V4 with the upgrade mark, 3 V5, 4 NTS V4, 5 NTS V5, with its poll exponent, how many new cookies
-// it asks for, and how many bytes of the buffer its cookie has. Where nothing is sent all but the number is zero.
+// The timer's number, and what is sent: 1 V4, 2 V4 with the upgrade mark, 3 V5, 4 NTS V4, 5 NTS V5; with its poll exponent, how many new cookies it asks for,
+// and how many bytes of the buffer its cookie has. If nothing is sent, all but the number is zero.
 #[repr(C)]
 pub struct CTimerAnswer {
     pub number: u32,
@@ -339,11 +339,11 @@ pub fn timer_answer(answer: TimerAnswer) -> CTimerAnswer
 
 // ---- the reply
 
-// The reply's number, and the measurement; where nothing is measured all but the number is zero.
+// The reply's number, and the measurement. If nothing is measured, all but the number is zero.
 #[repr(C)]
 pub struct CReplyAnswer {
     pub number: u32,
-    // 1 where the reply is measured.
+    // 1 if the reply is measured.
     pub measured: u8,
     // 0 no warning, 1 a minute of 61 seconds, 2 one of 59, 3 unknown, 4 unsynchronized.
     pub leap: u8,
@@ -453,7 +453,7 @@ pub struct CDecoded {
     pub rstr: u8,
     pub ntsn: u8,
     pub any: u8,
-    // What each group says of the unique identifier: 0 absent, 1 agrees, 2 disagrees.
+    // What each group says about the unique identifier: 0 absent, 1 agrees, 2 disagrees.
     pub authenticated: u8,
     pub encrypted: u8,
     pub untrusted: u8,
@@ -544,7 +544,7 @@ fn uids_ok(authenticated: u8, encrypted: u8, untrusted: u8) -> bool
     both(trusted, at_most(untrusted, 2))
 }
 
-// Whether every code is of a kind.
+// Whether every code is known.
 pub fn decoded_ok(d: CDecoded) -> bool
     ensures { λ r. ⌜ r ≡ decodedOk d ⌝ }
 {
@@ -593,7 +593,7 @@ pub fn decoded_in(d: CDecoded) -> DecodedReply
 #[repr(C)]
 pub struct CNewAnswer {
     pub number: u32,
-    // 1 where the association is made.
+    // 1 if the association is made.
     pub made: u32,
     pub dropped: Dropped,
 }
@@ -615,7 +615,7 @@ pub fn new_answer(number: u8, dropped: Dropped) -> CNewAnswer
     }
 }
 
-// 0 no filter, 1 absent; any other code is taken for present, so that what cannot be read accepts nothing.
+// 0 is no filter, 1 is absent. Any other code counts as present, so that an unknown code accepts nothing.
 pub fn bloom_in(code: u32) -> Bloom
     ensures { λ r. ⌜ r ≡ bloomIn code ⌝ }
 {
@@ -634,12 +634,12 @@ pub fn bloom_in(code: u32) -> Bloom
 #[repr(C)]
 pub struct CWritten {
     pub number: u32,
-    // 1 where something is written.
+    // 1 if something is written.
     pub written: u32,
     pub length: u64,
 }
 
-// Nothing is written, for a reason.
+// Nothing is written; the number says why.
 fn unwritten(number: u32) -> CWritten
     ensures { λ r. ⌜ r ≡ unwritten number ⌝ }
 {
@@ -691,7 +691,7 @@ pub fn requested(answer: Requested) -> CWritten
     }
 }
 
-// The kind of a code; V5 is not written, and neither is any other code.
+// The kind of request for a code. V5 is not written, so every other code gives V5.
 pub fn send_in(code: u8) -> SendKind
     ensures { λ r. ⌜ r ≡ sendIn code ⌝ }
 {
@@ -707,7 +707,7 @@ pub fn send_in(code: u8) -> SendKind
     SendKind::V5
 }
 
-// What reading a file answers: its number, and 1 where a version of the file was of the retired kind, and was loaded as V4.
+// What loading a file answers: its number, and 1 if a version in the file was of the retired kind and was loaded as V4.
 #[repr(C)]
 pub struct CLoadAnswer {
     pub number: u32,
@@ -726,16 +726,16 @@ pub fn load_answer(number: u8, retired: bool) -> CLoadAnswer
 
 // ---- a packet's fields
 
-// What stands at an offset of a packet: a field, whose body is `length` bytes from `body` on and behind which the next starts; the end of the walk; or neither.
+// What is at an offset of a packet: a field, with a body of `length` bytes from `body` on and the next field after it; the walk's end; or something broken.
 #[repr(C)]
 pub struct CField {
-    // 0, or 1 where something broken stands there.
+    // 0, or 1 if something broken is there.
     pub number: u32,
-    // 1 where it is a field.
+    // 1 if it is a field.
     pub found: u32,
     // The field's type.
     pub kind: u32,
-    // 0: so that nothing else lies between the fields.
+    // Always 0, so that there is no padding between the fields.
     pub spare: u32,
     pub body: u64,
     pub length: u64,

@@ -1,4 +1,5 @@
--- The fields of a walk that ends lie one behind the other from its start to its end, each legal and within the bytes, and behind the end at most a tail is left;
+-- The fields of a walk that ends lie one behind the other from its start to its end, each legal and within the bytes, and behind the end at most a tail is
+-- left;
 -- any number parts a packet's fields into two groups; and `isPlace` says exactly the places of a packet's walk.
 -- Assumes nothing.
 use mathlib.Core.Path.{_≡_, refl, sym, subst, ap, _∙_}
@@ -11,7 +12,23 @@ use lib.Dec.{leb, eqb, lit≤}
 use lib.ListN.{length}
 use borrow.Author.Tests.{eq-eqb, eqb-true, lt-ltb, le-ltb, le-leb, leb-true, leb-false}
 use Rattle.words.proofs.Tests.{both}
-use Rattle.fields.specs.Walk.{Found, Walk, field, ends, broken, onStep, walkOf, packetWalk, decryptedWalk, walkedOf, whole, placeIn, isPlace, fieldsOf, between}
+use Rattle.fields.specs.Walk.{
+  Found,
+  Walk,
+  field,
+  ends,
+  broken,
+  onStep,
+  walkOf,
+  packetWalk,
+  decryptedWalk,
+  walkedOf,
+  whole,
+  placeIn,
+  isPlace,
+  fieldsOf,
+  between,
+}
 use Rattle.fields.specs.Sound.{One, InLine, Sound, Place}
 use Rattle.fields.specs.declared.Step.{Step}
 use Rattle.fields.specs.declared.Step.the-variants.{Field, End, Broken}
@@ -62,10 +79,12 @@ module _ (p : List ℕ) (least tail : ℕ) (h : 4 ≤ least) where
       (λ at q. q)
       (λ at kind start len next w behind q. rw (eq-eqb at at refl))
 
+-- promise: 7.5 (the fields follow one another from 48 to the end, each within the packet, and their lengths add up)
 pub packet-sound : (p : List ℕ) (end : ℕ) → walkedOf (packetWalk p) ≡ W.Ends end → Sound p 48 16 24 end (fieldsOf (packetWalk p))
 packet-sound p end e = walk-sound p 16 24 (lit≤ tt) 48 end e
 
 -- decrypted fields fill their bytes
+-- promise: 7.3
 pub decrypted-sound : (p : List ℕ) (end : ℕ) → walkedOf (decryptedWalk p) ≡ W.Ends end → Sound p 0 4 0 (length p) (fieldsOf (decryptedWalk p))
 decrypted-sound p end e =
     let s = walk-sound p 4 0 (lit≤ tt) 0 end e in
@@ -80,7 +99,8 @@ module _ (p : List ℕ) (first m : ℕ) where
     all : between first m fs ++ between m (length p) fs ≡ fs
     none : m ≤ at → between first m fs ≡ []
 
-  split-field : (t : Bool) (f : Found) (fs : List Found) (next : ℕ) → first ≤ f .at → f .at < next → f .at < length p → leb m (f .at) ≡ t → Split next fs → Split (f .at) (f ∷ fs)
+  split-field : (t : Bool) (f : Found) (fs : List Found) (next : ℕ) → first ≤ f .at → f .at < next → f .at < length p → leb m (f .at) ≡ t → Split next fs →
+      Split (f .at) (f ∷ fs)
   split-field true f fs next a b d e s =
       let h : m ≤ f .at = leb-true m (f .at) e in
       let n : between first m fs ≡ [] = s .none (omega arith) in
@@ -91,13 +111,15 @@ module _ (p : List ℕ) (first m : ℕ) where
       record { all = rw (le-leb first (f .at) a, lt-ltb (f .at) m h, e) (ap (λ r. f ∷ r) (s .all)); none = λ k. absurd (omega arith) }
 
 -- each field of a packet belongs to the group before m or to that from m on, in order: none is lost, and none is in both
+-- promise: 7.8 (none is lost, none counted twice)
 pub groups-split : (p : List ℕ) (m : ℕ) → between 48 m (fieldsOf (packetWalk p)) ++ between m (length p) (fieldsOf (packetWalk p)) ≡ fieldsOf (packetWalk p)
 groups-split p m =
     walk-induction p 16 24 (lit≤ tt) (λ at w. 48 ≤ at → Split p 48 m at (fieldsOf w))
     (λ at e h. record { all = refl; none = λ _. refl })
     (λ at h. record { all = refl; none = λ _. refl })
     (λ at kind start len next w behind h.
-    split-field p 48 m (leb m at) (record { at = at; kind = kind; start = start; len = len }) (fieldsOf (walkOf p next 16 24)) next h (omega arith) (omega arith) refl
+    split-field p 48 m (leb m at) (record { at = at; kind = kind; start = start; len = len }) (fieldsOf (walkOf p next 16 24)) next h (omega arith)
+    (omega arith) refl
     (behind (omega arith)))
     48 (lit≤ tt) .all
 
@@ -148,6 +170,7 @@ no-place f n at (Field kind start len next) h e = absurd (⊎-elim (λ e. omega 
 no-place f n at End h e = e
 no-place f n at Broken h e = refl
 
+-- promise: 7.6
 pub place-iff : (p : List ℕ) (n : ℕ) → (isPlace p n ≡ true) ↔ Place p n
 unfolding isPlace
 place-iff p n = (there, back)

@@ -41,6 +41,7 @@ module _ (p : List ℕ) (at least tail : ℕ) where
   abbrev here : Step
   here = Field (kindAt p at) (at + 4) (lengthAt p at - 4) (at + lengthAt p at)
 
+  -- promise: 7.1
   pub placed : 4 ≤ least → (kind start len next : ℕ) → stepAt p at least tail ≡ Field kind start len next → Placed p at least start len next
   unfolding stepAt fieldIs
   placed h kind start len next e =
@@ -72,6 +73,7 @@ module _ (p : List ℕ) (at least tail : ℕ) where
       }
 
   -- a walk ends where at most a tail is left
+  -- promise: 7.2
   pub tail-left : stepAt p at least tail ≡ End → (at ≤ length p) × (length p - at ≤ tail)
   unfolding stepAt
   tail-left e =

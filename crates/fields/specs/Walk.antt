@@ -1,4 +1,4 @@
--- The walk over extension fields, the places of it, and its fields (RULES, part 7).
+-- The walk over extension fields, its places, and its fields (RULES, part 7).
 -- Assumes nothing.
 use Prim.Native.Nat.{ℕ, zero, suc, _-_}
 use mathlib.Core.List.{List, [], _∷_}
@@ -37,25 +37,28 @@ abbrev pub walkN : ℕ → List ℕ → ℕ → ℕ → ℕ → Walk
 walkN zero p at least tail = onStep (λ next. broken) at (stepAt p at least tail)
 walkN (suc n) p at least tail = onStep (λ next. walkN n p next least tail) at (stepAt p at least tail)
 
--- the walk: there are no more fields than bytes, so that the number above does not show (`walk-turn` in proofs/Walks.antt)
+-- the walk: there are no more fields than bytes, so that the bound n has no effect (`walk-turn` in proofs/Walks.antt)
+-- promise 7.5: The walk stops at the first answer that is not a field. A broken one makes the packet undecodable.
 unfoldable pub walkOf : List ℕ → ℕ → ℕ → ℕ → Walk
 walkOf p at least tail = walkN (length p - at) p at least tail
 
--- a V4 packet's walk starts behind the 48 bytes of the header
+-- a V4 packet's walk starts after the 48 bytes of the header
 abbrev pub packetWalk : List ℕ → Walk
 packetWalk p = walkOf p 48 16 24
 
--- that over decrypted fields starts at their first byte
+-- the walk over decrypted fields starts at their first byte
 abbrev pub decryptedWalk : List ℕ → Walk
 decryptedWalk p = walkOf p 0 4 0
 
 -- where a walk ends, or that it is broken
+-- promise: 7.5
 abbrev pub walkedOf : Walk → Walked
 walkedOf (field f w) = walkedOf w
 walkedOf (ends at) = W.Ends at
 walkedOf broken = W.Broken
 
--- the number in RULES: 1 for a broken walk; one that ends is refused by none
+-- the number in RULES: 1 for a broken walk; one that ends is not rejected
+-- promise: 7.5
 abbrev pub refusalOf : Walked → Option ℕ
 refusalOf (W.Ends at) = none
 refusalOf W.Broken = some 1
@@ -73,6 +76,8 @@ placeIn n (ends at) = eqb at n
 placeIn n broken = false
 
 -- the places that the authenticated end may be; a broken walk makes the packet undecodable
+-- promise 7.6: The authenticated end is 48, or a place where a field starts, or the end of the walk.
+--     edit: fields/place_of_a_broken_walk, incoming/v4_end_is_not_looked_at
 unfoldable pub isPlace : List ℕ → ℕ → Bool
 isPlace p n = whole (packetWalk p) && placeIn n (packetWalk p)
 
@@ -86,7 +91,7 @@ abbrev pub between : ℕ → ℕ → List Found → List Found
 between from to [] = []
 between from to (f ∷ fs) = cond (leb from (f .at) && ltb (f .at) to) (f ∷ between from to fs) (between from to fs)
 
--- the bodies of those of a type
+-- the bodies of the fields of a type
 abbrev pub bodiesOf : ℕ → List ℕ → List Found → List (List ℕ)
 bodiesOf kind p [] = []
 bodiesOf kind p (f ∷ fs) = cond (eqb (f .kind) kind) (part p (f .start) (f .len) ∷ bodiesOf kind p fs) (bodiesOf kind p fs)

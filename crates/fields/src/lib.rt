@@ -1,5 +1,5 @@
-// Extension fields: what stands at an offset, the walk over them, and its places.
-// Promises: the fields of a walk lie one behind the other within the packet, and it is refused exactly where it comes to something broken.
+// Extension fields: what is at an offset, the walk over them, and its places.
+// Promises: the fields of a walk follow one another within the packet, and the walk is rejected exactly if it meets something broken.
 // Rule: RULES, part 7 (RFC 7822); definitions in specs/Field.antt and specs/Walk.antt.
 use header::HEADER_BYTES;
 ghost use mathlib.Core.Path.{_≡_};
@@ -7,17 +7,17 @@ ghost use Prim.Native.Nat.{_≤_};
 ghost use Rattle.fields.specs.Field.{stepAt, packetStep, decryptedStep};
 ghost use Rattle.fields.specs.Walk.{broken, onStep, walkOf, packetWalk, decryptedWalk, walkedOf, isPlace};
 
-// The length that a field of a packet has at least, and that a tail has at most: what is no longer than a MAC is taken for one, and not for a field.
+// The least length of a packet's field, and the greatest of a tail: what is no longer than a MAC counts as a MAC, not as a field.
 const PACKET_LEAST: usize = 16;
 
 const PACKET_TAIL: usize = 24;
 
-// Decrypted fields have a head at least, and no tail: RFC 8915 lets them be short, and nothing follows them that could be taken for a field.
+// Decrypted fields have at least a head, and no tail: RFC 8915 allows short ones, and nothing follows them that could be mistaken for a field.
 const DECRYPTED_LEAST: usize = 4;
 
 const DECRYPTED_TAIL: usize = 0;
 
-// What stands at an offset: a field, whose body is `len` bytes from `start` and which ends at `next`; the end of the walk; or neither.
+// What is at an offset: a field, whose body is `len` bytes from `start` and which ends at `next`; the end of the walk; or something broken.
 pub enum Step {
     Field {
         kind: u16,
@@ -63,14 +63,16 @@ fn field_at(p: &[u8], at: usize, least: usize, tail: usize) -> Step
     }
 }
 
-// What stands at an offset of a V4 packet.
+// What is at an offset of a V4 packet.
+// promise: 7.1, 7.2, 7.4
 pub fn packet_field_at(p: &[u8], at: usize) -> Step
     ensures { λ r. ⌜ r ≡ packetStep (now (p .entry)) at ⌝ }
 {
     field_at(p, at, PACKET_LEAST, PACKET_TAIL)
 }
 
-// What stands at an offset of decrypted fields.
+// What is at an offset of decrypted fields.
+// promise: 7.3, 7.4
 pub fn decrypted_field_at(p: &[u8], at: usize) -> Step
     ensures { λ r. ⌜ r ≡ decryptedStep (now (p .entry)) at ⌝ }
 {
@@ -83,7 +85,7 @@ pub enum Walked {
     Broken,
 }
 
-// What a walk says that stops at an offset.
+// The result of a walk that stops at an offset.
 fn stopped(step: Step, at: usize) -> Walked
     ensures { λ r. ⌜ r ≡ walkedOf (onStep (λ next. broken) at step) ⌝ }
 {
@@ -121,6 +123,7 @@ fn walk_from(p: &[u8], first: usize, least: usize, tail: usize) -> Walked
 }
 
 // The walk over the fields of a V4 packet.
+// promise: 7.5
 pub fn packet_walk(p: &[u8]) -> Walked
     ensures { λ r. ⌜ r ≡ walkedOf (packetWalk (now (p .entry))) ⌝ }
 {
@@ -128,6 +131,7 @@ pub fn packet_walk(p: &[u8]) -> Walked
 }
 
 // The walk over decrypted fields.
+// promise: 7.5
 pub fn decrypted_walk(p: &[u8]) -> Walked
     ensures { λ r. ⌜ r ≡ walkedOf (decryptedWalk (now (p .entry))) ⌝ }
 {
@@ -135,6 +139,7 @@ pub fn decrypted_walk(p: &[u8]) -> Walked
 }
 
 // Whether `end` is the packet's first place, a place where a field starts, or the place where the walk ends; a broken walk has none.
+// promise: 7.6
 pub fn is_place(p: &[u8], end: usize) -> bool
     ensures { λ r. ⌜ r ≡ isPlace (now (p .entry)) end ⌝ }
 {

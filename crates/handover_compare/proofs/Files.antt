@@ -1,4 +1,5 @@
--- The list of two files is empty exactly when the two loaded records are equal; and two files that have the capacity, and nothing of the retired kind, are then one file.
+-- The list of two files is empty exactly when the two loaded records are equal; and two files that have the capacity, and nothing of the retired kind, are
+-- then one file.
 -- Assumes nothing.
 use Prim.Native.Nat.{ℕ, _+_, _^_}
 use mathlib.Core.Path.{_≡_, refl, sym, ap, _∙_}
@@ -72,6 +73,7 @@ module _ (f : List ℕ) (y : Bytes f) where
 
 -- ---- two files that are read
 
+-- promise: no10.3 (of any two files of bytes that load)
 pub empty-list : (f g : List ℕ) → Bytes f → Bytes g → loadNumber (loadOf f .answer) ≡ 0 → loadNumber (loadOf g .answer) ≡ 0
     → (listOf (loadOf f .association) (loadOf g .association) ≡ []) ↔ (loadOf f .association ≡ loadOf g .association)
 empty-list f g y z a b =
@@ -80,6 +82,7 @@ empty-list f g y z a b =
     empty-exactly (loadOf f .association) (loadOf g .association) (l .whole) (r .whole) (held-loaded f y a) (held-loaded g z b) (l .nothing ∙ sym (r .nothing))
 
 -- and two files with a capacity, of which neither answer says that the retired kind was there, are then byte for byte the same
+-- promise: no10.3 (two files with a capacity and nothing retired are then the same, byte for byte)
 pub same-file : (f g : List ℕ) → Bytes f → Bytes g → bodyLength f ≡ 27 → bodyLength g ≡ 27 → loadOf f .answer ≡ Loaded false → loadOf g .answer ≡ Loaded false
     → listOf (loadOf f .association) (loadOf g .association) ≡ [] → f ≡ g
 same-file f g y z m n a b e = one-file f g y z m n a b (empty-list f g y z (ap loadNumber a) (ap loadNumber b) .0 e)

@@ -22,7 +22,8 @@ pub differing-append : (xs ys : List Field) → differing (xs ++ ys) ≡ differi
 differing-append [] ys = refl
 differing-append (x ∷ xs) ys = go (differing-append xs ys) (x .same)
   where
-    go : differing (xs ++ ys) ≡ differing xs ++ differing ys → (t : Bool) → cond t (differing (xs ++ ys)) (x ∷ differing (xs ++ ys)) ≡ cond t (differing xs) (x ∷ differing xs) ++ differing ys
+    go : differing (xs ++ ys) ≡ differing xs ++ differing ys → (t : Bool) →
+        cond t (differing (xs ++ ys)) (x ∷ differing (xs ++ ys)) ≡ cond t (differing xs) (x ∷ differing xs) ++ differing ys
     go rest true = rest
     go rest false = ap (λ (l : List Field). x ∷ l) rest
 
@@ -49,7 +50,11 @@ module _ (f : Field) where
     none-counted = sym (ap length left-out)
 
     pub none-put : (out : List ℕ) (at : ℕ) → Put out at (listBytes (differing (f ∷ []))) at out
-    none-put out at = record { ends = omega (arith, none-counted, list-long (differing (f ∷ []))); leaves = sym (ap (λ (l : List Field). laidAt out at (listBytes l)) left-out ∙ laid-none out at) }
+    none-put out at = record {
+      ends = omega (arith, none-counted, list-long (differing (f ∷ [])));
+      leaves = sym
+          (ap (λ (l : List Field). laidAt out at (listBytes l)) left-out ∙ laid-none out at);
+    }
 
   module _ (e : f .same ≡ false) where
     taken : differing (f ∷ []) ≡ f ∷ []
@@ -82,7 +87,8 @@ module _ (fs : List Field) (n i : ℕ) (c : Counting fs n i) where
   count-next d k h l e m =
       let one = getD fs i d ∷ [] in
       let s : length (differing (drop i fs)) ≡ length (differing one) + length (differing (drop (i + 1) fs))
-      = ap (λ (l : List Field). length (differing l)) (next-field fs i d (omega arith)) ∙ ap length (differing-append one (drop (i + 1) fs)) ∙ length-append (differing one) (differing (drop (i + 1) fs)) in
+      = ap (λ (l : List Field). length (differing l)) (next-field fs i d (omega arith)) ∙ ap length (differing-append one (drop (i + 1) fs))
+      ∙ length-append (differing one) (differing (drop (i + 1) fs)) in
       record { few = omega (arith, c .few); within = omega arith; sum = omega (arith, c .sum, s) }
 
   pub counted : length fs ≡ 8 → 8 ≤ i → (n ≡ length (differing fs)) × (n ≤ 8)
@@ -91,13 +97,15 @@ module _ (fs : List Field) (n i : ℕ) (c : Counting fs n i) where
       (omega (arith, c .sum, z), omega (arith, c .few, c .within))
 
 -- five groups are all fields
-pub sum-groups : (g : Groups) (s m r c t : ℕ) → s ≡ length (differing (g .settings)) → m ≡ length (differing (g .capacity ∷ [])) → r ≡ length (differing (g .read ∷ [])) → c ≡ length (differing (g .cookies)) → t ≡ length (differing (g .state))
+pub sum-groups : (g : Groups) (s m r c t : ℕ) → s ≡ length (differing (g .settings)) → m ≡ length (differing (g .capacity ∷ [])) →
+    r ≡ length (differing (g .read ∷ [])) → c ≡ length (differing (g .cookies)) → t ≡ length (differing (g .state))
     → s + m + r + c + t ≡ length (differing (allOf g))
 sum-groups g s m r c t es em er ec et =
     let tail = g .cookies ++ g .state in
     let rest = (g .read ∷ []) ++ tail in
     let e₀ : length (differing (allOf g)) ≡ length (differing (g .settings)) + length (differing ((g .capacity ∷ []) ++ rest))
-    = ap length (differing-append (g .settings) ((g .capacity ∷ []) ++ rest)) ∙ length-append (differing (g .settings)) (differing ((g .capacity ∷ []) ++ rest)) in
+    = ap length (differing-append (g .settings) ((g .capacity ∷ []) ++ rest))
+    ∙ length-append (differing (g .settings)) (differing ((g .capacity ∷ []) ++ rest)) in
     let e₁ : length (differing ((g .capacity ∷ []) ++ rest)) ≡ length (differing (g .capacity ∷ [])) + length (differing rest)
     = ap length (differing-append (g .capacity ∷ []) rest) ∙ length-append (differing (g .capacity ∷ [])) (differing rest) in
     let e₂ : length (differing ((g .read ∷ []) ++ tail)) ≡ length (differing (g .read ∷ [])) + length (differing tail)
@@ -169,11 +177,20 @@ groups-long g =
     let r = listBytes (differing (g .read ∷ [])) in
     let c = listBytes (differing (g .cookies)) in
     let t = listBytes (differing (g .state)) in
-    omega (arith, ap length (groups-told g), length-append s (m ++ (r ++ (c ++ t))), length-append m (r ++ (c ++ t)), length-append r (c ++ t), length-append c t)
+    omega (
+      arith,
+      ap length (groups-told g),
+      length-append s (m ++ (r ++ (c ++ t))),
+      length-append m (r ++ (c ++ t)),
+      length-append r
+          (c ++ t),
+      length-append c t,
+    )
 
 -- written one behind the other they are the list
 pub groups-put : {out o p q u left : List ℕ} {h i j k n : ℕ} (g : Groups) → length (listBytes (differing (allOf g))) ≤ length out
-    → Put out 0 (listBytes (differing (g .settings))) h o → Put o h (listBytes (differing (g .capacity ∷ []))) i p → Put p i (listBytes (differing (g .read ∷ []))) j q
+    → Put out 0 (listBytes (differing (g .settings))) h o → Put o h (listBytes (differing (g .capacity ∷ []))) i p →
+    Put p i (listBytes (differing (g .read ∷ []))) j q
     → Put q j (listBytes (differing (g .cookies))) k u → Put u k (listBytes (differing (g .state))) n left
     → Put out 0 (listBytes (differing (allOf g))) n left
 groups-put {out = out} {left = left} {n = n} g fits z a b c d =

@@ -1,4 +1,5 @@
--- Each number of the comparison is given exactly under its rule (specs/Numbers.antt), with that rule's answer and buffer; and the buffer with which 71 is never given.
+-- Each number of the comparison is given exactly under its rule (specs/Numbers.antt), with that rule's answer and buffer; and the buffer with which 71 is
+-- never given.
 -- Assumes nothing.
 use Prim.Native.Nat.{ℕ, _*_, _≤_, _<_}
 use mathlib.Core.Path.{_≡_, refl, sym, ap, subst, _∙_}
@@ -19,7 +20,18 @@ use Rattle.handover_compare.specs.declared.CompareAnswer.{CompareAnswer}
 use Rattle.handover_compare.specs.declared.CompareAnswer.the-variants as says
 use Rattle.handover_compare.specs.Answer.{compareNumber}
 use Rattle.handover_compare.specs.Answers.{toldIn, writtenIn, onLoad, ifLoaded, rightOf, rightOut, compareOf, outOf}
-use Rattle.handover_compare.specs.Numbers.{list, CompareGiven, left-mark, left-length, left-none, right-mark, right-length, right-none, short-buffer, listed}
+use Rattle.handover_compare.specs.Numbers.{
+  list,
+  CompareGiven,
+  left-mark,
+  left-length,
+  left-none,
+  right-mark,
+  right-length,
+  right-none,
+  short-buffer,
+  listed,
+}
 
 -- a number of reading names its answer
 answer-61 : (x : LoadAnswer) → loadNumber x ≡ 61 → x ≡ WrongMark
@@ -62,7 +74,8 @@ module _ (f g out : List ℕ) where
   given-by (Loaded said) WrongMark t a b c = right-mark (ap loadNumber a) (ap loadNumber b)
   given-by (Loaded said) WrongLength t a b c = right-length (ap loadNumber a) (ap loadNumber b)
   given-by (Loaded said) NoAssociation t a b c = right-none (ap loadNumber a) (ap loadNumber b)
-  given-by (Loaded said) (Loaded also) true a b c = short-buffer (ap loadNumber a) (ap loadNumber b) (ltb-true (length out) (length (listBytes (list f g out))) c)
+  given-by (Loaded said) (Loaded also) true a b c = short-buffer (ap loadNumber a) (ap loadNumber b)
+      (ltb-true (length out) (length (listBytes (list f g out))) c)
   given-by (Loaded said) (Loaded also) false a b c = listed (ap loadNumber a) (ap loadNumber b) (ltb-false (length out) (length (listBytes (list f g out))) c)
 
   abbrev fits : Bool
@@ -76,16 +89,20 @@ module _ (f g out : List ℕ) where
   unfolding outOf rightOut writtenIn
   out-by = refl
 
+  -- promise: no10.5
   pub compare-given : CompareGiven f g out (compareNumber (compareOf f g (length out))) (compareOf f g (length out)) (outOf f g out)
   compare-given =
       subst (λ (x : CompareAnswer). CompareGiven f g out (compareNumber x) x (outOf f g out)) (sym answer-by)
-      (subst (CompareGiven f g out (compareNumber (answerBy (loadOf f .answer) (loadOf g .answer) fits)) (answerBy (loadOf f .answer) (loadOf g .answer) fits)) (sym out-by)
+      (subst (CompareGiven f g out (compareNumber (answerBy (loadOf f .answer) (loadOf g .answer) fits)) (answerBy (loadOf f .answer) (loadOf g .answer) fits))
+      (sym out-by)
       (given-by (loadOf f .answer) (loadOf g .answer) fits refl refl refl))
 
-  only-by : (x y : LoadAnswer) (t : Bool) → loadOf f .answer ≡ x → loadOf g .answer ≡ y → fits ≡ t → (compareOf f g (length out) ≡ answerBy x y t) × (outOf f g out ≡ outBy x y t)
+  only-by : (x y : LoadAnswer) (t : Bool) → loadOf f .answer ≡ x → loadOf g .answer ≡ y → fits ≡ t → (compareOf f g (length out) ≡ answerBy x y t) ×
+      (outOf f g out ≡ outBy x y t)
   only-by x y t a b c = (answer-by ∙ (λ i. answerBy (a i) (b i) (c i)), out-by ∙ (λ i. outBy (a i) (b i) (c i)))
 
   -- and no other is given
+  -- promise: no10.5
   pub compare-only : {n : ℕ} {x : CompareAnswer} {left : List ℕ} → CompareGiven f g out n x left → (compareOf f g (length out) ≡ x) × (outOf f g out ≡ left)
   compare-only (left-mark a) = only-by WrongMark (loadOf g .answer) fits (answer-61 _ a) refl refl
   compare-only (left-length a) = only-by WrongLength (loadOf g .answer) fits (answer-62 _ a) refl refl
@@ -93,8 +110,10 @@ module _ (f g out : List ℕ) where
   compare-only (right-mark a b) = only-by (Loaded (answer-0 (loadOf f .answer) a .0)) WrongMark fits (answer-0 (loadOf f .answer) a .1) (answer-61 _ b) refl
   compare-only (right-length a b) = only-by (Loaded (answer-0 (loadOf f .answer) a .0)) WrongLength fits (answer-0 (loadOf f .answer) a .1) (answer-62 _ b) refl
   compare-only (right-none a b) = only-by (Loaded (answer-0 (loadOf f .answer) a .0)) NoAssociation fits (answer-0 (loadOf f .answer) a .1) (answer-63 _ b) refl
-  compare-only (short-buffer a b h) = only-by (Loaded (answer-0 (loadOf f .answer) a .0)) (Loaded (answer-0 (loadOf g .answer) b .0)) true (answer-0 (loadOf f .answer) a .1) (answer-0 (loadOf g .answer) b .1) (lt-ltb _ _ h)
-  compare-only (listed a b h) = only-by (Loaded (answer-0 (loadOf f .answer) a .0)) (Loaded (answer-0 (loadOf g .answer) b .0)) false (answer-0 (loadOf f .answer) a .1) (answer-0 (loadOf g .answer) b .1) (le-ltb _ _ h)
+  compare-only (short-buffer a b h) = only-by (Loaded (answer-0 (loadOf f .answer) a .0)) (Loaded (answer-0 (loadOf g .answer) b .0)) true
+      (answer-0 (loadOf f .answer) a .1) (answer-0 (loadOf g .answer) b .1) (lt-ltb _ _ h)
+  compare-only (listed a b h) = only-by (Loaded (answer-0 (loadOf f .answer) a .0)) (Loaded (answer-0 (loadOf g .answer) b .0)) false
+      (answer-0 (loadOf f .answer) a .1) (answer-0 (loadOf g .answer) b .1) (le-ltb _ _ h)
 
   numbered : {n : ℕ} {x : CompareAnswer} {left : List ℕ} → CompareGiven f g out n x left → compareNumber x ≡ n
   numbered (left-mark a) = refl
@@ -106,6 +125,7 @@ module _ (f g out : List ℕ) where
   numbered (short-buffer a b h) = refl
   numbered (listed a b h) = refl
 
+  -- promise: no10.5
   pub compare-number : (n : ℕ) → (compareNumber (compareOf f g (length out)) ≡ n) ↔ ((x : CompareAnswer) × (left : List ℕ) × CompareGiven f g out n x left)
   compare-number n = (
     (λ e. (compareOf f g (length out), outOf f g out, subst (λ (k : ℕ). CompareGiven f g out k (compareOf f g (length out)) (outOf f g out)) e compare-given)),
@@ -113,10 +133,12 @@ module _ (f g out : List ℕ) where
   )
 
   -- no list has more than 494 bytes
+  -- promise: no10.6
   pub longest-list : length (listBytes (list f g out)) ≤ 494
   longest-list = omega (arith, list-long (list f g out), at-most (loadOf f .association) (loadOf g .association))
 
   -- so that with a buffer of 494 bytes 71 is never given
+  -- promise: no10.6
   pub room-enough : 494 ≤ length out → compareNumber (compareOf f g (length out)) ≡ 71 → ⊥
   room-enough h e = go (compare-number 71 .0 e .2)
     where

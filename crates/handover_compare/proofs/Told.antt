@@ -37,7 +37,8 @@ use Rattle.handover_compare.specs.Answers.{toldIn, writtenIn, onLoad, if
 pub of-body : (s : Settings) (q : State) (b : List ℕ) → Bytes b → stashFits b ≡ true → stashKnown (s .capacity) b ≡ true → Of (madeOf s q b) s q b
 of-body s q b y f k = record { bytes = y; fits = f; known = k; is = refl }
 
-module _ {a b : Association} {l r : Settings} {p q : State} {left right : List ℕ} (m : Of a l p left) (n : Of b r q right) (out : List ℕ) (g : Groups) (e : g ≡ groupsIn l p left r q right) where
+module _ {a b : Association} {l r : Settings} {p q : State} {left right : List ℕ} (m : Of a l p left) (n : Of b r q right) (out : List ℕ) (g : Groups)
+    (e : g ≡ groupsIn l p left r q right) where
   list-is : differing (allOf g) ≡ listOf a b
   unfolding listOf
   list-is = ap (λ (x : Groups). differing (allOf x)) e ∙ ap differing (all-fields m n)
@@ -58,11 +59,13 @@ module _ {a b : Association} {l r : Settings} {p q : State} {left right : List �
         let t = lt-ltb (length out) (length (listBytes (listOf a b))) (omega (arith, long)) in
         (rw t, rw t)
 
-    pub listed-by : 19 * k ≤ length out → (to : ℕ) (after : List ℕ) → Put out 0 (listBytes (differing (allOf g))) to after → (Listed k ≡ toldIn a b (length out)) × (after ≡ writtenIn a b out)
+    pub listed-by : 19 * k ≤ length out → (to : ℕ) (after : List ℕ) → Put out 0 (listBytes (differing (allOf g))) to after →
+        (Listed k ≡ toldIn a b (length out)) × (after ≡ writtenIn a b out)
     unfolding toldIn writtenIn
     listed-by h to after put =
         let t = le-ltb (length out) (length (listBytes (listOf a b))) (omega (arith, long)) in
-        let w : after ≡ over (listBytes (listOf a b)) out = put .leaves ∙ laid-over out (listBytes (differing (allOf g))) ∙ ap (λ (l : List Field). over (listBytes l) out) list-is in
+        let w : after ≡ over (listBytes (listOf a b)) out = put .leaves ∙ laid-over out (listBytes (differing (allOf g)))
+        ∙ ap (λ (l : List Field). over (listBytes l) out) list-is in
         (rw t (λ i. Listed (count-is i)), rw t w)
 
 -- ---- two files

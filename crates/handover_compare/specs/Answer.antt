@@ -4,7 +4,7 @@ use Prim.Native.Nat.{ℕ}
 use Rattle.handover_compare.specs.declared.CompareAnswer.{CompareAnswer}
 use Rattle.handover_compare.specs.declared.CompareAnswer.the-variants.{Listed, WrongMark, WrongLength, NoAssociation, ShortBuffer}
 
--- 0: listed; 61, 62, 63: those of reading a file, of the side that is named; 71: the buffer is shorter than the list
+-- 0: listed; 61, 62, 63: the numbers of reading the file on the named side; 71: the buffer is shorter than the list
 abbrev pub compareNumber : CompareAnswer → ℕ
 compareNumber (Listed n) = 0
 compareNumber (WrongMark s) = 61

@@ -17,17 +17,17 @@ use Rattle.handover_compare.specs.declared.CompareAnswer.the-variants as
 
 -- ---- two records
 
--- 71 where the output cannot hold the list
+-- 71 if the buffer is shorter than the list
 unfoldable pub toldIn : Association → Association → ℕ → CompareAnswer
 toldIn a b room = cond (ltb room (length (listBytes (listOf a b)))) says.ShortBuffer (says.Listed (length (listOf a b)))
 
--- the list from the start of the buffer, what lies past it untouched; nothing is written with 71
+-- the list at the start of the buffer, and what follows it unchanged; with 71 nothing is written
 unfoldable pub writtenIn : Association → Association → List ℕ → List ℕ
 writtenIn a b out = cond (ltb (length out) (length (listBytes (listOf a b)))) out (over (listBytes (listOf a b)) out)
 
 -- ---- two files
 
--- a file that is refused decides, with the number of reading it; of a file with the retired kind what is loaded counts (RULES, No. 14)
+-- a rejected file decides, with the number of reading it; a file with the retired kind counts as it is loaded (RULES, No. 14)
 abbrev pub onLoad : Side → LoadAnswer → CompareAnswer → CompareAnswer
 onLoad s (Loaded said) x = x
 onLoad s WrongMark x = says.WrongMark s
@@ -49,8 +49,11 @@ unfoldable pub rightOut : Association → List ℕ → List ℕ → List ℕ
 rightOut a g out = ifLoaded (loadOf g .answer) (writtenIn a (loadOf g .association) out) out
 
 -- the left file first
+-- promise no10.5: The comparison rejects with the numbers of No. 6, left file first, then with 71. It then writes nothing.
+--     edit: handover_compare/a_short_buffer_is_filled
 unfoldable pub compareOf : List ℕ → List ℕ → ℕ → CompareAnswer
 compareOf f g room = onLoad Left (loadOf f .answer) (rightOf (loadOf f .association) g room)
 
+-- promise: no10.5
 unfoldable pub outOf : List ℕ → List ℕ → List ℕ → List ℕ
 outOf f g out = ifLoaded (loadOf f .answer) (rightOut (loadOf f .association) g out) out

@@ -1,4 +1,4 @@
--- The association that settings, a state and the body of a stash's record are.
+-- The association that is made of settings, a state and the body of a stash's record.
 -- Assumes nothing.
 use Prim.Native.Nat.{ℕ}
 use mathlib.Core.List.{List}

@@ -1,4 +1,4 @@
--- RULES, No. 10: when comparing two files gives each number, and which answer and buffer come with it.
+-- RULES, No. 10: when comparing two files returns each number, and with which answer and buffer.
 -- Assumes nothing.
 use Prim.Native.Nat.{ℕ, _≤_, _<_}
 use mathlib.Core.Path.{_≡_}
@@ -16,7 +16,8 @@ module _ (f g : List ℕ) (out : List ℕ) where
   abbrev pub list : List Field
   list = listOf (loadOf f .association) (loadOf g .association)
 
-  -- the numbers of reading are given of the left file, and of the right one where the left is loaded
+  -- the numbers of reading are those of the left file, or of the right one if the left one is loaded
+  -- promise: no10.5
   pub data CompareGiven : ℕ → CompareAnswer → List ℕ → Type 0 where
     left-mark : loadNumber (loadOf f .answer) ≡ 61 → CompareGiven 61 (WrongMark Left) out
     left-length : loadNumber (loadOf f .answer) ≡ 62 → CompareGiven 62 (WrongLength Left) out
@@ -24,6 +25,7 @@ module _ (f g : List ℕ) (out : List ℕ) where
     right-mark : loadNumber (loadOf f .answer) ≡ 0 → loadNumber (loadOf g .answer) ≡ 61 → CompareGiven 61 (WrongMark Right) out
     right-length : loadNumber (loadOf f .answer) ≡ 0 → loadNumber (loadOf g .answer) ≡ 62 → CompareGiven 62 (WrongLength Right) out
     right-none : loadNumber (loadOf f .answer) ≡ 0 → loadNumber (loadOf g .answer) ≡ 63 → CompareGiven 63 (NoAssociation Right) out
-    short-buffer : loadNumber (loadOf f .answer) ≡ 0 → loadNumber (loadOf g .answer) ≡ 0 → length out < length (listBytes list) → CompareGiven 71 ShortBuffer out
+    short-buffer : loadNumber (loadOf f .answer) ≡ 0 → loadNumber (loadOf g .answer) ≡ 0 → length out < length (listBytes list) →
+        CompareGiven 71 ShortBuffer out
     listed : loadNumber (loadOf f .answer) ≡ 0 → loadNumber (loadOf g .answer) ≡ 0 → length (listBytes list) ≤ length out
         → CompareGiven 0 (Listed (length list)) (over (listBytes list) out)

@@ -1,5 +1,5 @@
-// Two hand-over files side by side, each read where it lies: every field in which the two boxes differ, as a list of bytes.
-// Promises: the list is empty exactly when the two loaded records are equal; a refusal of the left file comes before one of the right; after one nothing is written.
+// Compares two hand-over files, each read in place: every field in which the two boxes differ, as a list of bytes.
+// Promises: the list is empty exactly when the two loaded records are equal; the left file is rejected before the right one; a rejected call writes nothing.
 // Rule: RULES, No. 10; the fields are defined in `compare_fields`, the answers in specs/Answers.antt, number by number in specs/Numbers.antt.
 use association::Settings;
 use association::State;
@@ -31,7 +31,7 @@ pub enum Side {
     Right,
 }
 
-// What comparing answers: how many entries the list has; which file was refused, and why; or that the buffer is shorter than the list.
+// What comparing answers: how many entries the list has; which file was rejected, and why; or that the buffer is shorter than the list.
 pub enum CompareAnswer {
     Listed(usize),
     WrongMark(Side),
@@ -42,6 +42,7 @@ pub enum CompareAnswer {
 
 impl CompareAnswer {
     // The number of the answer, in RULES.
+    // promise: no10.5
     pub fn number(self) -> u8
         ensures { λ r. ⌜ r ≡ compareNumber self ⌝ }
     {
@@ -55,7 +56,7 @@ impl CompareAnswer {
     }
 }
 
-// How many entries a field has: one where it differs.
+// How many entries a field has: one if it differs, otherwise none.
 fn entries_of(f: Field) -> usize
     ensures { λ r. ⌜ (r ≡ length (differing (f ∷ []))) × (r ≤ 1) ⌝ }
 {
@@ -117,7 +118,7 @@ fn entry(f: Field) -> [u8; 19]
     ]
 }
 
-// The entry of a field, where it differs.
+// Writes the entry of a field, if it differs.
 fn put_field(out: &mut [u8], at: usize, f: Field) -> usize
     requires { ⌜ at + length (listBytes (differing (f ∷ []))) ≤ length (now out) ⌝ }
     ensures { λ r. ⌜ Put (now (out .entry)) at (listBytes (differing (f ∷ []))) r (now (out .exit)) ⌝ }
@@ -129,7 +130,7 @@ fn put_field(out: &mut [u8], at: usize, f: Field) -> usize
     handover_save::lay(out, at, &e)
 }
 
-// The entries of eight fields.
+// Writes the entries of eight fields.
 fn put_eight(out: &mut [u8], at: usize, fields: [Field; 8]) -> usize
     requires { ⌜ at + length (listBytes (differing fields)) ≤ length (now out) ⌝ }
     ensures { λ r. ⌜ Put (now (out .entry)) at (listBytes (differing fields)) r (now (out .exit)) ⌝ }
@@ -143,7 +144,7 @@ fn put_eight(out: &mut [u8], at: usize, fields: [Field; 8]) -> usize
     to
 }
 
-// The whole list, from the start of the buffer.
+// Writes the whole list to the start of the buffer.
 fn put_list(out: &mut [u8], g: Groups) -> usize
     requires { ⌜ length (listBytes (differing (allOf g))) ≤ length (now out) ⌝ }
     ensures { λ r. ⌜ Put (now (out .entry)) 0 (listBytes (differing (allOf g))) r (now (out .exit)) ⌝ }
@@ -170,7 +171,8 @@ fn compare_found(
     right: &[u8],
     out: &mut [u8],
 ) -> CompareAnswer
-    requires { ⌜ (stashFits (now left) ≡ true) × (stashKnown (l .capacity) (now left) ≡ true) × (stashFits (now right) ≡ true) × (stashKnown (r .capacity) (now right) ≡ true) ⌝ }
+    requires { ⌜ (stashFits (now left) ≡ true) × (stashKnown (l .capacity) (now left) ≡ true) × (stashFits (now right) ≡ true) ×
+        (stashKnown (r .capacity) (now right) ≡ true) ⌝ }
     ensures { λ x. ⌜ (x ≡ toldIn (madeOf l p (now (left .entry))) (madeOf r q (now (right .entry))) (length (now (out .entry))))
         × (now (out .exit) ≡ writtenIn (madeOf l p (now (left .entry))) (madeOf r q (now (right .entry))) (now (out .entry))) ⌝ }
 {
@@ -212,8 +214,10 @@ fn compare_right(l: Settings, p: State, left: &[u8], right: &[u8], out: &mut [u8
 }
 
 // Compares two files. The left one is read first.
+// promise: no10.1, no10.5
 pub fn compare(left: &[u8], right: &[u8], out: &mut [u8]) -> CompareAnswer
-    ensures { λ x. ⌜ (x ≡ compareOf (now (left .entry)) (now (right .entry)) (length (now (out .entry)))) × (now (out .exit) ≡ outOf (now (left .entry)) (now (right .entry)) (now (out .entry))) ⌝ }
+    ensures { λ x. ⌜ (x ≡ compareOf (now (left .entry)) (now (right .entry)) (length (now (out .entry)))) ×
+        (now (out .exit) ≡ outOf (now (left .entry)) (now (right .entry)) (now (out .entry))) ⌝ }
 {
     let found = handover_read::read(left);
     let answer = found.answer;

@@ -41,7 +41,8 @@ module _ (f : List ℕ) (at m : ℕ) where
 
   pub view : View (placeAt f at m)
   unfolding placeAt
-  view = go (ltb (length f) at) (ltb (length f - at) 2) (eqb (be (part f at 2)) m) (ltb (length f - at) 4) (ltb (length f - at - 4) (lengthAt f at)) refl refl refl
+  view = go (ltb (length f) at) (ltb (length f - at) 2) (eqb (be (part f at 2)) m) (ltb (length f - at) 4)
+      (ltb (length f - at - 4) (lengthAt f at)) refl refl refl
     where
       go : (s t u v w : Bool) → ltb (length f) at ≡ s → ltb (length f - at) 4 ≡ v → ltb (length f - at - 4) (lengthAt f at) ≡ w
           → View (cond s Short (cond t Short (cond u (cond v Short (cond w Short (Body (at + 4) (at + 4 + lengthAt f at)))) Other)))

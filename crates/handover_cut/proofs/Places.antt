@@ -31,7 +31,8 @@ module _ (f : List ℕ) (at m : ℕ) (h : at ≤ length f) where
   mark-is : be (part (drop at f) 0 2) ≡ be (part f at 2)
   mark-is = let e : at + 0 ≡ at = omega arith in ap be (part-of-drop f at 0 2 ∙ ap (λ (k : ℕ). part f k 2) e)
 
-  body-is : body (part (drop at f) 4 (bodyLength (drop at f))) (drop (4 + bodyLength (drop at f)) (drop at f)) ≡ foundIn f (Body (at + 4) (at + 4 + lengthAt f at))
+  body-is : body (part (drop at f) 4 (bodyLength (drop at f))) (drop (4 + bodyLength (drop at f)) (drop at f))
+      ≡ foundIn f (Body (at + 4) (at + 4 + lengthAt f at))
   body-is =
       let n = lengthAt f at in
       let e : at + (4 + n) ≡ at + 4 + n = omega arith in
@@ -47,4 +48,5 @@ module _ (f : List ℕ) (at m : ℕ) (h : at ≤ length f) where
       (through (foundIn f) (eqb (be (part f at 2)) m) _ Other
       ∙ ap (λ (x : Found). cond (eqb (be (part f at 2)) m) x other)
       (through (foundIn f) (ltb (length f - at) 4) Short _
-      ∙ ap (cond (ltb (length f - at) 4) short) (through (foundIn f) (ltb (length f - at - 4) (lengthAt f at)) Short (Body (at + 4) (at + 4 + lengthAt f at)))))))
+      ∙ ap (cond (ltb (length f - at) 4) short)
+      (through (foundIn f) (ltb (length f - at - 4) (lengthAt f at)) Short (Body (at + 4) (at + 4 + lengthAt f at)))))))

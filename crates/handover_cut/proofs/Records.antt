@@ -43,7 +43,8 @@ module _ (f : List ℕ) (at i : ℕ) (h : at ≤ length f) (k : i < 6) where
     pub ends-unfit : shapeAt i .fits (part f start (end - start)) ≡ false → stopOf (cutAs (drop i shapes) (drop at f)) ≡ Missized
     ends-unfit u = ap stopOf (from ∙ step-unfit f at h (shapeAt i) (drop (i + 1) shapes) start end e u)
 
-    pub goes-on : shapeAt i .fits (part f start (end - start)) ≡ true → stopOf (cutAs (drop i shapes) (drop at f)) ≡ stopOf (cutAs (drop (i + 1) shapes) (drop end f))
+    pub goes-on : shapeAt i .fits (part f start (end - start)) ≡ true →
+        stopOf (cutAs (drop i shapes) (drop at f)) ≡ stopOf (cutAs (drop (i + 1) shapes) (drop end f))
     goes-on u = ap stopOf (from ∙ step-body f at h (shapeAt i) (drop (i + 1) shapes) start end e u) ∙ stop-before _ (cutAs (drop (i + 1) shapes) (drop end f))
 
 -- all six are read

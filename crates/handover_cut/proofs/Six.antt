@@ -1,4 +1,5 @@
--- Where the bodies of a file lie that has its six records: the settings say how long they are, all behind the stash's body has a fixed length, so the file's length says the rest.
+-- Where the bodies of a file lie that has its six records: the settings say how long they are, all behind the stash's body has a fixed length, so the file's
+-- length says the rest.
 -- Assumes nothing.
 use Prim.Native.Nat.{ℕ, _+_, _-_, _≤_}
 use mathlib.Core.Path.{_≡_, refl, sym, ap, _∙_}
@@ -34,7 +35,8 @@ isGood missized = 0
 bad : (c : Cut) (bs : List (List ℕ)) {A : Type 0} → isGood c ≡ 0 → c ≡ bodies bs → A
 bad c bs z e = let o : _≡_ {A = ℕ} 0 1 = sym z ∙ ap isGood e in absurd (omega arith)
 
-cond-good : (t : Bool) (b : List ℕ) (c : Cut) (bs : List (List ℕ)) → cond t (before b c) missized ≡ bodies bs → (t ≡ true) × (c ≡ bodies (listOf c)) × (bs ≡ b ∷ listOf c)
+cond-good : (t : Bool) (b : List ℕ) (c : Cut) (bs : List (List ℕ)) → cond t (before b c) missized ≡ bodies bs → (t ≡ true) × (c ≡ bodies (listOf c)) ×
+    (bs ≡ b ∷ listOf c)
 cond-good true b (bodies cs) bs e = (refl, refl, sym (ap listOf e))
 cond-good true b misplaced bs e = bad misplaced bs refl e
 cond-good true b missized bs e = bad missized bs refl e
@@ -141,7 +143,8 @@ record Starts (long k z₀ z₁ z₂ z₃ z₄ : ℕ) : Type 0 where
   sixth : 0 + 4 + z₀ + 4 + z₁ + 4 + z₂ + 4 + z₃ + 4 + z₄ + 4 ≡ long - 28 + 22
 
 starts : (long k z₀ z₁ z₂ z₃ z₄ z₅ : ℕ) → z₀ ≡ k → z₂ ≡ 2 → z₃ ≡ 2 → z₄ ≡ 2 → z₅ ≡ 6
-    → 0 + 4 + z₀ + 4 + z₁ + 4 + z₂ + 4 + z₃ + 4 + z₄ + 4 + z₅ ≤ long → long ≤ 0 + 4 + z₀ + 4 + z₁ + 4 + z₂ + 4 + z₃ + 4 + z₄ + 4 + z₅ → Starts long k z₀ z₁ z₂ z₃ z₄
+    → 0 + 4 + z₀ + 4 + z₁ + 4 + z₂ + 4 + z₃ + 4 + z₄ + 4 + z₅ ≤ long → long ≤ 0 + 4 + z₀ + 4 + z₁ + 4 + z₂ + 4 + z₃ + 4 + z₄ + 4 + z₅ →
+    Starts long k z₀ z₁ z₂ z₃ z₄
 starts long k z₀ z₁ z₂ z₃ z₄ z₅ s₀ s₂ s₃ s₄ s₅ least most =
     record {
       most = omega arith;
@@ -184,6 +187,7 @@ six f g =
     let b₅ : part f (a₅ + 4) (r₅ .size) ≡ part f (e + 22) 6 = part-same f (p .sixth) s₅ in
     record {
       long = p .most;
-      cuts = stop-good (cutAs shapes f) g ∙ ap bodies (linked (r₀ .is) b₀ (linked (r₁ .is) b₁ (linked (r₂ .is) b₂ (linked (r₃ .is) b₃ (linked (r₄ .is) b₄ (linked (r₅ .is) b₅ (l .0)))))));
+      cuts = stop-good (cutAs shapes f) g ∙ ap bodies
+          (linked (r₀ .is) b₀ (linked (r₁ .is) b₁ (linked (r₂ .is) b₂ (linked (r₃ .is) b₃ (linked (r₄ .is) b₄ (linked (r₅ .is) b₅ (l .0)))))));
       stash = sym (ap stashFits b₁) ∙ r₁ .fits;
     }

@@ -21,14 +21,18 @@ use Rattle.handover_cut.proofs.Places.{through, part-of-drop}
 
 -- ---- no matter how many cookies may be read, as long as they are enough
 
-turn-same : (f g : List ℕ → Run) (l : List ℕ) → (2 ≤ length l → f (drop (2 + stored (lenOf l)) l) ≡ g (drop (2 + stored (lenOf l)) l)) → runTurn f l ≡ runTurn g l
+turn-same : (f g : List ℕ → Run) (l : List ℕ) → (2 ≤ length l → f (drop (2 + stored (lenOf l)) l) ≡ g (drop (2 + stored (lenOf l)) l)) →
+    runTurn f l ≡ runTurn g l
 turn-same f g l h = go (ltb (length l) 2) refl
   where
     go : (t : Bool) → ltb (length l) 2 ≡ t
-        → cond (eqb (length l) 0) (whole []) (cond t broken (cond (ltb (length l - 2) (stored (lenOf l))) broken (ahead (firstOf l) (f (drop (2 + stored (lenOf l)) l)))))
-        ≡ cond (eqb (length l) 0) (whole []) (cond t broken (cond (ltb (length l - 2) (stored (lenOf l))) broken (ahead (firstOf l) (g (drop (2 + stored (lenOf l)) l)))))
+        → cond (eqb (length l) 0) (whole []) (cond t broken
+        (cond (ltb (length l - 2) (stored (lenOf l))) broken (ahead (firstOf l) (f (drop (2 + stored (lenOf l)) l)))))
+        ≡ cond (eqb (length l) 0) (whole []) (cond t broken
+        (cond (ltb (length l - 2) (stored (lenOf l))) broken (ahead (firstOf l) (g (drop (2 + stored (lenOf l)) l)))))
     go true e = refl
-    go false e = ap (λ (r : Run). cond (eqb (length l) 0) (whole []) (cond (ltb (length l - 2) (stored (lenOf l))) broken (ahead (firstOf l) r))) (h (ltb-false (length l) 2 e))
+    go false e = ap (λ (r : Run). cond (eqb (length l) 0) (whole []) (cond (ltb (length l - 2) (stored (lenOf l))) broken (ahead (firstOf l) r)))
+        (h (ltb-false (length l) 2 e))
 
 enough : (n m : ℕ) (l : List ℕ) → length l ≤ n → length l ≤ m → runN n l ≡ runN m l
 enough zero zero l h k = refl
@@ -43,7 +47,8 @@ unfolding runOf
 turn l =
     enough (length l) (suc (length l)) l (omega arith) (omega arith)
     ∙ turn-same (λ (r : List ℕ). runN (length l) r) (λ (r : List ℕ). runN (length r) r) l
-    (λ e. let d = length-drop (2 + stored (lenOf l)) l in enough (length l) (length (drop (2 + stored (lenOf l)) l)) (drop (2 + stored (lenOf l)) l) (omega arith) (omega arith))
+    (λ e. let d = length-drop (2 + stored (lenOf l)) l in
+    enough (length l) (length (drop (2 + stored (lenOf l)) l)) (drop (2 + stored (lenOf l)) l) (omega arith) (omega arith))
 
 -- ---- at an offset
 
@@ -56,7 +61,8 @@ module _ (b : List ℕ) (at : ℕ) where
   unfolding firstOf
   first-is = rw (len-is, part-of-drop b at 2 (stored (wordAt b at)))
 
-  one-is : ahead (firstOf (drop at b)) (runOf (drop (2 + stored (lenOf (drop at b))) (drop at b))) ≡ onHeld b (One (wordAt b at) (at + 2) (at + 2 + stored (wordAt b at)))
+  one-is : ahead (firstOf (drop at b)) (runOf (drop (2 + stored (lenOf (drop at b))) (drop at b)))
+      ≡ onHeld b (One (wordAt b at) (at + 2) (at + 2 + stored (wordAt b at)))
   one-is =
       let n = stored (wordAt b at) in
       let e : at + (2 + n) ≡ at + 2 + n = omega arith in
@@ -90,7 +96,8 @@ module _ (b : List ℕ) (at : ℕ) where
       go false true u v e f g = end
       go false false true v e f g = bad
       go false false false true e f g = bad
-      go false false false false e f g = one (omega (arith, ltb-false (length b) at e, ltb-false (length b - at) 2 f, ltb-false (length b - at - 2) (stored (wordAt b at)) g))
+      go false false false false e f g = one (omega
+          (arith, ltb-false (length b) at e, ltb-false (length b - at) 2 f, ltb-false (length b - at - 2) (stored (wordAt b at)) g))
 
   pub one-within : (len start stop : ℕ) → heldAt b at ≡ One len start stop → (at + 2 ≤ stop) × (start ≤ stop) × (stop - start ≡ stored len) × (stop ≤ length b)
   one-within len start stop e = go len start stop (subst View e view)

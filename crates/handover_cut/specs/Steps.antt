@@ -39,7 +39,7 @@ foundIn f (Body start end) = body (part f start (end - start)) (drop end f)
 foundIn f Other = other
 foundIn f Short = short
 
--- the record that is due, by its place in the order
+-- the expected record, by its place in the order
 unfoldable pub shapeAt : ℕ → Shape
 shapeAt i = getD shapes i (record { mark = 0; fits = λ b. false })
 

@@ -1,5 +1,5 @@
-// The reader's way through the hand-over file: its records one by one, in their order, and the cookies in the stash's body.
-// Promises: of any bytes whether all six records are there and nothing else, or which of a wrong mark (61) and a wrong length (62) is the first in the file.
+// Finds the records of the hand-over file one by one, in their order, and the cookies in the stash's body.
+// Promises: for any bytes, whether all six records are there and nothing else, or which of a wrong mark (61) and a wrong length (62) comes first in the file.
 // Rule: RULES, No. 6 and No. 12; the file is defined in `handover_file`, the steps at an offset in specs/Steps.antt.
 ghost use mathlib.Core.Path.{_≡_};
 ghost use mathlib.Core.Bool.{_||_};
@@ -23,22 +23,21 @@ const POLLS_MARK: u16 = 0x504F;
 
 const SOURCE_MARK: u16 = 0x534F;
 
-// How many bytes the settings have; those of a file of before, which has no capacity, have one less.
+// How many bytes the settings have. A file from before No. 12 has no capacity, so its settings have one byte less.
 const SETTINGS_LENGTH: usize = 27;
 
 const OLD_LENGTH: usize = 26;
 
-// How many records a file has.
 const RECORDS: usize = 6;
 
-// What stands at an offset of a file: a record's body, from start and before end; another mark; or bytes are missing.
+// What is at an offset of a file: a record's body, from start to before end; another mark; or too few bytes.
 enum Place {
     Body { start: usize, end: usize },
     Other,
     Short,
 }
 
-// What stands at an offset of the stash's body: a cookie's length, and its stored bytes from start and before end; nothing more; or neither.
+// What is at an offset of the stash's body: a cookie's length, and its stored bytes from start to before end; the end of the body; or something broken.
 pub enum Held {
     One { len: u16, start: usize, end: usize },
     End,
@@ -52,7 +51,7 @@ pub enum Stop {
     Missized,
 }
 
-// The record that stands at an offset, where its mark is the one that is due.
+// The record at an offset, if its mark is the expected one.
 fn place_at(f: &[u8], at: usize, mark: u16) -> Place
     ensures { λ r. ⌜ r ≡ placeAt (now (f .entry)) at mark ⌝ }
 {
@@ -80,7 +79,7 @@ fn place_at(f: &[u8], at: usize, mark: u16) -> Place
     }
 }
 
-// The cookie that stands at an offset of the stash's body.
+// The cookie at an offset of the stash's body.
 pub fn held_at(b: &[u8], at: usize) -> Held
     ensures { λ r. ⌜ r ≡ heldAt (now (b .entry)) at ⌝ }
 {
@@ -107,7 +106,7 @@ pub fn held_at(b: &[u8], at: usize) -> Held
     }
 }
 
-// Whether a body has the reading place, and its cookies end with it.
+// Whether a body has the reading place, and its cookies end where the body ends.
 fn stash_fits(b: &[u8]) -> bool
     ensures { λ r. ⌜ r ≡ stashFits (now (b .entry)) ⌝ }
 {
@@ -157,7 +156,7 @@ fn mark_of(i: usize) -> u16
     SOURCE_MARK
 }
 
-// Whether so many bytes are settings.
+// Whether settings may have so many bytes.
 fn settings_fit(n: usize) -> bool
     ensures { λ r. ⌜ r ≡ (eqb n 27 || eqb n 26) ⌝ }
 {
@@ -167,7 +166,7 @@ fn settings_fit(n: usize) -> bool
     n == OLD_LENGTH
 }
 
-// Whether a body is one of that record.
+// Whether a body fits the record at this place in the order.
 fn fits(i: usize, b: &[u8]) -> bool
     requires { ⌜ i < 6 ⌝ }
     ensures { λ r. ⌜ r ≡ shapeAt i .fits (now (b .entry)) ⌝ }
@@ -184,7 +183,8 @@ fn fits(i: usize, b: &[u8]) -> bool
     b.len() == 2
 }
 
-// The records one by one, in their order, and nothing behind them.
+// Reads the records one by one, in their order; nothing may follow them.
+// promise: no6.7, no12.5
 pub fn cut(f: &[u8]) -> Stop
     ensures { λ r. ⌜ r ≡ stopOf (cutAs shapes (now (f .entry))) ⌝ }
 {

@@ -1,4 +1,5 @@
--- A file that has the capacity and nothing of the retired kind, and is read with 0, is the file that the loaded record writes, so no two of them load as one record; a file of before, without the capacity, is read
+-- A file that has the capacity and nothing of the retired kind, and is read with 0, is the file that the loaded record writes, so no two of them load as one
+-- record; a file of before, without the capacity, is read
 -- as the file with 8 is; and a loaded record is whole, with nothing pending.
 -- Assumes nothing.
 use Prim.Native.Nat.{ℕ, zero, suc, _+_}
@@ -141,10 +142,14 @@ module _ (f : List ℕ) (y : Bytes f) where
         nothing = nothing-in bs;
       }
 
+  -- promise no6.5: A file with a capacity that is read with 0, and with nothing retired (No. 14), is the file that the loaded record writes. So no two of
+  --     these load as one record.
+  -- promise: no6.5 (its `file`, `whole`, `nothing`), no8.1
   pub loads : loadNumber (loadOf f .answer) ≡ 0 → Loads f (loadOf f)
   loads z = loads-by (load-given f y) z
 
 -- no two files with a capacity and nothing of the retired kind load as one record
+-- promise: no6.5, no12.6 (of all that is read and has the byte, with nothing retired: No. 14)
 pub one-file : (f g : List ℕ) → Bytes f → Bytes g → bodyLength f ≡ 27 → bodyLength g ≡ 27 → loadOf f .answer ≡ Loaded false → loadOf g .answer ≡ Loaded false →
     loadOf f .association ≡ loadOf g .association → f ≡ g
 one-file f g y z m n a b e = sym (loads f y (ap loadNumber a) .file m a) ∙ ap fileOf e ∙ loads g z (ap loadNumber b) .file n b
@@ -171,6 +176,7 @@ module _ (b : List ℕ) (bs : List (List ℕ)) (n : length b ≡ 26) where
       (g .0, omega arith, fits-new (b ++ (8 ∷ [])) l, g .3)
 
   -- it is read as the file with 8 is: the same answer, and the same record
+  -- promise: no12.5 (it loads as the file with an 8 after its settings)
   pub old-file : Fitting shapes (b ∷ bs) → loadOf (joined shapes (b ∷ bs)) ≡ loadOf (joined shapes ((b ++ (8 ∷ [])) ∷ bs))
   unfolding loadOf
   old-file g = ap onCut (cut-joined shapes (b ∷ bs) g) ∙ loads-same ∙ sym (ap onCut (cut-joined shapes ((b ++ (8 ∷ [])) ∷ bs) (more-fits g)))

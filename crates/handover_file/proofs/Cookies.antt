@@ -140,7 +140,8 @@ all-keep : (xs : List Slot) → AllWhole xs → AllKeep (map seen xs)
 all-keep [] w = tt
 all-keep (x ∷ xs) w = (seen-keeps x (w .0), all-keep xs (w .1))
 
-walk-whole : (cap : ℕ) (xs : List Slot) → ((k : ℕ) → k < length xs → WholeSlot (slotAt xs k)) → cap ≤ length xs → (at n : ℕ) → at < cap → AllWhole (walk cap xs at n)
+walk-whole : (cap : ℕ) (xs : List Slot) → ((k : ℕ) → k < length xs → WholeSlot (slotAt xs k)) → cap ≤ length xs → (at n : ℕ) → at < cap →
+    AllWhole (walk cap xs at n)
 walk-whole cap xs each h at zero l = tt
 walk-whole cap xs each h at (suc n) l = (each at (omega arith), walk-whole cap xs each h (wrap cap (at + 1)) n (next-lt cap at l))
 
@@ -162,7 +163,8 @@ map-append [] x = refl
 map-append (y ∷ xs) x = ap (λ (l : List Cookie). seen y ∷ l) (map-append xs x)
 
 module _ (cap : ℕ) where
-  pub put-held : (s : CookieStash) (x : Slot) → s .held < cap → (putOf cap s x .read ≡ s .read) × (putOf cap s x .held ≡ s .held + 1) × (length (putOf cap s x .slots) ≡ length (s .slots))
+  pub put-held : (s : CookieStash) (x : Slot) → s .held < cap → (putOf cap s x .read ≡ s .read) × (putOf cap s x .held ≡ s .held + 1) ×
+      (length (putOf cap s x .slots) ≡ length (s .slots))
   unfolding putOf full
   put-held s x l = (rw (lt-leb cap (s .held) l), rw (lt-leb cap (s .held) l), length-set (s .slots) (wrap cap (s .read + s .held)) x)
 
@@ -173,7 +175,8 @@ module _ (cap : ℕ) where
       ∙ map-append (queue cap s) (slotFor c)
       ∙ ap (λ (d : Cookie). map seen (queue cap s) ++ (d ∷ [])) (seen-slot c k)
 
-pub laid : (cap : ℕ) (cs : List Cookie) → AllKeep cs → (s : CookieStash) → Whole cap s → length (s .slots) ≡ 8 → s .held + length cs ≤ cap → Laid cap s (laidIn cap s cs) cs
+pub laid : (cap : ℕ) (cs : List Cookie) → AllKeep cs → (s : CookieStash) → Whole cap s → length (s .slots) ≡ 8 → s .held + length cs ≤ cap →
+    Laid cap s (laidIn cap s cs) cs
 laid cap [] a s w n h = record { whole = w; eight = n; reads = refl; holds = sym (append-nil (cookies cap s)) }
 laid cap (c ∷ cs) a s w n h =
     let l : s .held < cap = omega arith in
@@ -315,7 +318,8 @@ view f l = go (eqb (length l) 0) (ltb (length l) 2) (ltb (length l - 2) (stored 
     go true t u a b c = end (eqb-true (length l) 0 a)
     go false true u a b c = bad
     go false false true a b c = bad
-    go false false false a b c = one (f (drop (2 + stored (lenOf l)) l)) (omega (arith, ltb-false (length l) 2 b, ltb-false (length l - 2) (stored (lenOf l)) c)) refl
+    go false false false a b c = one (f (drop (2 + stored (lenOf l)) l))
+        (omega (arith, ltb-false (length l) 2 b, ltb-false (length l - 2) (stored (lenOf l)) c)) refl
 
 -- cookies that are written as the bytes were
 record Again (l : List ℕ) (cs : List Cookie) : Type 0 where
@@ -346,7 +350,8 @@ module _ (l : List ℕ) (y : Bytes l) (h : 2 + stored (lenOf l) ≤ length l) wh
 bytes-drop : (n : ℕ) (l : List ℕ) → Bytes l → Bytes (drop n l)
 bytes-drop n l y i = rw getD-drop (y (n + i))
 
-again-one : (f : List ℕ → Run) (l : List ℕ) → Bytes l → (r : Run) → View f l r → AgainIf (drop (2 + stored (lenOf l)) l) (f (drop (2 + stored (lenOf l)) l)) → AgainIf l r
+again-one : (f : List ℕ → Run) (l : List ℕ) → Bytes l → (r : Run) → View f l r → AgainIf (drop (2 + stored (lenOf l)) l) (f (drop (2 + stored (lenOf l)) l)) →
+    AgainIf l r
 again-one f l y _ (end e) a = record { keep = tt; same = sym (length-zero l e) }
 again-one f l y _ (one (whole cs) h e) a =
     let b : Again (drop (2 + stored (lenOf l)) l) cs = subst (AgainIf (drop (2 + stored (lenOf l)) l)) e a in
@@ -369,7 +374,8 @@ module _ (cap : ℕ) (b : List ℕ) (y : Bytes b) (f : stashFits b ≡ true) (k 
   unfolding stashFits
   place-first =
       elim (ℕ-discrete (length b) 0) [
-        | yes e ↦ let z : _≡_ {A = Bool} false true = sym (ap (λ (t : Bool). cond t false (isRun (runOf (drop 1 b)))) (eq-eqb (length b) 0 e)) ∙ f in absurd (clash z)
+        | yes e ↦ let z : _≡_ {A = Bool} false true = sym (ap (λ (t : Bool). cond t false (isRun (runOf (drop 1 b)))) (eq-eqb (length b) 0 e)) ∙ f in
+            absurd (clash z)
         | no e ↦ (omega arith, sym (ap (λ (t : Bool). cond t false (isRun (runOf (drop 1 b)))) (ne-eqb (length b) 0 e)) ∙ f)
       ]
 

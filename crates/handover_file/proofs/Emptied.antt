@@ -26,6 +26,7 @@ idle-emptied false read held uid e =
     let h = both (eqb held 0) (zeros uid) (r .1) in
     passes _ (r .0) ∙ h .1
 
+-- promise: no6.2, no8.1
 pub emptied-whole : (a : Association) → Whole a → Whole (emptied a)
 unfolding emptied emptyAt
 emptied-whole a w =
@@ -39,12 +40,16 @@ emptied-whole a w =
     }
 
 -- its cookies are gone, and nothing else: the reading place, the settings and the state are as they were
+-- promise: no6.2
 pub emptied-holds : (a : Association) →
-    (cookies (a .settings .capacity) (emptied a .stash) ≡ []) × (emptied a .stash .read ≡ a .stash .read) × (emptied a .settings ≡ a .settings) × (emptied a .state ≡ a .state)
+    (cookies (a .settings .capacity) (emptied a .stash) ≡ []) × (emptied a .stash .read ≡ a .stash .read) × (emptied a .settings ≡ a .settings) ×
+    (emptied a .state ≡ a .state)
 unfolding cookies queue emptied emptyAt
 emptied-holds a = (refl, refl, refl, refl)
 
 -- what is loaded from the file has exactly the cookies that the association had, and what is handed back has none: a cookie has one owner
-pub cookies-go : (a : Association) → Whole a → Fit a → let cap = a .settings .capacity in (cookies cap (loadOf (fileOf a) .association .stash) ≡ cookies cap (a .stash)) × (cookies cap (emptied a .stash) ≡ [])
+-- promise: no6.2 (the loaded association has exactly the cookies, the returned one none)
+pub cookies-go : (a : Association) → Whole a → Fit a → let cap = a .settings .capacity in
+    (cookies cap (loadOf (fileOf a) .association .stash) ≡ cookies cap (a .stash)) × (cookies cap (emptied a .stash) ≡ [])
 unfolding unsent
 cookies-go a w f = (ap (λ (o : LoadOut). cookies (a .settings .capacity) (o .association .stash)) (read-file a w f), emptied-holds a .0)

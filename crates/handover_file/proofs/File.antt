@@ -1,4 +1,5 @@
--- A written file is read as its record with nothing sent; apart from the pending request two whole records are equal exactly when their files are; and how long a file may be.
+-- A written file is read as its record with nothing sent; apart from the pending request two whole records are equal exactly when their files are; and how
+-- long a file may be.
 -- Assumes nothing.
 use Prim.Native.Nat.{ℕ, _+_, _*_, _^_, _≤_, _<_}
 use mathlib.Core.Path.{_≡_, refl, sym, ap, _∙_}
@@ -20,7 +21,19 @@ use Rattle.association.specs.Whole.{Whole}
 use Rattle.association.proofs.Whole.{of-whole, none-retired}
 use Rattle.handover_groups.specs.Settings.{settingsBytes, settingsOf}
 use Rattle.handover_groups.proofs.OfSettings.{SettingsFit, settings-back, settings-known, settings-long}
-use Rattle.handover_groups.proofs.OfState.{PollsFit, effort-back, effort-long, version-back, version-known, version-long, polls-back, polls-long, source-back, source-known, source-long}
+use Rattle.handover_groups.proofs.OfState.{
+  PollsFit,
+  effort-back,
+  effort-long,
+  version-back,
+  version-known,
+  version-long,
+  polls-back,
+  polls-long,
+  source-back,
+  source-known,
+  source-long,
+}
 use Rattle.handover_file.specs.declared.LoadAnswer.the-variants.{Loaded}
 use Rattle.handover_file.specs.declared.LoadOut.{LoadOut}
 use Rattle.handover_file.specs.Sections.{Fitting}
@@ -146,22 +159,35 @@ module _ (a : Association) (w : Whole a) (f : Fit a) where
   unfolding answers.loadIn
   loaded =
       let u = unsent-whole a w in
-      rw (known-back, record-back, settled-same (unsent a) (none-retired (unsent a) u), of-whole (unsent a) u, retired-none (unsent a) (none-retired (unsent a) u))
+      rw (
+        known-back,
+        record-back,
+        settled-same (unsent a) (none-retired (unsent a) u),
+        of-whole (unsent a) u,
+        retired-none (unsent a)
+            (none-retired (unsent a) u),
+      )
 
   -- reading a written file gives the record as it was, with nothing sent, and with nothing of the retired kind
+  -- promise no12.6: The equality of No. 6 is over files with the byte of the capacity.
+  -- promise: no6.3, no8.8
   pub read-file : answers.loadOf (fileOf a) ≡ answers.loaded (Loaded false) (unsent a)
   unfolding answers.loadOf fileOf
   read-file = ap answers.onCut (cut-joined shapes (partsOf a) fitting) ∙ loaded
 
   -- no file is longer: over the capacity, and for any
+  -- promise: no6.9
   pub file-most : length (fileOf a) ≤ 64 + 726 * a .settings .capacity
   file-most = omega (arith, file-length a, stash-most (a .settings .capacity) (a .stash) (w .stash) (f .eight))
 
+  -- promise no6.9: The longest file has 5,872 bytes, and with that buffer 60 is never given. For a capacity it has 64 bytes and 726 for each slot.
   pub file-longest : length (fileOf a) ≤ 5872
   file-longest = omega (arith, file-most, w .stash .most)
 
 -- and one is as long: that of as many cookies as the capacity that fill their slots
-pub file-as-long : (a : Association) → Whole a → a .stash .held ≡ a .settings .capacity → AllFill (cookies (a .settings .capacity) (a .stash)) → length (fileOf a) ≡ 64 + 726 * a .settings .capacity
+-- promise: no6.9
+pub file-as-long : (a : Association) → Whole a → a .stash .held ≡ a .settings .capacity → AllFill (cookies (a .settings .capacity) (a .stash)) →
+    length (fileOf a) ≡ 64 + 726 * a .settings .capacity
 file-as-long a w h f = omega (arith, file-length a, stash-longest (a .settings .capacity) (a .stash) (w .stash) h f)
 
 same-record : (a b : Association) → Whole a → Fit a → Whole b → Fit b → fileOf a ≡ fileOf b → unsent a ≡ unsent b
@@ -175,5 +201,7 @@ same-file : (a b : Association) → unsent a ≡ unsent b → fileOf a ≡ fileO
 same-file a b e = sym (request-unwritten a) ∙ ap fileOf e ∙ request-unwritten b
 
 -- apart from the request, records are equal exactly where their files are
+-- promise no6.4: Apart from the pending request and `answered`, records are equal exactly when their files are.
+-- promise: no8.8, no12.6 (of all that is written)
 pub equal-files : (a b : Association) → Whole a → Fit a → Whole b → Fit b → (unsent a ≡ unsent b) ↔ (fileOf a ≡ fileOf b)
 equal-files a b v f w g = (same-file a b, same-record a b v f w g)

@@ -82,5 +82,6 @@ its-length : length (fileOf longest) ≡ 5872
 unfolding longest freshOf nts-settings
 its-length = file-as-long longest longest-whole eight-held all-filled
 
+-- promise: no6.9 (one is as long)
 pub longest-there : (a : Association) × Whole a × (length (fileOf a) ≡ 5872)
 longest-there = (longest, longest-whole, its-length)

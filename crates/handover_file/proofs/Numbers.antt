@@ -20,8 +20,37 @@ use Rattle.handover_file.specs.Sections.{Shape, Cut, missized, cutAs}
 use Rattle.handover_file.specs.File.{shapes, fileOf, known, recordIn, settled}
 use Rattle.handover_file.specs.Answers.{saveNumber, saveOf, loadNumber, onCut, loadOf}
 use Rattle.handover_file.specs.Numbers as N
-use Rattle.handover_file.specs.Numbers.{SaveGiven, not-whole, short-buffer, written, Faulty, no-mark, no-length, no-body, unfit, Begins, LoadGiven, wrong-mark, wrong-length, left-over, no-association, association}
-use Rattle.handover_file.proofs.Sections.{behind, cut-prefix, cut-joined, cut-none, cut-mark, cut-length, cut-body, cut-unfit, cut-over, behind-misplaced, behind-missized}
+use Rattle.handover_file.specs.Numbers.{
+  SaveGiven,
+  not-whole,
+  short-buffer,
+  written,
+  Faulty,
+  no-mark,
+  no-length,
+  no-body,
+  unfit,
+  Begins,
+  LoadGiven,
+  wrong-mark,
+  wrong-length,
+  left-over,
+  no-association,
+  association,
+}
+use Rattle.handover_file.proofs.Sections.{
+  behind,
+  cut-prefix,
+  cut-joined,
+  cut-none,
+  cut-mark,
+  cut-length,
+  cut-body,
+  cut-unfit,
+  cut-over,
+  behind-misplaced,
+  behind-missized,
+}
 use Rattle.handover_file.proofs.Outcome.{Marked, Outcome, all, over, mark, fault, outcome}
 use Rattle.handover_file.proofs.Settled.{load-tests}
 use Rattle.handover_file.proofs.File.{Fit, file-longest}
@@ -32,6 +61,7 @@ module _ (a : Association) (room : ℕ) where
   abbrev SaveTold : SaveOut → Type 0
   SaveTold o = SaveGiven a room (saveNumber (o .answer)) o
 
+  -- promise: no6.6
   pub save-given : SaveTold (saveOf a room)
   unfolding saveOf
   save-given =
@@ -40,6 +70,7 @@ module _ (a : Association) (room : ℕ) where
       not-whole
 
   -- and no other is given
+  -- promise: no6.6
   pub save-only : {n : ℕ} {o : SaveOut} → SaveGiven a room n o → saveOf a room ≡ o
   unfolding saveOf
   save-only (not-whole w) = rw w
@@ -51,6 +82,7 @@ module _ (a : Association) (room : ℕ) where
   save-numbered (short-buffer w s) = refl
   save-numbered (written w s) = refl
 
+  -- promise: no6.6
   pub save-number : (n : ℕ) → (saveNumber (saveOf a room .answer) ≡ n) ↔ ((o : SaveOut) × SaveGiven a room n o)
   save-number n = (
     (λ e. (saveOf a room, subst (λ (k : ℕ). SaveGiven a room k (saveOf a room)) e save-given)),
@@ -58,6 +90,7 @@ module _ (a : Association) (room : ℕ) where
   )
 
 -- with a buffer of 5,872 bytes 60 is never given
+-- promise: no6.9
 pub room-enough : (a : Association) → Fit a → (room : ℕ) → 5872 ≤ room → Whole a → saveNumber (saveOf a room .answer) ≡ 60 → ⊥
 room-enough a f room h w e = go (save-number a room 60 .0 e .1)
   where
@@ -89,16 +122,19 @@ module _ (f : List ℕ) where
   LoadTold o = LoadGiven f (loadNumber (o .answer)) o
 
   told : (c : Cut) → Outcome shapes f c → LoadTold (onCut c)
-  told _ (all bs g e) = subst LoadTold (sym (load-tests bs)) (either LoadTold (known bs && wholeOf (settled (recordIn bs))) (association bs g e) (no-association bs g e))
+  told _ (all bs g e) = subst LoadTold (sym (load-tests bs))
+      (either LoadTold (known bs && wholeOf (settled (recordIn bs))) (association bs g e) (no-association bs g e))
   told _ (over bs l g h) = left-over bs l g h
   told _ (mark ps ts s bs l e g h d) = wrong-mark ps ts s bs l e g h d
   told _ (fault ps ts s bs l e g x) = wrong-length ps ts s bs l e g x
 
   -- of a file of bytes
+  -- promise: no6.7
   pub load-given : Bytes f → LoadTold (loadOf f)
   unfolding loadOf
   load-given y = told (cutAs shapes f) (outcome shapes marked f y)
 
+  -- promise: no6.7
   pub load-only : {n : ℕ} {o : LoadOut} → LoadGiven f n o → loadOf f ≡ o
   unfolding loadOf
   load-only (wrong-mark ss ts s bs l e g h d) = ap onCut (after f ss (s ∷ ts) e bs l g ∙ ap (behind bs) (cut-mark s ts l h d) ∙ behind-misplaced bs)
@@ -114,6 +150,7 @@ module _ (f : List ℕ) where
   load-numbered (no-association bs g e w) = refl
   load-numbered (association bs g e w) = refl
 
+  -- promise: no6.7
   pub load-number : Bytes f → (n : ℕ) → (loadNumber (loadOf f .answer) ≡ n) ↔ ((o : LoadOut) × LoadGiven f n o)
   load-number y n = (
     (λ e. (loadOf f, subst (λ (k : ℕ). LoadGiven f k (loadOf f)) e (load-given y))),

@@ -11,7 +11,25 @@ use lib.ListN.{length, drop}
 use lib.Seq.{getD-drop}
 use Rattle.words.specs.Bytes.{be, part, toBe}
 use Rattle.words.proofs.Bytes.{Bytes, toBe-be, bytes-part, be-below, length-part, part-drop}
-use Rattle.handover_file.specs.Sections.{Shape, recordOf, joined, Fitting, Found, body, other, short, bodyLength, found, Cut, bodies, misplaced, missized, before, onFound, cutAs}
+use Rattle.handover_file.specs.Sections.{
+  Shape,
+  recordOf,
+  joined,
+  Fitting,
+  Found,
+  body,
+  other,
+  short,
+  bodyLength,
+  found,
+  Cut,
+  bodies,
+  misplaced,
+  missized,
+  before,
+  onFound,
+  cutAs,
+}
 use Rattle.handover_file.specs.Numbers.{Faulty, no-mark, no-length, no-body, unfit, Begins}
 
 -- ---- one record
@@ -47,7 +65,8 @@ module _ (s : Shape) (l : List ℕ) (y : Bytes l) (h : 4 ≤ length l) (m : be (
   unfolding recordOf bodyLength
   written =
       let a : toBe 2 (s .mark) ≡ part l 0 2 = ap (toBe 2) (sym m) ∙ toBe-be 2 (part l 0 2) (bytes-part l 0 2 y) (length-part l 0 2 (omega arith)) in
-      let b : toBe 2 (length (part l 4 (bodyLength l))) ≡ part l 2 2 = ap (toBe 2) body-long ∙ toBe-be 2 (part l 2 2) (bytes-part l 2 2 y) (length-part l 2 2 (omega arith)) in
+      let b : toBe 2 (length (part l 4 (bodyLength l))) ≡ part l 2 2 = ap (toBe 2) body-long
+      ∙ toBe-be 2 (part l 2 2) (bytes-part l 2 2 y) (length-part l 2 2 (omega arith)) in
       let c = part l 4 (bodyLength l) in
       let d = drop (4 + bodyLength l) l in
       append-assoc (toBe 2 (s .mark)) (toBe 2 (length c) ++ c) d
@@ -69,10 +88,12 @@ Marked (s ∷ ss) = (s .mark < 65536) × Marked ss
 pub data Outcome (ss : List Shape) (f : List ℕ) : Cut → Type 0 where
   all : (bs : List (List ℕ)) → Fitting ss bs → f ≡ joined ss bs → Outcome ss f (bodies bs)
   over : (bs : List (List ℕ)) (l : List ℕ) → Begins f ss bs l → 0 < length l → Outcome ss f missized
-  mark : (ps ts : List Shape) (s : Shape) (bs : List (List ℕ)) (l : List ℕ) → ss ≡ ps ++ (s ∷ ts) → Begins f ps bs l → 2 ≤ length l → (be (part l 0 2) ≡ s .mark → ⊥) → Outcome ss f misplaced
+  mark : (ps ts : List Shape) (s : Shape) (bs : List (List ℕ)) (l : List ℕ) → ss ≡ ps ++ (s ∷ ts) → Begins f ps bs l → 2 ≤ length l →
+      (be (part l 0 2) ≡ s .mark → ⊥) → Outcome ss f misplaced
   fault : (ps ts : List Shape) (s : Shape) (bs : List (List ℕ)) (l : List ℕ) → ss ≡ ps ++ (s ∷ ts) → Begins f ps bs l → Faulty s l → Outcome ss f missized
 
-module _ (s : Shape) (ss : List Shape) (m : s .mark < 65536) (b r f : List ℕ) (n : length b ≤ 65535) (t : s .fits b ≡ true) (w : recordOf (s .mark) b ++ r ≡ f) where
+module _ (s : Shape) (ss : List Shape) (m : s .mark < 65536) (b r f : List ℕ) (n : length b ≤ 65535) (t : s .fits b ≡ true)
+    (w : recordOf (s .mark) b ++ r ≡ f) where
   longer : (ps : List Shape) (bs : List (List ℕ)) (l : List ℕ) → Begins r ps bs l → Begins f (s ∷ ps) (b ∷ bs) l
   longer ps bs l g =
       record {
@@ -104,14 +125,17 @@ outcome [] k f y = go (eqb (length f) 0) refl
     go false e = over [] f (starts f) (positive (length f) (eqb-false (length f) 0 e))
 outcome (s ∷ ss) k f y = go (found (s .mark) f) (view s f) (outcome ss (k .1) (drop (4 + bodyLength f) f) (bytes-drop (4 + bodyLength f) f y))
   where
-    fitted : (h : 4 ≤ length f) (m : be (part f 0 2) ≡ s .mark) (n : bodyLength f ≤ length f - 4) → Outcome ss (drop (4 + bodyLength f) f) (cutAs ss (drop (4 + bodyLength f) f))
+    fitted : (h : 4 ≤ length f) (m : be (part f 0 2) ≡ s .mark) (n : bodyLength f ≤ length f - 4) →
+        Outcome ss (drop (4 + bodyLength f) f) (cutAs ss (drop (4 + bodyLength f) f))
         → (t : Bool) → s .fits (part f 4 (bodyLength f)) ≡ t
         → Outcome (s ∷ ss) f (cond t (before (part f 4 (bodyLength f)) (cutAs ss (drop (4 + bodyLength f) f))) missized)
     fitted h m n o true e =
-        behind s ss (k .0) (part f 4 (bodyLength f)) (drop (4 + bodyLength f) f) f (body-short s f y h m n) e (written s f y h m n) (cutAs ss (drop (4 + bodyLength f) f)) o
+        behind s ss (k .0) (part f 4 (bodyLength f)) (drop (4 + bodyLength f) f) f (body-short s f y h m n) e (written s f y h m n)
+        (cutAs ss (drop (4 + bodyLength f) f)) o
     fitted h m n o false e = fault [] ss s [] f refl (starts f) (unfit h m n e)
 
-    go : (x : Found) → View s f x → Outcome ss (drop (4 + bodyLength f) f) (cutAs ss (drop (4 + bodyLength f) f)) → Outcome (s ∷ ss) f (onFound (s .fits) (λ (r : List ℕ). cutAs ss r) x)
+    go : (x : Found) → View s f x → Outcome ss (drop (4 + bodyLength f) f) (cutAs ss (drop (4 + bodyLength f) f)) →
+        Outcome (s ∷ ss) f (onFound (s .fits) (λ (r : List ℕ). cutAs ss r) x)
     go _ (there h m n) o = fitted h m n o (s .fits (part f 4 (bodyLength f))) refl
     go _ (else h d) o = mark [] ss s [] f refl (starts f) h d
     go _ (less x) o = fault [] ss s [] f refl (starts f) x

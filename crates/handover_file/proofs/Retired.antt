@@ -44,7 +44,8 @@ same-in bs cs k e = rw k (by (known cs))
     by true = same-as (recordIn bs) (recordIn cs) e
     by false = (refl, refl)
 
-alike : (bs cs : List (List ℕ)) → Fitting shapes bs → Fitting shapes cs → known bs ≡ known cs → settled (recordIn bs) ≡ settled (recordIn cs) → Alike (joined shapes bs) (joined shapes cs)
+alike : (bs cs : List (List ℕ)) → Fitting shapes bs → Fitting shapes cs → known bs ≡ known cs → settled (recordIn bs) ≡ settled (recordIn cs) →
+    Alike (joined shapes bs) (joined shapes cs)
 unfolding loadOf
 alike bs cs f g k e =
     let s = same-in bs cs k e in
@@ -60,9 +61,11 @@ module _ (settings stash effort polls source : List ℕ) where
   abbrev pub spoken : List ℕ → List (List ℕ)
   spoken version = settings ∷ stash ∷ effort ∷ version ∷ polls ∷ source ∷ []
 
-  pub retired-version : (tries : ℕ) → Fitting shapes (spoken (1 ∷ tries ∷ [])) → Alike (joined shapes (spoken (1 ∷ tries ∷ []))) (joined shapes (spoken (0 ∷ 0 ∷ [])))
+  pub retired-version : (tries : ℕ) → Fitting shapes (spoken (1 ∷ tries ∷ [])) →
+      Alike (joined shapes (spoken (1 ∷ tries ∷ []))) (joined shapes (spoken (0 ∷ 0 ∷ [])))
   unfolding known recordIn settled settledState versionOf versionKnown
-  retired-version tries f = alike (spoken (1 ∷ tries ∷ [])) (spoken (0 ∷ 0 ∷ [])) f (f .0, f .1, f .2, (f .3 .0, f .3 .1, f .3 .2, (f .3 .3 .0, f .3 .3 .1, f .3 .3 .2, (f .3 .3 .3 .0, f .3 .3 .3 .1, refl, f .3 .3 .3 .3)))) refl refl
+  retired-version tries f = alike (spoken (1 ∷ tries ∷ [])) (spoken (0 ∷ 0 ∷ [])) f
+      (f .0, f .1, f .2, (f .3 .0, f .3 .1, f .3 .2, (f .3 .3 .0, f .3 .3 .1, f .3 .3 .2, (f .3 .3 .3 .0, f .3 .3 .3 .1, refl, f .3 .3 .3 .3)))) refl refl
 
 -- as many elements as there are
 listed : ℕ → List ℕ → List ℕ
@@ -86,7 +89,8 @@ module _ (stash effort version polls source : List ℕ) where
   unfolding known settingsOf settingsKnown listed
   start-known a tries rest h = rw (listed-is 19 a h)
 
-  start-settled : (a : List ℕ) (tries : ℕ) (rest : List ℕ) → length a ≡ 19 → settled (recordIn (started (a ++ 1 ∷ tries ∷ rest))) ≡ settled (recordIn (started (a ++ 0 ∷ 0 ∷ rest)))
+  start-settled : (a : List ℕ) (tries : ℕ) (rest : List ℕ) → length a ≡ 19 →
+      settled (recordIn (started (a ++ 1 ∷ tries ∷ rest))) ≡ settled (recordIn (started (a ++ 0 ∷ 0 ∷ rest)))
   unfolding recordIn settled settledSettings settingsOf listed part
   start-settled a tries rest h = rw (listed-is 19 a h)
 
@@ -94,4 +98,5 @@ module _ (stash effort version polls source : List ℕ) where
       Alike (joined shapes (started (a ++ 1 ∷ tries ∷ rest))) (joined shapes (started (a ++ 0 ∷ 0 ∷ rest)))
   retired-start a tries rest h f =
       let n : length (a ++ 0 ∷ 0 ∷ rest) ≡ length (a ++ 1 ∷ tries ∷ rest) = length-append a (0 ∷ 0 ∷ rest) ∙ sym (length-append a (1 ∷ tries ∷ rest)) in
-      alike (started (a ++ 1 ∷ tries ∷ rest)) (started (a ++ 0 ∷ 0 ∷ rest)) f (f .0, rw n (f .1), rw n (f .2), f .3) (start-known a tries rest h) (start-settled a tries rest h)
+      alike (started (a ++ 1 ∷ tries ∷ rest)) (started (a ++ 0 ∷ 0 ∷ rest)) f (f .0, rw n (f .1), rw n (f .2), f .3) (start-known a tries rest h)
+      (start-settled a tries rest h)

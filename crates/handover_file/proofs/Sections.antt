@@ -11,7 +11,22 @@ use lib.ListN.{length, drop, length-append}
 use lib.Seq.{take-at, drop-at, drop-drop}
 use Rattle.words.specs.Bytes.{be, part}
 use Rattle.words.proofs.Bytes.{be-toBe}
-use Rattle.handover_file.specs.Sections.{Shape, recordOf, joined, Fitting, body, bodyLength, found, Cut, bodies, misplaced, missized, before, onFound, cutAs}
+use Rattle.handover_file.specs.Sections.{
+  Shape,
+  recordOf,
+  joined,
+  Fitting,
+  body,
+  bodyLength,
+  found,
+  Cut,
+  bodies,
+  misplaced,
+  missized,
+  before,
+  onFound,
+  cutAs,
+}
 
 -- ---- one record
 

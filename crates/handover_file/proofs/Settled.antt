@@ -43,6 +43,7 @@ module _ (a : Association) where
   abbrev pub Current : Type 0
   Current = (upgrading (a .settings .start .kind) ≡ false) × (upgrading (a .state .version .kind) ≡ false)
 
+  -- promise: no14.5
   pub settled-same : Current → settled a ≡ a
   unfolding settled settledSettings settledState
   settled-same c =
@@ -85,6 +86,7 @@ module _ (a : Association) where
   settled-current = (version.settled-stays (a .settings .start .kind), version.settled-stays (a .state .version .kind))
 
   -- so a record is loaded as it was read exactly where the answer does not say that the retired kind was there
+  -- promise: no14.4 (a record is loaded as it was read exactly if `retired` is no)
   pub as-read : (settled a ≡ a) ↔ (retired (a .settings) (a .state) ≡ false)
   as-read = (
     λ e. retired-none (
@@ -101,6 +103,7 @@ unfolding versionsValid
 versions-settled start spoken = passes _ (ap not (version.settled-stays (start .kind))) ∙ ap not (version.settled-stays (spoken .kind))
 
 -- a settled record is whole exactly where the one that was read was whole before
+-- promise: no14.4
 pub whole-settled : (a : Association) → wholeOf (settled a) ≡ wholeBefore a
 unfolding wholeOf wholeSeen settingsValid settled settledSettings settledState wholeBefore
 whole-settled a = rw (versions-settled (a .settings .start) (a .state .version))
@@ -138,6 +141,8 @@ otherwise-on misplaced = record { number = refl; association = sym blank-same; s
 otherwise-on missized = record { number = refl; association = sym blank-same; says = sym blank-current }
 
 -- of any file
+-- promise: no14.4 (of any file: the number is the one given before, `specs/Before`: `beforeOf`; the record is that record settled, and `retired` says whether
+--     there was anything to settle)
 pub otherwise : (f : List ℕ) → Otherwise (beforeOf f) (loadOf f)
 unfolding loadOf beforeOf
 otherwise f = otherwise-on (cutAs shapes f)

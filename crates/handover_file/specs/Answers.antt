@@ -27,22 +27,25 @@ saveNumber ShortBuffer = 60
 abbrev pub saved : SaveAnswer → Association → SaveOut
 saved x a = record { answer = x; association = a }
 
--- in order 32, 60; a refusal leaves the record as it was
+-- in order 32, 60; a rejected call does not change the record
+-- promise no6.6: Writing a file answers 32, then 60, and on these writes nothing. Bytes past the file stay.
+--     edit: handover_save/a_piece_that_ends_with_the_buffer_is_left_out
 unfoldable pub saveOf : Association → ℕ → SaveOut
 saveOf a room =
     cond (wholeOf a)
     (cond (ltb room (length (fileOf a))) (saved ShortBuffer a) (saved (Saved (length (fileOf a))) (emptied a)))
     (saved NotWhole a)
 
--- the bytes from the start of a buffer, what lies past them untouched
+-- the bytes at the start of a buffer, and what follows them unchanged
 abbrev pub over : List ℕ → List ℕ → List ℕ
 over bytes buffer = bytes ++ drop (length bytes) buffer
 
--- after a refusal nothing is written
+-- a rejected call writes nothing
+-- promise: no6.6
 unfoldable pub bufferOf : Association → List ℕ → List ℕ
 bufferOf a buffer = cond (wholeOf a) (cond (ltb (length buffer) (length (fileOf a))) buffer (over (fileOf a) buffer)) buffer
 
--- all that a call gives: its answer with the association, and what is left in the buffer
+-- all results of a call: its answer with the association, and what is left in the buffer
 pub record Handed : Type 0 where
   pub gives : SaveOut
   pub left : List ℕ
@@ -55,7 +58,7 @@ handedOf a buffer = handed (saveOf a (length buffer)) (bufferOf a buffer)
 
 -- ---- reading
 
--- 0: loaded; 61: mark or order; 62: length, bytes missing or left over; 63: a code of no kind, or an association not whole
+-- 0: loaded; 61: mark or order; 62: length, bytes missing or left over; 63: an unknown code, or an association that is not whole
 abbrev pub loadNumber : LoadAnswer → ℕ
 loadNumber (Loaded said) = 0
 loadNumber WrongMark = 61
@@ -63,6 +66,7 @@ loadNumber WrongLength = 62
 loadNumber NoAssociation = 63
 
 -- whether it says that the retired kind was there
+-- promise: no14.4
 abbrev pub saysRetired : LoadAnswer → Bool
 saysRetired (Loaded said) = said
 saysRetired WrongMark = false
@@ -72,11 +76,12 @@ saysRetired NoAssociation = false
 abbrev pub loaded : LoadAnswer → Association → LoadOut
 loaded x a = record { answer = x; association = a }
 
--- the blank record, where the file is refused
+-- the blank record, if the file is rejected
 abbrev pub refused : LoadAnswer → LoadOut
 refused x = loaded x blankOf
 
--- what a record that was read is loaded as: V4 stands in place of the retired kind, and the answer says whether that was there (RULES, No. 14)
+-- what a record that was read is loaded as: V4 replaces the retired kind, and the answer says whether that was there (RULES, No. 14)
+-- promise: no14.4
 abbrev pub loadAs : Association → LoadOut
 loadAs a = cond (wholeOf (settled a)) (loaded (Loaded (retired (a .settings) (a .state))) (settled a)) (refused NoAssociation)
 
@@ -89,5 +94,6 @@ onCut misplaced = refused WrongMark
 onCut missized = refused WrongLength
 
 -- in order: the first of 61 and 62 in the file, then 63
+-- promise: no6.7, no14.4
 unfoldable pub loadOf : List ℕ → LoadOut
 loadOf f = onCut (cutAs shapes f)

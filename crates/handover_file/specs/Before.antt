@@ -1,4 +1,4 @@
--- What the reader of the hand-over file gave before No. 14, so that it can be said which files load otherwise now: the retired kind was loaded as it stood.
+-- The reader of the hand-over file as it was before No. 14, to state which files load differently now: it loaded the retired kind unchanged.
 -- Assumes nothing.
 use Prim.Native.Nat.{ℕ}
 use mathlib.Core.Bool.{Bool, _&&_, cond}
@@ -10,7 +10,7 @@ use Rattle.association.specs.Record.{blankOf, effortValid, pendingValid, idleVa
 use Rattle.handover_file.specs.Sections.{Cut, bodies, misplaced, missized, cutAs}
 use Rattle.handover_file.specs.File.{shapes, known, recordIn}
 
--- whole, but for the versions
+-- whole, except for the versions
 unfoldable pub wholeBefore : Association → Bool
 wholeBefore a =
     let v = seenOf (a .settings .capacity) (a .stash) in

@@ -1,4 +1,4 @@
--- The hand-over file (RULES, No. 6, No. 12 and No. 14): six records in one fixed order, written of a record, and read as one. The pending request is not written.
+-- The hand-over file (RULES, No. 6, No. 12 and No. 14): six records in one fixed order, written from a record and read as one. No pending request is written.
 -- Assumes nothing.
 use Prim.Native.Nat.{ℕ}
 use mathlib.Core.Bool.{Bool, _&&_, _||_, false}
@@ -19,11 +19,13 @@ use Rattle.handover_file.specs.Cookies.{stashBytes, stashFits, stashKnow
 abbrev pub sized : ℕ → ℕ → Shape
 sized m n = record { mark = m; fits = λ b. eqb (length b) n }
 
--- the settings have 27 bytes; those of a file of before, which has no capacity, have 26
+-- the settings have 27 bytes; in a file from before No. 12, which has no capacity, they have 26
+-- promise: no12.5 (27 bytes, or 26)
 abbrev pub settingsFits : List ℕ → Bool
 settingsFits b = eqb (length b) 27 || eqb (length b) 26
 
 -- the marks S E, S T, R E, V E, P O, S O, and what each record's body is tested for
+-- promise: no6.1
 abbrev pub shapes : List Shape
 shapes =
     record { mark = 0x5345; fits = settingsFits }
@@ -46,16 +48,20 @@ partsOf a =
     ∷ sourceBytes (a .state .source)
     ∷ []
 
+-- promise: no6.1
 unfoldable pub fileOf : Association → List ℕ
 fileOf a = joined shapes (partsOf a)
 
--- what writing hands back: the stash empty, its reading place kept
+-- what writing returns: an empty stash with its reading place kept
+-- promise no6.2: Writing a file returns the association with its stash empty and the reading place kept, so that a cookie has one owner.
+--     edit: handover_save/the_stash_stays_filled, handover_save/the_reading_place_is_zeroed
 unfoldable pub emptied : Association → Association
 emptied a = withStash a (emptyAt (a .stash .read))
 
 -- ---- the reader
 
 -- a loaded association has sent nothing yet
+-- promise no6.3: Reading a written file gives the record before writing, without the pending request and `answered` (No. 3).
 unfoldable pub unsent : Association → Association
 unsent a =
     record {
@@ -71,12 +77,14 @@ unsent a =
           };
     }
 
--- of six bodies: codes of a kind, and a stash of the settings' capacity
+-- of six bodies: known codes, and a stash of the settings' capacity
+-- promise: no6.7
 unfoldable pub known : List (List ℕ) → Bool
 known bs =
-    settingsKnown (getD bs 0 []) && (stashKnown (settingsOf (getD bs 0 []) .capacity) (getD bs 1 []) && (versionKnown (getD bs 3 []) && sourceKnown (getD bs 5 [])))
+    settingsKnown (getD bs 0 []) && (stashKnown (settingsOf (getD bs 0 []) .capacity) (getD bs 1 [])
+    && (versionKnown (getD bs 3 []) && sourceKnown (getD bs 5 [])))
 
--- the state that four bodies are: nothing is pending
+-- the state in four bodies, with nothing pending
 abbrev pub stateIn : List ℕ → List ℕ → List ℕ → List ℕ → State
 stateIn effort version polls source =
     record {
@@ -87,6 +95,7 @@ stateIn effort version polls source =
       request = noPending false;
     }
 
+-- promise: no6.7, no12.5
 unfoldable pub recordIn : List (List ℕ) → Association
 recordIn bs =
     record {
@@ -97,7 +106,8 @@ recordIn bs =
 
 -- ---- the retired kind (RULES, No. 14)
 
--- the start version, or the version, is of it
+-- the start version, or the version, is of that kind
+-- promise: no14.4
 unfoldable pub retired : Settings → State → Bool
 retired s q = upgrading (s .start .kind) || upgrading (q .version .kind)
 
@@ -120,5 +130,6 @@ unfoldable pub settledState : State → State
 settledState q = record { effort = q .effort; version = settledOf (q .version); polls = q .polls; source = q .source; request = q .request }
 
 -- a record that was read, as it is loaded
+-- promise: no14.4
 unfoldable pub settled : Association → Association
 settled a = record { settings = settledSettings (a .settings); stash = a .stash; state = settledState (a .state) }

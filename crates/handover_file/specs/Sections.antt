@@ -1,4 +1,5 @@
--- A file of records in one fixed order (RULES, No. 6), each a mark (two bytes), the length of its body (two bytes) and the body. It is read record by record: what is left of the file is the argument, so that no offset is needed.
+-- A file of records in one fixed order (RULES, No. 6), each a mark (two bytes), the length of its body (two bytes) and the body. It is read record by record:
+-- the argument is the rest of the file, so that no offset is needed.
 -- Assumes nothing.
 use Prim.Native.Nat.{ℕ, _+_, _-_, _≤_, _<_}
 use mathlib.Core.Path.{_≡_}
@@ -8,22 +9,24 @@ use lib.Dec.{ltb, eqb}
 use lib.ListN.{length, drop}
 use Rattle.words.specs.Bytes.{be, part, toBe}
 
--- what a record of the file is: its mark, and the test of its body (62 where it fails)
+-- a record of the file: its mark, and the test of its body (62 if it fails)
 pub record Shape : Type 0 where
   pub mark : ℕ
   pub fits : List ℕ → Bool
 
 -- ---- the writer
 
+-- promise: no6.1
 unfoldable pub recordOf : ℕ → List ℕ → List ℕ
 recordOf m b = toBe 2 m ++ (toBe 2 (length b) ++ b)
 
+-- promise: no6.1
 abbrev pub joined : List Shape → List (List ℕ) → List ℕ
 joined [] bs = []
 joined (s ∷ ss) [] = []
 joined (s ∷ ss) (b ∷ bs) = recordOf (s .mark) b ++ joined ss bs
 
--- each body is one of its record: a length that two bytes can name, and the record's test
+-- each body fits its record: its length fits two bytes, and it passes the record's test
 abbrev pub Fitting : List Shape → List (List ℕ) → Type 0
 Fitting [] [] = Unit
 Fitting [] (b ∷ bs) = ⊥
@@ -32,7 +35,7 @@ Fitting (s ∷ ss) (b ∷ bs) = (s .mark < 65536) × (length b ≤ 65535) × (s 
 
 -- ---- the reader
 
--- what stands first in bytes: a body and what is left behind it, another mark (61), or bytes that are not there (62)
+-- what comes first in bytes: a body and what follows it, another mark (61), or too few bytes (62)
 pub data Found : Type 0 where
   body : List ℕ → List ℕ → Found
   other : Found
@@ -66,6 +69,8 @@ onFound fits rest (body b l) = cond (fits b) (before b (rest l)) missized
 onFound fits rest other = misplaced
 onFound fits rest short = missized
 
+-- promise no6.7: Reading a file answers the first of 61 and 62 in the file, then 63, with the blank record.
+--     edit: handover_cut/a_byte_left_over_is_accepted, handover_load/a_wrong_mark_is_answered_as_a_length
 abbrev pub cutAs : List Shape → List ℕ → Cut
 cutAs [] l = cond (eqb (length l) 0) (bodies []) missized
 cutAs (s ∷ ss) l = onFound (s .fits) (λ r. cutAs ss r) (found (s .mark) l)

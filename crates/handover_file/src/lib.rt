@@ -1,11 +1,11 @@
 // The hand-over file: what it is, byte by byte, and what its writer and its reader answer.
-// Promises (theorems): a written file is read as its record with nothing sent; whole records agree in all that is written exactly if their files are the same.
-// Rule: RULES, No. 6 and No. 14; definitions in specs/Sections.antt, specs/Cookies.antt, specs/File.antt and specs/Answers.antt, number by number in specs/Numbers.antt.
+// Promises (theorems): a written file is read as its record with nothing sent; whole records have the same file exactly if they agree in all that is written.
+// Rule: RULES, No. 6 and No. 14; definitions in specs/Sections.antt, Cookies.antt, File.antt and Answers.antt, number by number in specs/Numbers.antt.
 use association::Association;
 ghost use mathlib.Core.Path.{_≡_};
 ghost use Rattle.handover_file.specs.Answers.{saveNumber, loadNumber, saysRetired};
 
-// What writing answers: the file's length where it is in the buffer, or why nothing was written.
+// What save answers: the length of the file that was written, or why nothing was written.
 pub enum SaveAnswer {
     Saved(usize),
     NotWhole,
@@ -14,6 +14,7 @@ pub enum SaveAnswer {
 
 impl SaveAnswer {
     // The number of the answer, in RULES.
+    // promise: no6.6
     pub fn number(self) -> u8
         ensures { λ r. ⌜ r ≡ saveNumber self ⌝ }
     {
@@ -25,13 +26,13 @@ impl SaveAnswer {
     }
 }
 
-// What writing gives: its answer, and the association, whose cookies are the file's from now on.
+// What save returns: its answer, and the association, whose cookies now belong to the file.
 pub struct SaveOut {
     pub answer: SaveAnswer,
     pub association: Association,
 }
 
-// What reading answers: the first of a wrong mark and a wrong length in the file, then that its bytes are no association.
+// What load answers: the first wrong mark or wrong length in the file, and only then that its bytes are no association.
 pub enum LoadAnswer {
     // Whether a version of the file was of the retired kind, and was loaded as V4.
     Loaded { retired: bool },
@@ -42,6 +43,7 @@ pub enum LoadAnswer {
 
 impl LoadAnswer {
     // Whether it says that a version of the file was of the retired kind.
+    // promise: no14.4
     pub fn says_retired(self) -> bool
         ensures { λ r. ⌜ r ≡ saysRetired self ⌝ }
     {
@@ -53,6 +55,7 @@ impl LoadAnswer {
         }
     }
 
+    // promise: no6.7, no14.4
     pub fn number(self) -> u8
         ensures { λ r. ⌜ r ≡ loadNumber self ⌝ }
     {
@@ -65,7 +68,7 @@ impl LoadAnswer {
     }
 }
 
-// What reading gives: its answer, and the association, blank where the file was refused.
+// What load returns: its answer, and the association, which is blank if the file was rejected.
 pub struct LoadOut {
     pub answer: LoadAnswer,
     pub association: Association,

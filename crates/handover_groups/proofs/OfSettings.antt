@@ -1,4 +1,5 @@
--- The settings' record: what is written has 27 bytes, is of a kind and is read back; 27 bytes whose codes are of a kind are written as they were read; 26 bytes are read as
+-- The settings' record: what is written has 27 bytes, is of a kind and is read back; 27 bytes whose codes are of a kind are written as they were read; 26
+-- bytes are read as
 -- those with the byte 8 behind them.
 -- Assumes nothing.
 use Prim.Native.Nat.{ℕ, suc, _+_, _^_, _≤_, _<_}
@@ -31,6 +32,7 @@ pub record SettingsFit (s : Settings) : Type 0 where
   pub upgrademark : s .upgrademark < 2 ^ 64
   pub source : s .source .0 < 2 ^ 32
 
+-- promise: no6.1 (each body to bytes and back), no12.5
 pub settings-back : (s : Settings) → SettingsFit s → settingsOf (settingsBytes s) ≡ s
 unfolding settingsOf settingsBytes part
 settings-back s f =
@@ -48,6 +50,7 @@ pub settings-known : (s : Settings) → settingsKnown (settingsBytes s) ≡ true
 unfolding settingsKnown settingsBytes
 settings-known s = rw (kind-kept (s .start .kind) .1, yes-kept (s .nts) .1)
 
+-- promise: no6.1, no12.5
 pub settings-long : (s : Settings) → length (settingsBytes s) ≡ 27
 unfolding settingsBytes
 settings-long s = refl
@@ -58,9 +61,11 @@ module _ (b : List ℕ) (n : length b ≡ 27) where
   first i h = sym (drop-cons b i 0 (omega arith))
 
   -- 27 bytes, field by field
-  fields : getD b 0 0 ∷ getD b 1 0 ∷ getD b 2 0 ∷ (part b 3 8 ++ (part b 11 8 ++ (getD b 19 0 ∷ getD b 20 0 ∷ getD b 21 0 ∷ (part b 22 4 ++ (getD b 26 8 ∷ []))))) ≡ b
+  fields : getD b 0 0 ∷ getD b 1 0 ∷ getD b 2 0
+      ∷ (part b 3 8 ++ (part b 11 8 ++ (getD b 19 0 ∷ getD b 20 0 ∷ getD b 21 0 ∷ (part b 22 4 ++ (getD b 26 8 ∷ []))))) ≡ b
   fields =
-      let end : getD b 26 8 ∷ [] ≡ drop 26 b = ap (λ (l : List ℕ). getD b 26 8 ∷ l) (sym (drop-of-length-le b {i = 27} (omega arith))) ∙ sym (drop-cons b 26 8 (omega arith)) in
+      let end : getD b 26 8 ∷ [] ≡ drop 26 b = ap (λ (l : List ℕ). getD b 26 8 ∷ l) (sym (drop-of-length-le b {i = 27} (omega arith)))
+      ∙ sym (drop-cons b 26 8 (omega arith)) in
       let last : part b 22 4 ++ (getD b 26 8 ∷ []) ≡ drop 22 b = ap (λ (l : List ℕ). part b 22 4 ++ l) end ∙ part-drop b 22 4 in
       let codes : getD b 19 0 ∷ getD b 20 0 ∷ getD b 21 0 ∷ (part b 22 4 ++ (getD b 26 8 ∷ [])) ≡ drop 19 b
       = ap (λ (l : List ℕ). getD b 19 0 ∷ getD b 20 0 ∷ getD b 21 0 ∷ l) last
@@ -104,7 +109,8 @@ module _ (b : List ℕ) (n : length b ≡ 26) where
   pub settings-old : settingsOf b ≡ settingsOf more
   unfolding settingsOf
   settings-old =
-      let end : getD b 26 8 ≡ getD more 26 8 = List·getD-eq-default b 8 {n = 26} (omega arith) ∙ sym (ap (λ (k : ℕ). getD more k 8) (sym n) ∙ getD-append-seam b 8 [] 8) in
+      let end : getD b 26 8 ≡ getD more 26 8 = List·getD-eq-default b 8 {n = 26} (omega arith)
+      ∙ sym (ap (λ (k : ℕ). getD more k 8) (sym n) ∙ getD-append-seam b 8 [] 8) in
       λ i. record {
         min = interval (signed (2 ^ 7) (sym (byte-same 0 (omega arith)) i));
         max = interval (signed (2 ^ 7) (sym (byte-same 1 (omega arith)) i));

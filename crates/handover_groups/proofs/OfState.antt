@@ -17,7 +17,18 @@ use Rattle.version.specs.declared.Version.{Version}
 use Rattle.association.specs.declared.Effort.{Effort}
 use Rattle.association.specs.declared.Polls.{Polls}
 use Rattle.association.specs.declared.Source.{Source}
-use Rattle.handover_groups.specs.State.{effortBytes, effortOf, versionBytes, versionOf, versionKnown, pollsBytes, pollsOf, sourceBytes, sourceOf, sourceKnown}
+use Rattle.handover_groups.specs.State.{
+  effortBytes,
+  effortOf,
+  versionBytes,
+  versionOf,
+  versionKnown,
+  pollsBytes,
+  pollsOf,
+  sourceBytes,
+  sourceOf,
+  sourceKnown,
+}
 use Rattle.handover_groups.proofs.OfCodes.{word, word-again, yes-kept, yes-again, kind-kept, kind-again}
 
 -- a byte, and what follows it
@@ -34,14 +45,17 @@ two b n =
 -- ---- effort
 
 -- whatever the bytes are, the unanswered polls are those of reach; so they are read back where they were
+-- promise: no8.8
 pub effort-counted : (b : List ℕ) → effortOf b .unanswered ≡ unansweredOf (effortOf b .reach)
 unfolding effortOf
 effort-counted b = refl
 
+-- promise: no6.1, no8.8
 pub effort-back : (e : Effort) → e .unanswered ≡ unansweredOf (e .reach) → effortOf (effortBytes e) ≡ e
 unfolding effortOf effortBytes
 effort-back e h = λ i. record { reach = e .reach; tries = e .tries; unanswered = sym h i }
 
+-- promise: no6.1
 pub effort-long : (e : Effort) → length (effortBytes e) ≡ 2
 unfolding effortBytes
 effort-long e = refl
@@ -52,6 +66,7 @@ effort-again b n = two b n
 
 -- ---- version
 
+-- promise: no6.1
 pub version-back : (v : Version) → versionOf (versionBytes v) ≡ v
 unfolding versionOf versionBytes
 version-back v = rw (kind-kept (v .kind) .0)
@@ -60,6 +75,7 @@ pub version-known : (v : Version) → versionKnown (versionBytes v) ≡ true
 unfolding versionKnown versionBytes
 version-known v = kind-kept (v .kind) .1
 
+-- promise: no6.1
 pub version-long : (v : Version) → length (versionBytes v) ≡ 2
 unfolding versionBytes
 version-long v = refl
@@ -75,10 +91,12 @@ pub record PollsFit (p : Polls) : Type 0 where
   pub last : SFits w8 (p .last .0)
   pub remote : SFits w8 (p .remote .0)
 
+-- promise: no6.1
 pub polls-back : (p : Polls) → PollsFit p → pollsOf (pollsBytes p) ≡ p
 unfolding pollsOf pollsBytes
 polls-back p f = rw (signed-unsigned w8 (p .last .0) (f .last), signed-unsigned w8 (p .remote .0) (f .remote))
 
+-- promise: no6.1
 pub polls-long : (p : Polls) → length (pollsBytes p) ≡ 2
 unfolding pollsBytes
 polls-long p = refl
@@ -89,6 +107,7 @@ polls-again b n y = rw (unsigned-signed w8 (getD b 0 0) (y 0), unsigned-signed w
 
 -- ---- source
 
+-- promise: no6.1
 pub source-back : (s : Source) → s .refid .0 < 2 ^ 32 → sourceOf (sourceBytes s) ≡ s
 unfolding sourceOf sourceBytes part
 source-back s h = rw (word 4 (s .refid .0) h, yes-kept (s .denial) .0)
@@ -97,6 +116,7 @@ pub source-known : (s : Source) → sourceKnown (sourceBytes s) ≡ true
 unfolding sourceKnown sourceBytes
 source-known s = yes-kept (s .denial) .1
 
+-- promise: no6.1
 pub source-long : (s : Source) → length (sourceBytes s) ≡ 6
 unfolding sourceBytes
 source-long s = refl

@@ -1,4 +1,4 @@
--- Codes of one byte (RULES, No. 6): yes or no, and the kinds of version. A reader is total; `..Known` says whether a code is of a kind.
+-- Codes of one byte (RULES, No. 6): yes or no, and the kinds of version. A reader is total; `..Known` says whether a code is known.
 -- Assumes nothing.
 use Prim.Native.Nat.{ℕ}
 use mathlib.Core.Bool.{Bool, _&&_, _||_, cond}
@@ -33,6 +33,6 @@ triesCode V5 = 0
 abbrev pub kindOf : ℕ → ℕ → ProtocolVersion
 kindOf k tries = cond (eqb k 0) V4 (cond (eqb k 1) (Upgrading tries) (cond (eqb k 2) Upgraded V5))
 
--- tries beside another kind is a code of no kind
+-- tries with another kind is an unknown code
 abbrev pub kindKnown : ℕ → ℕ → Bool
 kindKnown k tries = leb k 3 && (eqb k 1 || eqb tries 0)

@@ -18,15 +18,19 @@ use Rattle.handover_groups.specs.Codes.{yesCode, yesOf, yesKnown, kindCo
 
 -- ---- effort: reach 1, tries 1
 
+-- promise no8.8: A hand-over file does not carry the unanswered polls. A load sets them from reach.
+-- promise: no6.1
 unfoldable pub effortBytes : Effort → List ℕ
 effortBytes e = e .reach .0 ∷ e .tries ∷ []
 
 -- the unanswered polls are not written: a load sets them from reach (No. 8)
+-- promise: no8.8
 unfoldable pub effortOf : List ℕ → Effort
 effortOf b = record { reach = record { 0 = getD b 0 0 }; tries = getD b 1 0; unanswered = unansweredOf (record { 0 = getD b 0 0 }) }
 
 -- ---- version: kind 1, tries 1
 
+-- promise: no6.1
 unfoldable pub versionBytes : Version → List ℕ
 versionBytes v = kindCode (v .kind) ∷ triesCode (v .kind) ∷ []
 
@@ -38,6 +42,7 @@ versionKnown b = kindKnown (getD b 0 0) (getD b 1 0)
 
 -- ---- polls: last 1, remote minimum 1
 
+-- promise: no6.1
 unfoldable pub pollsBytes : Polls → List ℕ
 pollsBytes p = unsigned (2 ^ 7) (p .last .0) ∷ unsigned (2 ^ 7) (p .remote .0) ∷ []
 
@@ -46,6 +51,7 @@ pollsOf b = record { last = interval (signed (2 ^ 7) (getD b 0 0)); remote = int
 
 -- ---- source: stratum 1, reference identifier 4, denial 1
 
+-- promise: no6.1
 unfoldable pub sourceBytes : Source → List ℕ
 sourceBytes s = s .stratum ∷ (toBe 4 (s .refid .0) ++ (yesCode (s .denial) ∷ []))
 

@@ -1,5 +1,5 @@
 // The small records of the hand-over file, each to bytes and back: settings, effort, version, polls, source.
-// Promises: what is written is read back; what is read, and whose codes are of a kind, is written as it was; readers are defined over any bytes.
+// Promises: what is written is read back; bytes with known codes are written as they were read; readers are defined for any bytes.
 // Rule: RULES, No. 6 and No. 12; definitions in specs/Codes.antt, specs/Settings.antt and specs/State.antt.
 use association::Effort;
 use association::Polls;
@@ -15,16 +15,17 @@ ghost use mathlib.Core.Path.{_≡_};
 ghost use lib.ListN.{getD};
 ghost use Rattle.handover_groups.specs.Codes.{yesCode, yesKnown, kindCode, triesCode, kindOf, kindKnown};
 ghost use Rattle.handover_groups.specs.Settings.{settingsBytes, settingsOf, settingsKnown};
-ghost use Rattle.handover_groups.specs.State.{effortBytes, effortOf, versionBytes, versionOf, versionKnown, pollsBytes, pollsOf, sourceBytes, sourceOf, sourceKnown};
+ghost use Rattle.handover_groups.specs.State.{effortBytes, effortOf, versionBytes, versionOf, versionKnown, pollsBytes};
+ghost use Rattle.handover_groups.specs.State.{pollsOf, sourceBytes, sourceOf, sourceKnown};
 
-// A byte, or zero where there is none.
+// A byte, or zero if there is none.
 fn byte_at(b: &[u8], i: usize) -> u8
     ensures { λ r. ⌜ r ≡ getD (now (b .entry)) i 0 ⌝ }
 {
     if i < b.len() { b[i] } else { 0 }
 }
 
-// The capacity, which is the last byte of the settings; a file of before has none, and its stash eight places.
+// The capacity: the last byte of the settings. A file from before No. 12 has none, and its stash has eight places.
 fn capacity_at(b: &[u8]) -> u8
     ensures { λ r. ⌜ r ≡ getD (now (b .entry)) 26 8 ⌝ }
 {
@@ -80,7 +81,7 @@ fn kind_of(code: u8, tries: u8) -> ProtocolVersion
     ProtocolVersion::V5
 }
 
-// Whether the code is of a kind, and tries stand beside the upgrading one alone.
+// Whether the code is known, and only the upgrading one has tries.
 fn kind_known(code: u8, tries: u8) -> bool
     ensures { λ r. ⌜ r ≡ kindKnown code tries ⌝ }
 {
@@ -163,7 +164,7 @@ pub fn settings_of(b: &[u8]) -> Settings
     }
 }
 
-// Whether the start version and the yes or no of NTS are codes of a kind.
+// Whether the codes of the start version and of NTS are known.
 pub fn settings_known(b: &[u8]) -> bool
     ensures { λ r. ⌜ r ≡ settingsKnown (now (b .entry)) ⌝ }
 {
@@ -180,6 +181,7 @@ pub fn effort_bytes(e: Effort) -> [u8; 2]
     [reach.0, e.tries]
 }
 
+// promise: no8.8
 pub fn effort_of(b: &[u8]) -> Effort
     ensures { λ r. ⌜ r ≡ effortOf (now (b .entry)) ⌝ }
 {
@@ -252,7 +254,7 @@ pub fn source_of(b: &[u8]) -> Source
     }
 }
 
-// Whether the yes or no of the denial is a code of a kind.
+// Whether the code of the denial is known.
 pub fn source_known(b: &[u8]) -> bool
     ensures { λ r. ⌜ r ≡ sourceKnown (now (b .entry)) ⌝ }
 {

@@ -72,7 +72,8 @@ module _ (se st re ve po so : List ℕ) where
         unfolding known
         by-source d = none (passes _ a ∙ passes _ b ∙ passes _ c ∙ d)
 
-        module _ (d : sourceKnown so ≡ true) {s : Settings} {k : CookieStash} {m : State} (es : s ≡ settingsOf se) (ek : k ≡ stashOf (settingsOf se .capacity) st) (em : m ≡ stateIn re ve po so) where
+        module _ (d : sourceKnown so ≡ true) {s : Settings} {k : CookieStash} {m : State} (es : s ≡ settingsOf se)
+            (ek : k ≡ stashOf (settingsOf se .capacity) st) (em : m ≡ stateIn re ve po so) where
           all-known : known six ≡ true
           unfolding known
           all-known = passes _ a ∙ passes _ b ∙ passes _ c ∙ d
@@ -92,7 +93,8 @@ module _ (s : Settings) (k : CookieStash) (m : State) {g : Settings} {q : State}
   unfolding settled
   settled-is = λ i. record { settings = eg i; stash = k; state = eq i }
 
-  pub by-whole : wholeOf (record { settings = g; stash = k; state = q }) ≡ false → loadAs (record { settings = s; stash = k; state = m }) ≡ refused NoAssociation
+  pub by-whole : wholeOf (record { settings = g; stash = k; state = q }) ≡ false →
+      loadAs (record { settings = s; stash = k; state = m }) ≡ refused NoAssociation
   by-whole w = unless _ _ (sym (ap wholeOf settled-is) ∙ w)
 
   pub settled-loaded : {b : Bool} → b ≡ retired s m → wholeOf (record { settings = g; stash = k; state = q }) ≡ true →
@@ -103,7 +105,8 @@ module _ (s : Settings) (k : CookieStash) (m : State) {g : Settings} {q : State}
 
 -- the parts that the code cuts out
 pub slices : (f : List ℕ) (k e : ℕ) →
-    part f 4 (4 + k - 4) ∷ part f (8 + k) (e - (8 + k)) ∷ part f (e + 4) (e + 6 - (e + 4)) ∷ part f (e + 10) (e + 12 - (e + 10)) ∷ part f (e + 16) (e + 18 - (e + 16)) ∷ part f (e + 22) (e + 28 - (e + 22)) ∷ []
+    part f 4 (4 + k - 4) ∷ part f (8 + k) (e - (8 + k)) ∷ part f (e + 4) (e + 6 - (e + 4)) ∷ part f (e + 10) (e + 12 - (e + 10))
+    ∷ part f (e + 16) (e + 18 - (e + 16)) ∷ part f (e + 22) (e + 28 - (e + 22)) ∷ []
     ≡ partsAt f k e
 slices f k e =
     let e₀ : 4 + k - 4 ≡ k = omega arith in

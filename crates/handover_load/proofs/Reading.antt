@@ -100,7 +100,8 @@ module _ (b : List ℕ) (f : stashFits b ≡ true) where
       }
 
 -- an empty stash with its place set
-pub begun : (cap : ℕ) (b : List ℕ) → stashFits b ≡ true → (n : CookieStash) (r : ℕ) → n ≡ newOf → r ≡ getD b 0 0 → rangeOf cap r 0 ≡ true → Reading cap b 1 (record { slots = n .slots; read = r; held = n .held })
+pub begun : (cap : ℕ) (b : List ℕ) → stashFits b ≡ true → (n : CookieStash) (r : ℕ) → n ≡ newOf → r ≡ getD b 0 0 → rangeOf cap r 0 ≡ true →
+    Reading cap b 1 (record { slots = n .slots; read = r; held = n .held })
 unfolding newOf emptyAt
 begun cap b f n r e p h =
     let q = both (leb cap 8) _ h in
@@ -145,13 +146,15 @@ module _ (cap : ℕ) (b : List ℕ) (at : ℕ) (s : CookieStash) (r : Reading ca
 
     pub too-many : s .held ≡ cap → stashKnown cap b ≡ false
     unfolding stashKnown
-    too-many h = passes _ (le-leb cap 8 (r .most)) ∙ passes _ (lt-ltb (getD b 0 0) cap (r .place)) ∙ lt-leb (length (heldIn b)) cap (omega (arith, ap length rest, r .holds))
+    too-many h = passes _ (le-leb cap 8 (r .most)) ∙ passes _ (lt-ltb (getD b 0 0) cap (r .place))
+        ∙ lt-leb (length (heldIn b)) cap (omega (arith, ap length rest, r .holds))
 
   pub reads-end : heldAt b at ≡ End → (stashKnown cap b ≡ true) × (s ≡ stashOf cap b)
   unfolding stashKnown
   reads-end e =
       let rest = rest-none b at (r .inside) (r .runs) e in (
-        passes _ (le-leb cap 8 (r .most)) ∙ passes _ (lt-ltb (getD b 0 0) cap (r .place)) ∙ le-leb (length (heldIn b)) cap (omega (arith, ap length rest, r .holds, r .counts)),
+        passes _ (le-leb cap 8 (r .most)) ∙ passes _ (lt-ltb (getD b 0 0) cap (r .place))
+            ∙ le-leb (length (heldIn b)) cap (omega (arith, ap length rest, r .holds, r .counts)),
         sym (ap (laidIn cap s) rest) ∙ r .makes,
       )
 

@@ -10,6 +10,6 @@ use Rattle.handover_load.specs.declared.Stashed.{Stashed}
 abbrev pub noStash : Stashed
 noStash = record { known = false; stash = newOf }
 
--- the stash of a capacity that a body is, if it is one
+-- a body as a stash of this capacity, if it is one
 unfoldable pub stashedOf : ℕ → List ℕ → Stashed
 stashedOf cap b = cond (stashKnown cap b) (record { known = true; stash = stashOf cap b }) noStash

@@ -1,6 +1,6 @@
 // The reader of the hand-over file: a box that is swapped in starts with the association of the one before it.
-// Promises: of any bytes the answer that the file's definition gives; the first fault of the file decides between 61 and 62; the blank record where it is refused.
-// Rule: RULES, No. 6, No. 12 and No. 14; the file is defined in `handover_file`, its records are found by `handover_cut`, and specs/Read.antt has the stash that is read.
+// Promises: for any bytes, the answer of the file's definition; the first fault decides between 61 and 62; a rejected file leaves the blank record.
+// Rule: RULES, No. 6, No. 12 and No. 14; `handover_file` defines the file, `handover_cut` finds its records, specs/Read.antt defines the stash that is read.
 use association::Association;
 use association::Pending;
 use association::Settings;
@@ -23,16 +23,16 @@ ghost use Rattle.handover_file.specs.Answers.{refused, loadAs, loadIn, loadOf};
 ghost use Rattle.handover_cut.specs.Steps.{cookie};
 ghost use Rattle.handover_load.specs.Read.{noStash, stashedOf};
 
-// How many bytes a file has behind the stash's body.
+// How many bytes a file has after the stash's body.
 const BEHIND: usize = 28;
 
-// A stash that was read: whether it is one, and if not an empty one.
+// A stash that was read, and whether the bytes are one; if not, it is empty.
 struct Stashed {
     known: bool,
     stash: CookieStash,
 }
 
-// A cookie goes behind the newest, as its length and its stored bytes.
+// Puts a cookie after the newest, from its length and its stored bytes.
 fn laid(mut s: CookieStash, len: u16, bytes: &[u8], capacity: u8) -> CookieStash
     requires { ⌜ (s .read < capacity) × (s .held < capacity) × (length (now bytes) ≡ stored len) × (capacity ≤ 8) ⌝ }
     ensures { λ r. ⌜ r ≡ putOf capacity s (slotFor (cookie len (now (bytes .entry)))) ⌝ }
@@ -55,7 +55,7 @@ fn no_stash() -> Stashed
     }
 }
 
-// The reading place, the body's first byte; 0 where there is none.
+// The reading place: the body's first byte, or 0 if there is none.
 pub fn place_of(b: &[u8]) -> u8
     ensures { λ r. ⌜ r ≡ getD (now (b .entry)) 0 0 ⌝ }
 {
@@ -65,7 +65,7 @@ pub fn place_of(b: &[u8]) -> u8
     b[0]
 }
 
-// The stash of a capacity that a body is.
+// Reads a body as a stash of this capacity.
 fn stash_in(b: &[u8], capacity: u8) -> Stashed
     requires { ⌜ stashFits (now b) ≡ true ⌝ }
     ensures { λ r. ⌜ r ≡ stashedOf capacity (now (b .entry)) ⌝ }
@@ -109,7 +109,7 @@ fn refused(answer: LoadAnswer) -> LoadOut
     }
 }
 
-// The state that its four bodies are, with nothing pending.
+// Reads the state from its four bodies, with nothing pending.
 pub fn state_in(effort: &[u8], version: &[u8], polls: &[u8], source: &[u8]) -> State
     ensures { λ r. ⌜ r ≡ stateIn (now (effort .entry)) (now (version .entry)) (now (polls .entry)) (now (source .entry)) ⌝ }
 {
@@ -159,7 +159,7 @@ pub fn settled_state(mut s: State) -> State
     s
 }
 
-// What a record that was read is loaded as: V4 stands in place of the retired kind, and the answer says whether that was there.
+// What a record that was read is loaded as: V4 replaces the retired kind, and the answer says whether that was there.
 fn loaded_as(settings: Settings, stash: CookieStash, state: State) -> LoadOut
     ensures { λ r. ⌜ r ≡ loadAs (record { settings = settings; stash = stash; state = state }) ⌝ }
 {
@@ -180,7 +180,7 @@ fn loaded_as(settings: Settings, stash: CookieStash, state: State) -> LoadOut
     }
 }
 
-// The association that six bodies are, if they are one.
+// Reads six bodies as an association, if they are one.
 fn association_in(
     settings: &[u8],
     stash: &[u8],
@@ -190,7 +190,8 @@ fn association_in(
     source: &[u8],
 ) -> LoadOut
     requires { ⌜ stashFits (now stash) ≡ true ⌝ }
-    ensures { λ r. ⌜ r ≡ loadIn (now (settings .entry) ∷ now (stash .entry) ∷ now (effort .entry) ∷ now (version .entry) ∷ now (polls .entry) ∷ now (source .entry) ∷ []) ⌝ }
+    ensures { λ r. ⌜ r ≡ loadIn (now (settings .entry) ∷ now (stash .entry) ∷ now (effort .entry) ∷ now (version .entry) ∷ now (polls .entry)
+        ∷ now (source .entry) ∷ []) ⌝ }
 {
     if !handover_groups::settings_known(settings) {
         return refused(LoadAnswer::NoAssociation);
@@ -211,7 +212,8 @@ fn association_in(
     loaded_as(given, kept, state)
 }
 
-// Reads a file: the settings say how long they are. A loaded association has sent nothing yet.
+// Reads a file, in which the settings' record says how long it is. A loaded association has sent nothing yet.
+// promise: no6.7, no12.5, no14.4
 pub fn load(file: &[u8]) -> LoadOut
     ensures { λ r. ⌜ r ≡ loadOf (now (file .entry)) ⌝ }
 {

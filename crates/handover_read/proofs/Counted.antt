@@ -28,7 +28,13 @@ module _ (b : List ℕ) (at n : ℕ) (r : Counting b at n) where
   counts-one len start end e =
       let rest = rest-one b at (r .inside) (r .runs) len start end e in
       let w = one-within b at len start end e in
-      record { inside = w .3; runs = runs-on b at (r .inside) (r .runs) len start end e; few = omega (arith, w .0, r .few); counts = omega (arith, ap length rest, r .counts) }
+      record {
+        inside = w .3;
+        runs = runs-on b at (r .inside) (r .runs) len start end e;
+        few = omega (arith, w .0, r .few);
+        counts = omega
+            (arith, ap length rest, r .counts);
+      }
 
   pub counts-end : heldAt b at ≡ End → n ≡ length (heldIn b)
   counts-end e = omega (arith, ap length (rest-none b at (r .inside) (r .runs) e), r .counts)

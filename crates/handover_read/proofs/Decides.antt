@@ -58,7 +58,8 @@ module _ (se st ve so : List ℕ) (s : Settings) (q : State) where
 
   module _ (a : settingsKnown se ≡ true) where
     pub no-stash : stashKnown (s .capacity) st ≡ false → false ≡ (known-codes && whole-one)
-    no-stash b = sym (fails whole-one (passes (stashKnown (s .capacity) st && (versionKnown ve && sourceKnown so)) a ∙ fails (versionKnown ve && sourceKnown so) b))
+    no-stash b = sym (fails whole-one (passes (stashKnown (s .capacity) st && (versionKnown ve && sourceKnown so)) a
+        ∙ fails (versionKnown ve && sourceKnown so) b))
 
     module _ (b : stashKnown (s .capacity) st ≡ true) where
       upto : known-codes ≡ (versionKnown ve && sourceKnown so)
@@ -73,7 +74,8 @@ module _ (se st ve so : List ℕ) (s : Settings) (q : State) where
 
         pub all-codes : sourceKnown so ≡ true → (read held : ℕ) (t : Bool) → read ≡ getD st 0 0 → held ≡ length (heldIn st) →
             t ≡ wholeSeen s (record { whole = true; found = false; len = 0; gap = 0; read = read; held = held }) q → t ≡ (known-codes && whole-one)
-        all-codes d read held t e f g = g ∙ (λ i. wholeSeen s (record { whole = true; found = false; len = 0; gap = 0; read = e i; held = f i }) q) ∙ sym (passes whole-one (upto ∙ passes (sourceKnown so) c ∙ d))
+        all-codes d read held t e f g = g ∙ (λ i. wholeSeen s (record { whole = true; found = false; len = 0; gap = 0; read = e i; held = f i }) q)
+            ∙ sym (passes whole-one (upto ∙ passes (sourceKnown so) c ∙ d))
 
 -- ---- what they come to
 
@@ -84,13 +86,16 @@ module _ (se st re ve po so : List ℕ) (y : Bytes st) (f : stashFits st ≡ tru
   abbrev codes : ℕ → Bool
   codes cap = settingsKnown se && (stashKnown cap st && (versionKnown ve && sourceKnown so))
 
-  by : (t : Bool) (s : Settings) (q : State) → codes (s .capacity) ≡ t → (codes (s .capacity) && wholeSeen s (countedOf st) q) ≡ (codes (s .capacity) && wholeSeen s (seenOf (s .capacity) (stashOf (s .capacity) st)) q)
+  by : (t : Bool) (s : Settings) (q : State) → codes (s .capacity) ≡ t →
+      (codes (s .capacity) && wholeSeen s (countedOf st) q) ≡ (codes (s .capacity) && wholeSeen s (seenOf (s .capacity) (stashOf (s .capacity) st)) q)
   by true s q e =
-      let k = both (stashKnown (s .capacity) st) (versionKnown ve && sourceKnown so) (both (settingsKnown se) (stashKnown (s .capacity) st && (versionKnown ve && sourceKnown so)) e .1) .0 in
+      let k = both (stashKnown (s .capacity) st) (versionKnown ve && sourceKnown so)
+      (both (settingsKnown se) (stashKnown (s .capacity) st && (versionKnown ve && sourceKnown so)) e .1) .0 in
       ap (λ (t : Bool). codes (s .capacity) && t) (sym (seen-counted (s .capacity) st y f k s q))
   by false s q e = fails (wholeSeen s (countedOf st) q) e ∙ sym (fails (wholeSeen s (seenOf (s .capacity) (stashOf (s .capacity) st)) q) e)
 
-  loads-is : (codes (settingsOf se .capacity) && wholeSeen (settledSettings (settingsOf se)) (countedOf st) (settledState (stateIn re ve po so))) ≡ (known six && wholeOf (settled (recordIn six)))
+  loads-is : (codes (settingsOf se .capacity) && wholeSeen (settledSettings (settingsOf se)) (countedOf st) (settledState (stateIn re ve po so)))
+      ≡ (known six && wholeOf (settled (recordIn six)))
   unfolding known wholeOf settled recordIn settledSettings
   loads-is = by (codes (settingsOf se .capacity)) (settledSettings (settingsOf se)) (settledState (stateIn re ve po so)) refl
 
@@ -98,7 +103,8 @@ module _ (se st re ve po so : List ℕ) (y : Bytes st) (f : stashFits st ≡ tru
   unfolding settledSettings
   capacity-kept s = refl
 
-  pub decides : (given g : Settings) (read q : State) (t l : Bool) → given ≡ settingsOf se → read ≡ stateIn re ve po so → t ≡ retired given read → g ≡ settledSettings given → q ≡ settledState read →
+  pub decides : (given g : Settings) (read q : State) (t l : Bool) → given ≡ settingsOf se → read ≡ stateIn re ve po so → t ≡ retired given read →
+      g ≡ settledSettings given → q ≡ settledState read →
       l ≡ (codes (g .capacity) && wholeSeen g (countedOf st) q) → record { loads = l; retired = t; settings = g; state = q } ≡ decidedOf six
   unfolding decidedOf recordIn settled
   decides given g read q t l e₁ e₂ e₃ e₄ e₅ e₆ =
@@ -106,6 +112,7 @@ module _ (se st re ve po so : List ℕ) (y : Bytes st) (f : stashFits st ≡ tru
       let r : q ≡ settledState (stateIn re ve po so) = e₅ ∙ ap settledState e₂ in
       let m : l ≡ (known six && wholeOf (settled (recordIn six)))
       = e₆ ∙ (λ i. codes (p i .capacity) && wholeSeen (p i) (countedOf st) (r i))
-      ∙ ap (λ (n : ℕ). codes n && wholeSeen (settledSettings (settingsOf se)) (countedOf st) (settledState (stateIn re ve po so))) (capacity-kept (settingsOf se)) ∙ loads-is in
+      ∙ ap (λ (n : ℕ). codes n && wholeSeen (settledSettings (settingsOf se)) (countedOf st) (settledState (stateIn re ve po so)))
+      (capacity-kept (settingsOf se)) ∙ loads-is in
       let u : t ≡ retired (settingsOf se) (stateIn re ve po so) = e₃ ∙ (λ i. retired (e₁ i) (e₂ i)) in
       λ i. record { loads = m i; retired = u i; settings = p i; state = r i }

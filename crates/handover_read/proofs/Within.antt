@@ -34,11 +34,13 @@ pub none-found : (d : Decided) (start end : ℕ) → d .loads ≡ false → refu
 unfolding foundAs
 none-found d start end l = sym (unless _ _ l)
 
-pub is-found : (d : Decided) (start end : ℕ) → d .loads ≡ true → record { answer = Loaded (d .retired); settings = d .settings; state = d .state; start = start; end = end } ≡ foundAs d start end
+pub is-found : (d : Decided) (start end : ℕ) → d .loads ≡ true →
+    record { answer = Loaded (d .retired); settings = d .settings; state = d .state; start = start; end = end } ≡ foundAs d start end
 unfolding foundAs
 is-found d start end l = sym (when _ _ l)
 
-pub reads-good : (f : List ℕ) → Six f → (k : ℕ) → k ≡ bodyLength f → (bs : List (List ℕ)) → bs ≡ partsAt f k (length f - 28) → (d : Decided) → d ≡ decidedOf bs → foundAs d (8 + k) (length f - 28) ≡ readOf f
+pub reads-good : (f : List ℕ) → Six f → (k : ℕ) → k ≡ bodyLength f → (bs : List (List ℕ)) → bs ≡ partsAt f k (length f - 28) → (d : Decided) →
+    d ≡ decidedOf bs → foundAs d (8 + k) (length f - 28) ≡ readOf f
 unfolding readOf
 reads-good f s k ek bs eb d ed =
     (λ i. foundAs ((ed ∙ ap decidedOf (eb ∙ ap (λ (j : ℕ). partsAt f j (length f - 28)) ek)) i) (8 + ek i) (length f - 28)) ∙ sym (ap (onCut f) (s .cuts))
@@ -57,8 +59,16 @@ answer-in : (bs : List (List ℕ)) (start end : ℕ) → foundAs (decidedOf bs) 
 unfolding foundAs decidedOf refusedAs loadIn
 answer-in bs start end = go (known bs) (wholeOf (settled (recordIn bs)))
   where
-    go : (k w : Bool) → cond (k && w) (record { answer = Loaded (retired (recordIn bs .settings) (recordIn bs .state)); settings = settled (recordIn bs) .settings; state = settled (recordIn bs) .state; start = start; end = end }) (refusedAs NoAssociation) .answer
-        ≡ cond k (cond w (loaded (Loaded (retired (recordIn bs .settings) (recordIn bs .state))) (settled (recordIn bs))) (refused NoAssociation)) (refused NoAssociation) .answer
+    go : (k w : Bool) → cond (k && w) (record {
+      answer = Loaded (retired (recordIn bs .settings) (recordIn bs .state));
+      settings = settled (recordIn bs) .settings;
+      state = settled
+          (recordIn bs) .state;
+      start = start;
+      end = end;
+    }) (refusedAs NoAssociation) .answer
+        ≡ cond k (cond w (loaded (Loaded (retired (recordIn bs .settings) (recordIn bs .state))) (settled (recordIn bs))) (refused NoAssociation))
+        (refused NoAssociation) .answer
     go true true = refl
     go true false = refl
     go false w = refl
@@ -101,7 +111,14 @@ module _ (f : List ℕ) (s : Six f) where
   codes = versionKnown (part f (end + 10) 2) && sourceKnown (part f (end + 22) 6)
 
   abbrev here : FileRead
-  here = record { answer = Loaded (retired (recordIn parts .settings) (recordIn parts .state)); settings = settled (recordIn parts) .settings; state = settled (recordIn parts) .state; start = start; end = end }
+  here = record {
+    answer = Loaded (retired (recordIn parts .settings) (recordIn parts .state));
+    settings = settled (recordIn parts) .settings;
+    state = settled
+        (recordIn parts) .state;
+    start = start;
+    end = end;
+  }
 
   module _ (l : (known parts && wholeOf (settled (recordIn parts))) ≡ true) where
     loads-as : loadIn parts .association ≡ settled (recordIn parts)
@@ -116,7 +133,8 @@ module _ (f : List ℕ) (s : Six f) where
     unfolding known recordIn settled settledSettings
     stash-known =
         let p = both (known parts) (wholeOf (settled (recordIn parts))) l .0 in
-        both (stashKnown (settingsOf settings .capacity) stash) codes (both (settingsKnown settings) (stashKnown (settingsOf settings .capacity) stash && codes) p .1) .0
+        both (stashKnown (settingsOf settings .capacity) stash) codes
+        (both (settingsKnown settings) (stashKnown (settingsOf settings .capacity) stash && codes) p .1) .0
 
     found-here : Found f here
     found-here =
@@ -128,10 +146,12 @@ module _ (f : List ℕ) (s : Six f) where
           association = ap (λ (o : LoadOut). o .association) (loads f s (bodyLength f) refl) ∙ loads-as ∙ made;
         }
 
-  found-in : (said t : Bool) → decidedOf parts .loads ≡ t → foundAs (decidedOf parts) start end .answer ≡ Loaded said → Found f (foundAs (decidedOf parts) start end)
+  found-in : (said t : Bool) → decidedOf parts .loads ≡ t → foundAs (decidedOf parts) start end .answer ≡ Loaded said →
+      Found f (foundAs (decidedOf parts) start end)
   unfolding foundAs decidedOf refusedAs
   found-in said true l h = subst (Found f) (sym (when _ _ l)) (found-here l)
-  found-in said false l h = let z : NoAssociation ≡ Loaded said = sym (ap (λ (x : FileRead). x .answer) (unless here (refusedAs NoAssociation) l)) ∙ h in let y : _≡_ {A = ℕ} 0 1 = cc in absurd (omega arith)
+  found-in said false l h = let z : NoAssociation ≡ Loaded said = sym (ap (λ (x : FileRead). x .answer) (unless here (refusedAs NoAssociation) l)) ∙ h in
+      let y : _≡_ {A = ℕ} 0 1 = cc in absurd (omega arith)
 
 found-by : (f : List ℕ) (said : Bool) (c : Cut) → cutAs shapes f ≡ c → onCut f c .answer ≡ Loaded said → Found f (onCut f c)
 unfolding refusedAs
@@ -143,10 +163,12 @@ found-by f said misplaced e h = let z : _≡_ {A = ℕ} 0 1 = cc in absurd (omeg
 found-by f said missized e h = let z : _≡_ {A = ℕ} 0 1 = cc in absurd (omega arith)
 
 module _ (f : List ℕ) (r : FileRead) (e : r ≡ readOf f) where
+  -- promise: no6.8
   pub answer-is : r .answer ≡ loadOf f .answer
   unfolding readOf loadOf
   answer-is = ap (λ (x : FileRead). x .answer) e ∙ answer-by f (cutAs shapes f)
 
+  -- promise: no6.8
   pub found-is : (said : Bool) → r .answer ≡ Loaded said → Found f r
   unfolding readOf
   found-is said h = subst (Found f) (sym e) (found-by f said (cutAs shapes f) refl (sym (ap (λ (x : FileRead). x .answer) e) ∙ h))

@@ -1,6 +1,6 @@
-// A hand-over file read where it lies: what it is refused for, or its settings, its state, and where the body of its stash is. No stash is made.
-// Promises: of any bytes the answer of loading them; the association of a file that loads has these settings, this state, and the stash that the body is.
-// Rule: RULES, No. 6, No. 12 and No. 14; definitions in specs/Reading.antt, what it has to do with loading in proofs/Within.antt.
+// Reads a hand-over file in place: why it is rejected, or its settings, its state, and where the body of its stash is. No stash is made.
+// Promises: for any bytes, the answer of loading them; a file that loads is an association with these settings, this state, and the stash in the body.
+// Rule: RULES, No. 6, No. 12 and No. 14; definitions in specs/Reading.antt, the relation to loading in proofs/Within.antt.
 use association::Settings;
 use association::State;
 use cookiestash::Seen;
@@ -17,11 +17,11 @@ ghost use Rattle.handover_groups.specs.State.{versionKnown, sourceKnown};
 ghost use Rattle.handover_file.specs.Cookies.{stashFits, heldIn, stashKnown};
 ghost use Rattle.handover_read.specs.Reading.{countedOf, decidedOf, refusedAs, foundAs, readOf};
 
-// How many bytes a file has behind the stash's body.
+// How many bytes a file has after the stash's body.
 const BEHIND: usize = 28;
 
-// What a file is read as: the answer of loading it; and where it loads the settings, the state, and the stash's body, from start and before end.
-// Of a file that is refused only the answer counts.
+// What a file is read as: the answer of loading it and, if it loads, the settings, the state, and the stash's body, from start to before end. If it is
+// rejected, only the answer counts.
 pub struct FileRead {
     pub answer: LoadAnswer,
     pub settings: Settings,
@@ -30,7 +30,7 @@ pub struct FileRead {
     pub end: usize,
 }
 
-// What six bodies are: whether an association, and which settings and state it is loaded with.
+// What six bodies are: whether they are an association, and the settings and the state that it is loaded with.
 struct Decided {
     loads: bool,
     retired: bool,
@@ -65,7 +65,7 @@ fn count_in(body: &[u8]) -> usize
     }
 }
 
-// Whether the bodies are an association, of the settings and the state that it would be loaded with.
+// Whether the bodies are an association, given the settings and the state that it would be loaded with.
 fn is_whole(se: &[u8], st: &[u8], ve: &[u8], so: &[u8], settings: Settings, state: State) -> bool
     requires { ⌜ stashFits (now st) ≡ true ⌝ }
     ensures { λ r. ⌜ r
@@ -116,7 +116,7 @@ fn decide(se: &[u8], st: &[u8], re: &[u8], ve: &[u8], po: &[u8], so: &[u8]) -> D
     }
 }
 
-// A file that is refused: settings and state are those of no bytes.
+// A rejected file: settings and state are those of no bytes.
 fn refused(answer: LoadAnswer) -> FileRead
     ensures { λ r. ⌜ r ≡ refusedAs answer ⌝ }
 {
@@ -152,7 +152,8 @@ fn found(d: Decided, start: usize, end: usize) -> FileRead
     }
 }
 
-// Reads a file: the settings say how long they are.
+// Reads a file, in which the settings' record says how long it is.
+// promise: no6.8
 pub fn read(file: &[u8]) -> FileRead
     ensures { λ r. ⌜ r ≡ readOf (now (file .entry)) ⌝ }
 {

@@ -15,7 +15,8 @@ use Rattle.handover_file.specs.Answers.{over}
 use Rattle.handover_save.specs.Put.{laidAt, Put, Laid, laid, layOf}
 
 -- what a copy into the buffer's end leaves
-pub put-is : (out piece ys : List ℕ) (at : ℕ) → at + length piece ≤ length out → ys ≡ take (length piece) piece ++ drop (length piece) (take (length out - at) (drop at out))
+pub put-is : (out piece ys : List ℕ) (at : ℕ) → at + length piece ≤ length out →
+    ys ≡ take (length piece) piece ++ drop (length piece) (take (length out - at) (drop at out))
     → putMid at (length out - at) out ys ≡ laidAt out at piece
 unfolding laidAt
 put-is out piece ys at h e =

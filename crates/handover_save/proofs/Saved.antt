@@ -46,9 +46,12 @@ module _ (a : Association) (buffer : List ℕ) where
     unfolding saveOf bufferOf
     short-by h = rw (w, lt-ltb (length buffer) (length (fileOf a)) (omega (arith, long)))
 
-    pub saved-by : 63 + n ≤ length buffer → (left : List ℕ) (r : ℕ) → Put buffer 0 (groupsFile (a .settings) (a .stash) (a .state)) r left → (s : CookieStash) → s ≡ emptyAt (a .stash .read) →
+    pub saved-by : 63 + n ≤ length buffer → (left : List ℕ) (r : ℕ) → Put buffer 0 (groupsFile (a .settings) (a .stash) (a .state)) r left →
+        (s : CookieStash) → s ≡ emptyAt (a .stash .read) →
         handed (saved (Saved (63 + n)) (record { settings = a .settings; stash = s; state = a .state })) left ≡ handedOf a buffer
     unfolding saveOf bufferOf emptied
     saved-by h left r p s es =
-        let l : left ≡ over (fileOf a) buffer = p .leaves ∙ laid-over buffer (groupsFile (a .settings) (a .stash) (a .state)) ∙ ap (λ (f : List ℕ). over f buffer) (groups-file a) in
-        rw (w, le-ltb (length buffer) (length (fileOf a)) (omega (arith, long))) (λ i. handed (saved (Saved (long i)) (record { settings = a .settings; stash = es i; state = a .state })) (l i))
+        let l : left ≡ over (fileOf a) buffer = p .leaves ∙ laid-over buffer (groupsFile (a .settings) (a .stash) (a .state))
+        ∙ ap (λ (f : List ℕ). over f buffer) (groups-file a) in
+        rw (w, le-ltb (length buffer) (length (fileOf a)) (omega (arith, long)))
+        (λ i. handed (saved (Saved (long i)) (record { settings = a .settings; stash = es i; state = a .state })) (l i))

@@ -44,7 +44,8 @@ cookie-put {out = out} {p = p} {q = q} {at = at} {r = r} {s = s} x eh eb en a b 
 
 -- ---- a record: its head, and its body
 
-pub record-put : {out p q : List ℕ} {at r s : ℕ} {h : List ℕ} (m n : ℕ) (body : List ℕ) → h ≡ headOf m n → n ≡ length body → Put out at h r p → Put p r body s q → at + 4 ≤ length out →
+pub record-put : {out p q : List ℕ} {at r s : ℕ} {h : List ℕ} (m n : ℕ) (body : List ℕ) → h ≡ headOf m n → n ≡ length body → Put out at h r p →
+    Put p r body s q → at + 4 ≤ length out →
     Put out at (recordOf m body) s q
 unfolding recordOf
 record-put {out = out} {p = p} {q = q} {at = at} {r = r} {s = s} m n body eh en a b k =
@@ -63,7 +64,8 @@ ahead-all : (cap : ℕ) (s : CookieStash) → ahead cap s (s .read) (s .held) �
 unfolding cookies queue
 ahead-all cap s = refl
 
-ahead-next : (cap : ℕ) (s : CookieStash) (place n : ℕ) → 0 < n → ahead cap s place n ≡ cookieBytes (seen (slotAt (s .slots) place)) ++ ahead cap s (wrap cap (place + 1)) (n - 1)
+ahead-next : (cap : ℕ) (s : CookieStash) (place n : ℕ) → 0 < n →
+    ahead cap s place n ≡ cookieBytes (seen (slotAt (s .slots) place)) ++ ahead cap s (wrap cap (place + 1)) (n - 1)
 ahead-next cap s place zero h = absurd (omega arith)
 ahead-next cap s place (suc n) h =
     let e : n ≡ suc n - 1 = omega arith in
@@ -82,12 +84,22 @@ pub record Writing (cap : ℕ) (out₀ : List ℕ) (at : ℕ) (s : CookieStash) 
   pub same : laidAt out to (ahead cap s place n) ≡ laidAt out₀ at (cookiesBytes (cookies cap s))
 
 pub begins : (cap : ℕ) (out : List ℕ) (at : ℕ) (s : CookieStash) → Whole cap s → Writing cap out at s out at (s .read) (s .held)
-begins cap out at s v = record { most = v .most; long = refl; places = v .reads; ends = ap (λ (l : List ℕ). at + length l) (ahead-all cap s); same = ap (laidAt out at) (ahead-all cap s) }
+begins cap out at s v =
+    record {
+      most = v .most;
+      long = refl;
+      places = v .reads;
+      ends = ap (λ (l : List ℕ). at + length l) (ahead-all cap s);
+      same = ap (laidAt out at)
+          (ahead-all cap s);
+    }
 
-module _ (cap : ℕ) (out₀ : List ℕ) (at : ℕ) (s : CookieStash) (room : at + length (cookiesBytes (cookies cap s)) ≤ length out₀) (out : List ℕ) (to place n : ℕ) (w : Writing cap out₀ at s out to place n) where
+module _ (cap : ℕ) (out₀ : List ℕ) (at : ℕ) (s : CookieStash) (room : at + length (cookiesBytes (cookies cap s)) ≤ length out₀) (out : List ℕ) (to place n : ℕ)
+    (w : Writing cap out₀ at s out to place n) where
   module _ (h : 0 < n) where
     next-long : length (ahead cap s place n) ≡ length (cookieBytes (seen (slotAt (s .slots) place))) + length (ahead cap s (wrap cap (place + 1)) (n - 1))
-    next-long = ap length (ahead-next cap s place n h) ∙ length-append (cookieBytes (seen (slotAt (s .slots) place))) (ahead cap s (wrap cap (place + 1)) (n - 1))
+    next-long = ap length (ahead-next cap s place n h)
+        ∙ length-append (cookieBytes (seen (slotAt (s .slots) place))) (ahead cap s (wrap cap (place + 1)) (n - 1))
 
     pub fits-next : to + length (cookieBytes (seen (slotAt (s .slots) place))) ≤ length out
     fits-next = omega (arith, next-long, w .ends, w .long)
@@ -101,10 +113,12 @@ module _ (cap : ℕ) (out₀ : List ℕ) (at : ℕ) (s : CookieStash) (room : at
           long = put-long c a fits-next ∙ w .long;
           places = next-lt cap place (w .places);
           ends = omega (arith, next-long, w .ends, a .ends);
-          same = (λ i. laidAt (a .leaves i) (a .ends i) rest) ∙ laid-on out to c fits-next rest ∙ sym (ap (laidAt out to) (ahead-next cap s place n h)) ∙ w .same;
+          same = (λ i. laidAt (a .leaves i) (a .ends i) rest) ∙ laid-on out to c fits-next rest ∙ sym (ap (laidAt out to) (ahead-next cap s place n h))
+              ∙ w .same;
         }
 
-    pub writes-next : (r j : ℕ) (p : List ℕ) → Put out to (cookieBytes (seen (slotAt (s .slots) place))) r p → j ≡ wrap cap (place + 1) → Writing cap out₀ at s p r j (n - 1)
+    pub writes-next : (r j : ℕ) (p : List ℕ) → Put out to (cookieBytes (seen (slotAt (s .slots) place))) r p → j ≡ wrap cap (place + 1) →
+        Writing cap out₀ at s p r j (n - 1)
     writes-next r j p a e = subst (λ (k : ℕ). Writing cap out₀ at s p r k (n - 1)) (sym e) (writes r p a)
 
   pub written : n ≡ 0 → Put out₀ at (cookiesBytes (cookies cap s)) to out
@@ -123,7 +137,15 @@ pub record Summing (cap : ℕ) (s : CookieStash) (sum place n : ℕ) : Type 0 wh
 
 pub sum-begins : (cap : ℕ) (s : CookieStash) → Whole cap s → Summing cap s 1 (s .read) (s .held)
 unfolding stashBytes
-sum-begins cap s w = record { places = w .reads; most = w .most; few = omega (arith, w .counts, w .most); small = omega arith; total = omega (arith, ap length (ahead-all cap s)) }
+sum-begins cap s w =
+    record {
+      places = w .reads;
+      most = w .most;
+      few = omega (arith, w .counts, w .most);
+      small = omega arith;
+      total = omega
+          (arith, ap length (ahead-all cap s));
+    }
 
 module _ (cap : ℕ) (s : CookieStash) (v : Whole cap s) (sum place n : ℕ) (w : Summing cap s sum place n) where
   slot-whole : WholeSlot (slotAt (s .slots) place)
@@ -145,7 +167,8 @@ module _ (cap : ℕ) (s : CookieStash) (v : Whole cap s) (sum place n : ℕ) (w 
 
   pub sum-next : 0 < n → (k j : ℕ) → k ≡ stored (slotAt (s .slots) place .len) → j ≡ wrap cap (place + 1) → Summing cap s (sum + 2 + k) j (n - 1)
   sum-next h k j ek ej =
-      subst (λ (i : ℕ). Summing cap s (sum + 2 + i) j (n - 1)) (sym ek) (subst (λ (i : ℕ). Summing cap s (sum + 2 + stored (slotAt (s .slots) place .len)) i (n - 1)) (sym ej) (sums h))
+      subst (λ (i : ℕ). Summing cap s (sum + 2 + i) j (n - 1)) (sym ek)
+      (subst (λ (i : ℕ). Summing cap s (sum + 2 + stored (slotAt (s .slots) place .len)) i (n - 1)) (sym ej) (sums h))
 
   pub summed : n ≡ 0 → sum ≡ length (stashBytes cap s)
   summed z = omega (arith, w .total, ap length (ahead-none cap s place n z))
@@ -161,22 +184,26 @@ unfolding stashBytes
 stash-long cap s = omega arith
 
 -- the stash's: its head, the reading place, the cookies
-pub stash-put : {out p q z : List ℕ} {at r t u n : ℕ} {h b : List ℕ} (cap : ℕ) (s : CookieStash) → h ≡ headOf 0x5354 n → n ≡ length (stashBytes cap s) → b ≡ s .read ∷ [] →
+pub stash-put : {out p q z : List ℕ} {at r t u n : ℕ} {h b : List ℕ} (cap : ℕ) (s : CookieStash) → h ≡ headOf 0x5354 n → n ≡ length (stashBytes cap s) →
+    b ≡ s .read ∷ [] →
     Put out at h r p → Put p r b t q → Put q t (cookiesBytes (cookies cap s)) u z → at + 5 ≤ length out → Put out at (recordOf 0x5354 (stashBytes cap s)) u z
 unfolding recordOf stashBytes
 stash-put {out = out} {p = p} {q = q} {z = z} {at = at} {r = r} {t = t} {u = u} {n = n} cap s eh en eb a b c k =
     let first : Put out at (headOf 0x5354 n) r p = subst (λ (w : List ℕ). Put out at w r p) eh a in
     let place : Put p r (s .read ∷ []) t q = subst (λ (w : List ℕ). Put p r w t q) eb b in
     let both : Put out at (headOf 0x5354 n ++ (s .read ∷ [])) t q = put-put (headOf 0x5354 n) (s .read ∷ []) first place (omega arith) in
-    let all : Put out at ((headOf 0x5354 n ++ (s .read ∷ [])) ++ cookiesBytes (cookies cap s)) u z = put-put (headOf 0x5354 n ++ (s .read ∷ [])) (cookiesBytes (cookies cap s)) both c (omega arith) in
+    let all : Put out at ((headOf 0x5354 n ++ (s .read ∷ [])) ++ cookiesBytes (cookies cap s)) u z = put-put (headOf 0x5354 n ++ (s .read ∷ []))
+    (cookiesBytes (cookies cap s)) both c (omega arith) in
     subst (λ (j : ℕ). Put out at (toBe 2 0x5354 ++ (toBe 2 j ++ (s .read ∷ cookiesBytes (cookies cap s)))) u z) en all
 
-module _ (state : State) {e v p s : List ℕ} (ee : e ≡ effortBytes (state .effort)) (ev : v ≡ versionBytes (state .version)) (ep : p ≡ pollsBytes (state .polls)) (es : s ≡ sourceBytes (state .source)) where
+module _ (state : State) {e v p s : List ℕ} (ee : e ≡ effortBytes (state .effort)) (ev : v ≡ versionBytes (state .version))
+    (ep : p ≡ pollsBytes (state .polls)) (es : s ≡ sourceBytes (state .source)) where
   records-are : recordOf 0x5245 e ++ (recordOf 0x5645 v ++ (recordOf 0x504F p ++ recordOf 0x534F s)) ≡ stateRecords state
   unfolding stateRecords
   records-are = λ i. recordOf 0x5245 (ee i) ++ (recordOf 0x5645 (ev i) ++ (recordOf 0x504F (ep i) ++ recordOf 0x534F (es i)))
 
-  pub state-put : {o o₁ o₂ o₃ o₄ : List ℕ} {at r₁ r₂ r₃ r₄ : ℕ} → Put o at (recordOf 0x5245 e) r₁ o₁ → Put o₁ r₁ (recordOf 0x5645 v) r₂ o₂ → Put o₂ r₂ (recordOf 0x504F p) r₃ o₃ → Put o₃ r₃ (recordOf 0x534F s) r₄ o₄ →
+  pub state-put : {o o₁ o₂ o₃ o₄ : List ℕ} {at r₁ r₂ r₃ r₄ : ℕ} → Put o at (recordOf 0x5245 e) r₁ o₁ → Put o₁ r₁ (recordOf 0x5645 v) r₂ o₂ →
+      Put o₂ r₂ (recordOf 0x504F p) r₃ o₃ → Put o₃ r₃ (recordOf 0x534F s) r₄ o₄ →
       at + 28 ≤ length o → Put o at (stateRecords state) r₄ o₄
   state-put {o = o} {o₁ = o₁} {o₂ = o₂} {o₃ = o₃} {o₄ = o₄} {at = at} {r₁ = r₁} {r₂ = r₂} {r₃ = r₃} {r₄ = r₄} a b c d k =
       let n₁ : length e ≡ 2 = ap length ee ∙ effort-long (state .effort) in
@@ -196,7 +223,8 @@ module _ (state : State) {e v p s : List ℕ} (ee : e ≡ effortBytes (state .ef
 
 -- all of them
 pub file-put : (settings : Settings) (s : CookieStash) (state : State) {f : List ℕ} → f ≡ settingsBytes settings → {o o₁ o₂ o₃ : List ℕ} {r₁ r₂ r₃ : ℕ} →
-    Put o 0 (recordOf 0x5345 f) r₁ o₁ → Put o₁ r₁ (recordOf 0x5354 (stashBytes (settings .capacity) s)) r₂ o₂ → Put o₂ r₂ (stateRecords state) r₃ o₃ → 63 + length (stashBytes (settings .capacity) s) ≤ length o →
+    Put o 0 (recordOf 0x5345 f) r₁ o₁ → Put o₁ r₁ (recordOf 0x5354 (stashBytes (settings .capacity) s)) r₂ o₂ → Put o₂ r₂ (stateRecords state) r₃ o₃ →
+    63 + length (stashBytes (settings .capacity) s) ≤ length o →
     Put o 0 (groupsFile settings s state) r₃ o₃
 unfolding groupsFile
 file-put settings s state {f = f} e {o = o} {o₁ = o₁} {o₃ = o₃} {r₁ = r₁} {r₃ = r₃} a b c k =
@@ -207,7 +235,8 @@ file-put settings s state {f = f} e {o = o} {o₁ = o₁} {o₃ = o₃} {r₁ = 
     let m₁ : length o₁ ≡ length o = put-long (recordOf 0x5345 f) a k₁ in
     let k₂ : r₁ + length (recordOf 0x5354 (stashBytes (settings .capacity) s)) ≤ length o₁ = omega (arith, a .ends) in
     subst (λ (w : List ℕ). Put o 0 (recordOf 0x5345 w ++ (recordOf 0x5354 (stashBytes (settings .capacity) s) ++ stateRecords state)) r₃ o₃) e
-    (put-put (recordOf 0x5345 f) (recordOf 0x5354 (stashBytes (settings .capacity) s) ++ stateRecords state) a (put-put (recordOf 0x5354 (stashBytes (settings .capacity) s)) (stateRecords state) b c k₂) k₁)
+    (put-put (recordOf 0x5345 f) (recordOf 0x5354 (stashBytes (settings .capacity) s) ++ stateRecords state) a
+    (put-put (recordOf 0x5354 (stashBytes (settings .capacity) s)) (stateRecords state) b c k₂) k₁)
 
 -- ---- records laid where they fit
 
@@ -223,7 +252,8 @@ module _ (out : List ℕ) (at : ℕ) where
   pub settings-lays : (s : Settings) {f : List ℕ} {r : ℕ} {left : List ℕ} → f ≡ settingsBytes s → at + 31 ≤ length out → Put out at (recordOf 0x5345 f) r left
       → laid r left ≡ layOf out at (recordOf 0x5345 (settingsBytes s))
   settings-lays s {r = r} {left = left} e h p =
-      lays out at (recordOf 0x5345 (settingsBytes s)) (omega (arith, settings-record-long s)) (subst (λ (f : List ℕ). Put out at (recordOf 0x5345 f) r left) e p)
+      lays out at (recordOf 0x5345 (settingsBytes s)) (omega (arith, settings-record-long s))
+      (subst (λ (f : List ℕ). Put out at (recordOf 0x5345 f) r left) e p)
 
   pub settings-lays-not : (s : Settings) → leb (at + 31) (length out) ≡ false → laid at out ≡ layOf out at (recordOf 0x5345 (settingsBytes s))
   settings-lays-not s e = lays-not out at (recordOf 0x5345 (settingsBytes s)) (ap (λ (n : ℕ). leb (at + n) (length out)) (settings-record-long s) ∙ e)

@@ -15,16 +15,16 @@ use Rattle.handover_groups.specs.State.{effortBytes, versionBytes, pollsBytes, 
 use Rattle.handover_file.specs.Sections.{recordOf}
 use Rattle.handover_file.specs.Cookies.{stashBytes}
 
--- a buffer with bytes in place of its own from an offset on
+-- a buffer whose bytes from an offset on are replaced
 unfoldable pub laidAt : List ℕ → ℕ → List ℕ → List ℕ
 laidAt out at w = take at out ++ (w ++ drop (at + length w) out)
 
--- they end at `end`, and nothing else of the buffer has changed
+-- they end at `end`, and nothing else in the buffer has changed
 pub record Put (out : List ℕ) (at : ℕ) (w : List ℕ) (end : ℕ) (left : List ℕ) : Type 0 where
   pub ends : end ≡ at + length w
   pub leaves : left ≡ laidAt out at w
 
--- what laying bytes gives: the offset behind them, and the buffer
+-- the result of writing bytes: the offset after them, and the buffer
 pub record Laid : Type 0 where
   pub ends : ℕ
   pub left : List ℕ
@@ -32,7 +32,7 @@ pub record Laid : Type 0 where
 abbrev pub laid : ℕ → List ℕ → Laid
 laid r out = record { ends = r; left = out }
 
--- where they do not fit nothing is written, and the offset itself comes back
+-- if they do not fit nothing is written, and the offset itself is returned
 unfoldable pub layOf : List ℕ → ℕ → List ℕ → Laid
 layOf out at w = cond (leb (at + length w) (length out)) (laid (at + length w) (laidAt out at w)) (laid at out)
 

@@ -1,6 +1,6 @@
-// The writer of the hand-over file: at power-down the association goes into a file, and its cookies with it.
-// Promises: the file byte by byte, and nothing past it; after a refusal nothing is written; the association handed back has no cookie, and all else as before.
-// Rule: RULES, No. 6 and No. 12; the file is defined in `handover_file`, how bytes are put into the buffer in specs/Put.antt.
+// The writer of the hand-over file: at power-down it writes the association, with its cookies, to a file.
+// Promises: the file byte by byte, and nothing past it; a rejected call writes nothing; the returned association has no cookie and is otherwise unchanged.
+// Rule: RULES, No. 6 and No. 12; the file is defined in `handover_file`, how bytes are written to the buffer in specs/Put.antt.
 use association::Association;
 use association::Settings;
 use association::State;
@@ -38,7 +38,7 @@ const SOURCE_MARK: u16 = 0x534F;
 // How many bytes a file has besides the stash's body.
 const BESIDES: usize = 63;
 
-// Copies bytes to an offset of the buffer, and gives the offset behind them.
+// Copies bytes to an offset of the buffer, and returns the offset after them.
 fn put(out: &mut [u8], at: usize, piece: &[u8]) -> usize
     requires { ⌜ at + length (now piece) ≤ length (now out) ⌝ }
     ensures { λ r. ⌜ Put (now (out .entry)) at (now (piece .entry)) r (now (out .exit)) ⌝ }
@@ -57,7 +57,7 @@ pub fn head(mark: u16, len: u16) -> [u8; 4]
     [m[0], m[1], n[0], n[1]]
 }
 
-// A record of a fixed length.
+// Writes a record of a fixed length.
 fn put_record(out: &mut [u8], at: usize, mark: u16, body: &[u8]) -> usize
     requires { ⌜ (length (now body) ≤ 65535) × (at + (4 + length (now body)) ≤ length (now out)) ⌝ }
     ensures { λ r. ⌜ (r ≡ at + (4 + length (now (body .entry)))) × (Put (now (out .entry)) at (recordOf mark (now (body .entry))) r (now (out .exit))) ⌝ }
@@ -67,7 +67,7 @@ fn put_record(out: &mut [u8], at: usize, mark: u16, body: &[u8]) -> usize
     put(out, to, body)
 }
 
-// A cookie's length, and its stored bytes: none where the length is more than a slot has.
+// Writes a cookie's length and its stored bytes; none if the cookie is longer than a slot.
 fn put_cookie(out: &mut [u8], at: usize, slot: Slot) -> usize
     requires { ⌜ (WholeSlot slot) × (at + length (cookieBytes (seen slot)) ≤ length (now out)) ⌝ }
     ensures { λ r. ⌜ Put (now (out .entry)) at (cookieBytes (seen slot)) r (now (out .exit)) ⌝ }
@@ -79,7 +79,7 @@ fn put_cookie(out: &mut [u8], at: usize, slot: Slot) -> usize
     put(out, to, &bytes[0..n])
 }
 
-// The cookies, oldest first, of a stash of a capacity.
+// Writes the cookies of a stash of this capacity, oldest first.
 fn put_cookies(out: &mut [u8], at: usize, s: CookieStash, capacity: u8) -> usize
     requires { ⌜ (Whole capacity s) × (at + length (cookiesBytes (cookies capacity s)) ≤ length (now out)) ⌝ }
     ensures { λ r. ⌜ Put (now (out .entry)) at (cookiesBytes (cookies capacity s)) r (now (out .exit)) ⌝ }
@@ -113,7 +113,7 @@ fn stash_length(s: CookieStash, capacity: u8) -> usize
     sum
 }
 
-// The stash's record: the reading place, then the cookies.
+// Writes the stash's record: the reading place, then the cookies.
 fn put_stash(out: &mut [u8], at: usize, s: CookieStash, capacity: u8, len: usize) -> usize
     requires { ⌜ (Whole capacity s) × (len ≡ length (stashBytes capacity s)) × (len ≤ 65535) × (at + (4 + len) ≤ length (now out)) ⌝ }
     ensures { λ r. ⌜ (r ≡ at + (4 + len)) × (Put (now (out .entry)) at (recordOf 0x5354 (stashBytes capacity s)) r (now (out .exit))) ⌝ }
@@ -125,7 +125,7 @@ fn put_stash(out: &mut [u8], at: usize, s: CookieStash, capacity: u8, len: usize
     put_cookies(out, to, s, capacity)
 }
 
-// The records of the state; the pending request is not written.
+// Writes the records of the state; the pending request is not written.
 fn put_state(out: &mut [u8], at: usize, state: State) -> usize
     requires { ⌜ at + 28 ≤ length (now out) ⌝ }
     ensures { λ r. ⌜ Put (now (out .entry)) at (stateRecords state) r (now (out .exit)) ⌝ }
@@ -140,7 +140,7 @@ fn put_state(out: &mut [u8], at: usize, state: State) -> usize
     put_record(out, to, SOURCE_MARK, &source)
 }
 
-// The whole file, from the start of the buffer.
+// Writes the whole file to the start of the buffer.
 fn put_file(out: &mut [u8], settings: Settings, s: CookieStash, state: State, len: usize) -> usize
     requires { ⌜ (Whole (settings .capacity) s) × (len ≡ length (stashBytes (settings .capacity) s)) × (len ≤ 65535) × (63 + len ≤ length (now out)) ⌝ }
     ensures { λ r. ⌜ Put (now (out .entry)) 0 (groupsFile settings s state) r (now (out .exit)) ⌝ }
@@ -151,7 +151,7 @@ fn put_file(out: &mut [u8], settings: Settings, s: CookieStash, state: State, le
     put_state(out, to, state)
 }
 
-// Whether so many bytes fit at an offset of a room.
+// Whether n bytes fit at an offset of a buffer with so much room.
 fn fits(room: usize, at: usize, n: usize) -> bool
     ensures { λ r. ⌜ r ≡ leb (at + n) room ⌝ }
 {
@@ -161,7 +161,7 @@ fn fits(room: usize, at: usize, n: usize) -> bool
     at <= room - n
 }
 
-// Bytes go to an offset of the buffer, and the offset behind them comes back; where they do not fit nothing is written, and the offset itself comes back.
+// Writes bytes at an offset of the buffer, and returns the offset after them. If they do not fit it writes nothing, and returns the offset itself.
 pub fn lay(out: &mut [u8], at: usize, piece: &[u8]) -> usize
     ensures { λ r. ⌜ laid r (now (out .exit)) ≡ layOf (now (out .entry)) at (now (piece .entry)) ⌝ }
 {
@@ -171,7 +171,7 @@ pub fn lay(out: &mut [u8], at: usize, piece: &[u8]) -> usize
     put(out, at, piece)
 }
 
-// The record of the settings, laid as `lay` does it.
+// Writes the record of the settings, as `lay` does.
 pub fn lay_settings(out: &mut [u8], at: usize, settings: Settings) -> usize
     ensures { λ r. ⌜ laid r (now (out .exit)) ≡ layOf (now (out .entry)) at (recordOf 0x5345 (settingsBytes settings)) ⌝ }
 {
@@ -182,7 +182,7 @@ pub fn lay_settings(out: &mut [u8], at: usize, settings: Settings) -> usize
     put_record(out, at, SETTINGS_MARK, &first)
 }
 
-// The records of the state, laid as `lay` does it.
+// Writes the records of the state, as `lay` does.
 pub fn lay_state(out: &mut [u8], at: usize, state: State) -> usize
     ensures { λ r. ⌜ laid r (now (out .exit)) ≡ layOf (now (out .entry)) at (stateRecords state) ⌝ }
 {
@@ -192,7 +192,7 @@ pub fn lay_state(out: &mut [u8], at: usize, state: State) -> usize
     put_state(out, at, state)
 }
 
-// A stash with no cookie, at a reading place.
+// An empty stash with a reading place.
 fn emptied(read: usize) -> CookieStash
     ensures { λ r. ⌜ r ≡ emptyAt read ⌝ }
 {
@@ -201,7 +201,8 @@ fn emptied(read: usize) -> CookieStash
     s
 }
 
-// Writes the file of an association, and hands the association back without its cookies: a cookie has one owner.
+// Writes the file of an association, and returns the association without its cookies: a cookie has one owner.
+// promise: no6.1, no6.2, no6.6, no12.5
 pub fn save(a: Association, buffer: &mut [u8]) -> SaveOut
     ensures { λ r. ⌜ handed r (now (buffer .exit)) ≡ handedOf a (now (buffer .entry)) ⌝ }
 {

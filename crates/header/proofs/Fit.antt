@@ -22,6 +22,7 @@ pub record Fit (h : Header) : Type 0 where
   pub transmit : h .transmit .0 < 2 ^ 64
 
 -- the types alone give it: every header that stands for machine values
+-- promise: 6.3
 pub types-fit : (h : Header) (vs : List Val) → Is the-row h vs → Fit h
 types-fit h vs is =
     record {

@@ -54,6 +54,7 @@ module _ (h : Header) (f : Fit h) where
         word 8 (h .transmit .0) (f .transmit),
       )
 
+  -- promise: 6.3 (reading what was written gives the header)
   pub read-write : headerOf (bytesOf h) ≡ Decoded h
   unfolding headerOf bytesOf
   read-write = rw (first-version (h .leap) (h .version) (h .mode)) (by-version (h .version) (bytesOf h)) ∙ ap Decoded back
@@ -103,6 +104,7 @@ then-refused p f = go (headerOf p) (view p) f
     go _ (read V4 l e) (inr n) = absurd (n .1 e)
 
 -- the reader refuses with number 1 of RULES exactly what is refused, and with no other number
+-- promise: 6.1 (1 exactly if too short or of another version), 6.2, 6.4
 pub refused : (p : List ℕ) (n : ℕ) → (refusalOf (headerOf p) ≡ some n) ↔ ((n ≡ 1) × Refused p)
 refused p n = (
   λ e. (let b = refused-by (headerOf p) n e in (b .0, undecodable p (b .1))),
@@ -165,6 +167,7 @@ module _ (p : List ℕ) (b : Bytes p) where
       (again 40 8 (omega arith))
       ∙ laid p l
 
+  -- promise: 6.3 (writing what was read gives the first 48 bytes)
   pub write-read : (h : Header) → headerOf p ≡ Decoded h → bytesOf h ≡ take 48 p
   unfolding part
   write-read h e = go h (subst (Read p) e (view p))

@@ -56,6 +56,7 @@ modeOf n =
     (cond (eqb n 6) Control Private))))))
 
 -- version: 3 and 4
+-- promise: 6.2
 abbrev pub versionCode : HeaderVersion → ℕ
 versionCode V3 = 3
 versionCode V4 = 4
@@ -64,12 +65,15 @@ versionCode V4 = 4
 abbrev pub firstByte : Leap → HeaderVersion → Mode → ℕ
 firstByte l v m = leapCode l * 64 + versionCode v * 8 + modeCode m
 
+-- promise 6.2: The version is in bits 3 to 5 of byte 0. Versions 3 and 4 are read.
 abbrev pub versionBits : List ℕ → ℕ
 versionBits p = getD p 0 0 / 8 % 8
 
 -- ---- the reader
 
 -- the fields at their offsets; poll and precision are signed
+-- promise 6.1: A header has 48 bytes, with fields at 0, 1, 2, 3, 4, 8, 12, 16, 24, 32 and 40. Poll and precision are signed.
+--     edit: header/forty_seven_bytes_are_read
 unfoldable pub fields : HeaderVersion → List ℕ → Header
 fields v p =
     record {
@@ -89,6 +93,7 @@ fields v p =
     }
 
 -- fewer than 48 bytes, or a version other than 3 and 4, are not decodable
+-- promise: 6.1
 unfoldable pub headerOf : List ℕ → HeaderRead
 headerOf p =
     cond (ltb (length p) 48) Undecodable
@@ -96,7 +101,8 @@ headerOf p =
     (cond (eqb (versionBits p) 4) (Decoded (fields V4 p))
     Undecodable))
 
--- the number in RULES: 1 for bytes that are not decodable; a header that is read is refused by none
+-- the number in RULES: 1 for bytes that are not decodable; a header that is read is not rejected
+-- promise 6.4: An undecodable header is 1. No other answer of the reader has a number.
 abbrev pub refusalOf : HeaderRead → Option ℕ
 refusalOf (Decoded h) = none
 refusalOf Undecodable = some 1
@@ -104,6 +110,8 @@ refusalOf Undecodable = some 1
 -- ---- the writer
 
 -- the fields in the order of their offsets
+-- promise 6.3: The writer returns 48 bytes by value and rejects nothing.
+--     edit: header/origin_written_twice
 unfoldable pub bytesOf : Header → List ℕ
 bytesOf h =
     firstByte (h .leap) (h .version) (h .mode)
@@ -118,6 +126,6 @@ bytesOf h =
     ++ toBe 8 (h .receive .0)
     ++ toBe 8 (h .transmit .0))
 
--- other bytes in place of those from an offset on; only private functions of the writers, here and in `request`, cite it
+-- bytes from an offset on replaced by others; only private functions of the writers, here and in `request`, cite it
 unfoldable pub placed : List ℕ → ℕ → List ℕ → List ℕ
 placed out at bytes = paste out at bytes (length bytes)

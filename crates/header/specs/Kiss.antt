@@ -1,4 +1,4 @@
--- RULES, part 9: a kiss has stratum 0, and its name by the reference identifier.
+-- RULES, part 9: a kiss has stratum 0, and its reference identifier is its name.
 -- Assumes nothing.
 use Prim.Native.Nat.{ℕ}
 use mathlib.Core.Bool.{Bool, _&&_}
@@ -13,6 +13,8 @@ isKiss h = eqb (h .stratum) 0
 abbrev pub isKissNamed : ℕ → Header → Bool
 isKissNamed n h = isKiss h && isName n (h .refid)
 
+-- promise 9.1: A kiss has stratum 0, and its name is the reference identifier.
+--     edit: header/kiss_at_stratum_one
 unfoldable pub kissesOf : Header → Kisses
 kissesOf h =
     record {

@@ -1,5 +1,5 @@
 // The NTP header: 48 bytes, read from a packet and written by value, and the kiss that it may be.
-// Promises: reader and writer undo each other, and the reader refuses exactly what is too short or of another version.
+// Promises: reader and writer undo each other, and the reader rejects exactly what is too short or has another version.
 // Rule: RULES, parts 6 and 9; definitions in specs/Header.antt and specs/Kiss.antt.
 use identifiers::ReferenceId;
 use time_types::NtpTimestamp;
@@ -11,7 +11,6 @@ ghost use Rattle.words.specs.Bytes.{be, part, toBe};
 ghost use Rattle.header.specs.Header.{leapOf, modeOf, leapCode, modeCode, versionCode, firstByte, fields, headerOf, placed, bytesOf};
 ghost use Rattle.header.specs.Kiss.{kissesOf};
 
-// The bytes of a header.
 pub const HEADER_BYTES: usize = 48;
 
 // The versions whose header has this form.
@@ -60,7 +59,7 @@ pub enum HeaderRead {
     Undecodable,
 }
 
-// What a header says as a kiss: any kiss, and which of the names.
+// Whether a header is a kiss, and which of the names it has.
 pub struct Kisses {
     pub rate: bool,
     pub deny: bool,
@@ -123,6 +122,7 @@ fn mode_code(m: Mode) -> u8
 
 impl HeaderVersion {
     // The version as the header's number.
+    // promise: 6.2
     pub fn number(self) -> u8
         ensures { λ r. ⌜ r ≡ versionCode self ⌝ }
     {
@@ -133,7 +133,7 @@ impl HeaderVersion {
     }
 }
 
-// The number of the eight bytes from an offset on, by its halves: the compiler takes each as one load.
+// The number in the eight bytes from an offset on, read as two halves: the compiler makes each a single load.
 fn word_at(p: &[u8], at: usize) -> u64
     requires { ⌜ at + 8 ≤ length (now p) ⌝ }
     ensures { λ r. ⌜ r ≡ be (part (now (p .entry)) at 8) ⌝ }
@@ -186,7 +186,8 @@ fn fields_of(version: HeaderVersion, p: &[u8]) -> Header
     fields_in(version, &p[..HEADER_BYTES])
 }
 
-// The header at the start of a packet. What is shorter, or of another version, is refused.
+// Reads the header at the start of a packet. Rejects a packet that is too short or has another version.
+// promise: 6.1, 6.2, 6.4
 pub fn read_header(p: &[u8]) -> HeaderRead
     ensures { λ r. ⌜ r ≡ headerOf (now (p .entry)) ⌝ }
 {
@@ -235,6 +236,7 @@ fn first_byte(leap: Leap, version: HeaderVersion, mode: Mode) -> u8
 }
 
 // The 48 bytes of a header.
+// promise: 6.3
 pub fn write_header(h: Header) -> [u8; 48]
     ensures { λ r. ⌜ r ≡ bytesOf h ⌝ }
 {
@@ -256,6 +258,7 @@ pub fn write_header(h: Header) -> [u8; 48]
 }
 
 impl Header {
+    // promise: 9.1
     pub fn kisses(self) -> Kisses
         ensures { λ r. ⌜ r ≡ kissesOf self ⌝ }
     {

@@ -86,9 +86,11 @@ module _ (nts : Bool) (p : List ℕ) (end : ℕ) (decrypted : List ℕ) where
       back : (r : HeaderRead) → Read p r → headerOf p ≡ r → Refused nts p end decrypted → onHeader (bytesRead nts uid p end decrypted) r ≡ Undecodable
       back _ (short l) e q = refl
       back _ (other a b) e q = refl
-      back _ (read v l b) e q = then-refused (endValid v p end) (decryptedValid nts decrypted) _ (which-fails v b (λ u. let z : _≡_ {A = ℕ} 0 1 = cc in omega arith) q)
+      back _ (read v l b) e q = then-refused (endValid v p end) (decryptedValid nts decrypted) _
+          (which-fails v b (λ u. let z : _≡_ {A = ℕ} 0 1 = cc in omega arith) q)
 
   -- the byte form is refused with number 1 of RULES exactly there, and with no other number
+  -- promise: 7.7 (the byte form has 1 exactly if its header, its end or, with NTS, its decrypted fields are not valid; `refusalOf`)
   pub refused : (uid : List ℕ) (n : ℕ) → (refusalOf (readOf nts uid p end decrypted) ≡ some n) ↔ ((n ≡ 1) × Refused nts p end decrypted)
   refused uid n = (
     λ e. (let b = refused-by (readOf nts uid p end decrypted) n e in (b .0, undecodable uid .0 (b .1))),

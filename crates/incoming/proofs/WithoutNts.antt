@@ -17,7 +17,9 @@ pub no-group : (v : HeaderVersion) (p : List ℕ) (from to : ℕ) (uid : List �
 no-group V3 p from to uid = refl
 no-group V4 p from to uid = refl
 
-pub without-nts : (uid uid′ : List ℕ) (p : List ℕ) (end : ℕ) (decrypted decrypted′ : List ℕ) → readOf false uid p end decrypted ≡ readOf false uid′ p end decrypted′
+-- promise: 8.3
+pub without-nts : (uid uid′ : List ℕ) (p : List ℕ) (end : ℕ) (decrypted decrypted′ : List ℕ) →
+    readOf false uid p end decrypted ≡ readOf false uid′ p end decrypted′
 unfolding readOf bytesRead
 without-nts uid uid′ p end decrypted decrypted′ = by (headerOf p)
   where

@@ -58,19 +58,23 @@ isServer M.Control = false
 isServer M.Private = false
 
 -- the authenticated end: V3 has only tail, so that 48 is its walk's only place; V4's is a place of a walk that is not broken
+-- promise 7.7: V3 has only a tail, of any length.
 abbrev pub endValid : HeaderVersion → List ℕ → ℕ → Bool
 endValid V3 p end = eqb end 48
 endValid V4 p end = isPlace p end
 
 -- decrypted field bytes are read only with NTS; broken: 1
+-- promise 8.3: Without NTS neither groups nor decrypted bytes are read.
 abbrev pub decryptedValid : Bool → List ℕ → Bool
 decryptedValid nts decrypted = not nts || whole (decryptedWalk decrypted)
 
--- the groups, which only NTS looks at: fields before the authenticated end are authenticated, after it untrusted; V3 has none
+-- the groups, which only NTS reads: fields before the authenticated end are authenticated, after it untrusted; V3 has none
+-- promise: 7.8, 8.3
 abbrev pub groupOf : Bool → HeaderVersion → List ℕ → ℕ → ℕ → List ℕ → Uid
 groupOf nts V3 p from to uid = Absent
 groupOf nts V4 p from to uid = cond nts (packetUid p from to uid) Absent
 
+-- promise: 8.3
 abbrev pub encryptedOf : Bool → List ℕ → List ℕ → Uid
 encryptedOf nts decrypted uid = cond nts (decryptedUid decrypted uid) Absent
 
@@ -107,11 +111,11 @@ abbrev pub onHeader : (Header → ReplyRead) → HeaderRead → ReplyRead
 onHeader f (H.Decoded h) = f h
 onHeader f H.Undecodable = Undecodable
 
--- the byte form: undecodable header, authenticated end that is no place, and broken decrypted fields are refused
+-- the byte form: it rejects an undecodable header, an authenticated end that is no place, and broken decrypted fields
 unfoldable pub readOf : Bool → List ℕ → List ℕ → ℕ → List ℕ → ReplyRead
 readOf nts uid p end decrypted = onHeader (bytesRead nts uid p end decrypted) (headerOf p)
 
--- the number in RULES: 1 for packet bytes that are not decodable; a reply that is read is refused by none here
+-- the number in RULES: 1 for packet bytes that are not decodable; a reply that is read is not rejected here
 abbrev pub refusalOf : ReplyRead → Option ℕ
 refusalOf (Decoded r) = none
 refusalOf Undecodable = some 1
@@ -121,6 +125,8 @@ isResponse Request = false
 isResponse Response = true
 
 -- the decoded form: version 5, the client cookie as the 64 bits; it reports no reference identifier, as in the crate
+-- promise 9.2: A V5 reply carries the caller's five answers.
+--     edit: incoming/v5_is_version_4
 unfoldable pub decodedOf : DecodedReply → Reply
 decodedOf d =
     record {

@@ -1,4 +1,4 @@
--- When the byte form of a reply is refused with 1, as a statement: what `readOf` of specs/Incoming.antt tests (RULES, parts 6, 7 and 11).
+-- When the byte form of a reply is rejected with 1, as a statement: what `readOf` of specs/Incoming.antt tests (RULES, parts 6, 7 and 11).
 -- Assumes nothing.
 use mathlib.Core.Path.{_≡_}
 use mathlib.Core.Bool.{Bool, true}
@@ -11,7 +11,7 @@ use Rattle.fields.specs.declared.Walked.the-variants.{Broken}
 use Rattle.fields.specs.Walk.{decryptedWalk, walkedOf}
 use Rattle.fields.specs.Sound.{Place}
 
--- the header is not decodable; the authenticated end is no place, where V3 has only 48 and V4 the places of a walk that ends; or, with NTS, the decrypted fields are broken
+-- the header is not decodable; the authenticated end is no place (V3 has only 48, V4 those of a walk that ends); or, with NTS, the decrypted fields are broken
 abbrev pub Refused : Bool → List ℕ → ℕ → List ℕ → Type 0
 Refused nts p end decrypted =
     (headerOf p ≡ Undecodable)

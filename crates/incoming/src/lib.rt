@@ -1,5 +1,5 @@
-// What a reply says, as one value, and how both of its forms come down to it.
-// Promises: the byte form is refused (1) exactly where its header, its authenticated end or, with NTS, its decrypted fields do not hold.
+// What a reply says, as one value, and how both of its forms are turned into it.
+// Promises: the byte form is rejected (1) exactly if its header, its authenticated end or, with NTS, its decrypted fields are not valid.
 // Rule: RULES, parts 6 to 9 and 11; definitions in specs/Incoming.antt.
 use fields::Walked;
 use header::HEADER_BYTES;
@@ -15,7 +15,8 @@ use time_types::NtpTimestamp;
 use time_types::PollInterval;
 use uid_groups::Uid;
 ghost use mathlib.Core.Path.{_≡_};
-ghost use Rattle.incoming.specs.Incoming.{leapCode, leapOf, isServer, isResponse, endValid, decryptedValid, groupOf, encryptedOf, valueOf, readOf, decodedOf};
+ghost use Rattle.incoming.specs.Incoming.{leapCode, leapOf, isServer, isResponse, endValid, decryptedValid};
+ghost use Rattle.incoming.specs.Incoming.{groupOf, encryptedOf, valueOf, readOf, decodedOf};
 
 // The leap kinds of a measurement: a header's four, and Unknown, which only the decoded form can carry.
 pub enum NtpLeapIndicator {
@@ -35,16 +36,15 @@ pub struct Reply {
     pub stratum: u8,
     pub poll: PollInterval,
     pub precision: i8,
-    // Root delay and root dispersion.
     pub rootdelay: NtpDuration,
     pub rootdisp: NtpDuration,
     pub refid: ReferenceId,
-    // The 64 bits that answer the request's: the origin timestamp, or V5's client cookie.
+    // The 64 bits that repeat the request's: the origin timestamp, or V5's client cookie.
     pub origin: u64,
     pub receive: NtpTimestamp,
     pub transmit: NtpTimestamp,
     pub kisses: Kisses,
-    // What each group of its fields says of the unique identifier.
+    // What each group of its fields says about the unique identifier.
     pub authenticated: Uid,
     pub encrypted: Uid,
     pub untrusted: Uid,
@@ -61,7 +61,7 @@ pub enum DecodedMode {
     Response,
 }
 
-// The decoded form of a reply, V5 only: what the caller draws from the packet.
+// The decoded form of a reply, V5 only: what the caller reads from the packet.
 pub struct DecodedReply {
     pub leap: NtpLeapIndicator,
     pub mode: DecodedMode,
@@ -131,7 +131,7 @@ fn end_valid(version: HeaderVersion, p: &[u8], end: usize) -> bool
     }
 }
 
-// Whether the decrypted fields are whole, which only NTS asks.
+// Whether the decrypted fields are whole. Only NTS needs this.
 fn decrypted_valid(nts: bool, decrypted: &[u8]) -> bool
     ensures { λ r. ⌜ r ≡ decryptedValid nts (now (decrypted .entry)) ⌝ }
 {
@@ -144,7 +144,7 @@ fn decrypted_valid(nts: bool, decrypted: &[u8]) -> bool
     }
 }
 
-// What the packet's fields that start at `from` or later and before `to` say of the identifier, which only NTS asks.
+// What the packet's fields that start at `from` or later and before `to` say about the identifier. Only NTS needs this.
 fn group(nts: bool, version: HeaderVersion, p: &[u8], from: usize, to: usize, uid: [u8; 32]) -> Uid
     ensures { λ r. ⌜ r ≡ groupOf nts version (now (p .entry)) from to uid ⌝ }
 {
@@ -160,7 +160,7 @@ fn group(nts: bool, version: HeaderVersion, p: &[u8], from: usize, to: usize, ui
     }
 }
 
-// What the decrypted fields say of the identifier, which only NTS asks.
+// What the decrypted fields say about the identifier. Only NTS needs this.
 fn encrypted(nts: bool, decrypted: &[u8], uid: [u8; 32]) -> Uid
     ensures { λ r. ⌜ r ≡ encryptedOf nts (now (decrypted .entry)) uid ⌝ }
 {
@@ -209,6 +209,7 @@ fn value(h: Header, authenticated: Uid, encrypted: Uid, untrusted: Uid) -> Reply
 }
 
 // The byte form of a reply: the packet, its authenticated end, and the decrypted fields.
+// promise: 7.7, 8.3
 pub fn read_reply(
     nts: bool,
     uid: [u8; 32],
@@ -244,7 +245,8 @@ fn is_response(mode: DecodedMode) -> bool
 }
 
 impl DecodedReply {
-    // The value of a decoded reply, which is V5's.
+    // The value of a decoded reply. Its version is 5.
+    // promise: 9.2
     pub fn value(self) -> Reply
         ensures { λ r. ⌜ r ≡ decodedOf self ⌝ }
     {

@@ -21,7 +21,8 @@ module _ {D : Rule} (M : Machine D) where
   module _ (P : List (Done M) → M .Record → Type 0) (kept : KeptWith M P) where
     onward : (done : List (Done M)) (a : M .Record) → P done a → (calls : List (Call D)) → P (done ++ run M a calls) (after M a calls)
     onward done a p [] = rw (none-behind done) p
-    onward done a p (c ∷ cs) = rw (sym (one-by-one done (made M a c) (run M (step M a c) cs))) (onward (done ++ made M a c ∷ []) (step M a c) (kept done a c p) cs)
+    onward done a p (c ∷ cs) = rw (sym (one-by-one done (made M a c) (run M (step M a c) cs)))
+        (onward (done ++ made M a c ∷ []) (step M a c) (kept done a c p) cs)
 
     pub along-with : (a : M .Record) → P [] a → (calls : List (Call D)) → P (run M a calls) (after M a calls)
     along-with a p calls = onward [] a p calls
@@ -48,7 +49,8 @@ module _ {D : Rule} (M : Machine D) where
   log-behind a [] (x ∷ before) rest e = absurd (no-cons x (before ++ rest) e)
   log-behind a (c ∷ cs) (x ∷ before) rest e = log-behind (step M a c) cs before rest (cc)
 
-  log-front : (a : M .Record) (calls : List (Call D)) (part behind : List (Entry D)) → logOf M a calls ≡ part ++ behind → (cs : List (Call D)) × (part ≡ logOf M a cs)
+  log-front : (a : M .Record) (calls : List (Call D)) (part behind : List (Entry D)) → logOf M a calls ≡ part ++ behind → (cs : List (Call D)) ×
+      (part ≡ logOf M a cs)
   log-front a calls [] behind e = ([], refl)
   log-front a [] (x ∷ part) behind e = absurd (no-cons x (part ++ behind) e)
   log-front a (c ∷ cs) (x ∷ part) behind e =
@@ -63,7 +65,8 @@ module _ {D : Rule} (M : Machine D) where
       record { start = s .start; calls = k .0; same = k .1 }
 
   -- two ways of handling replies that agree on all records with a property have the same logs from each of them, and lead to the same records
-  module _ (P : M .Record → Type 0) (kept : Kept M P) (other : M .Record → D .Reply → M .ReplyAnswer × M .Record) (agree : (a : M .Record) (r : D .Reply) → P a → other a r ≡ M .reply a r) where
+  module _ (P : M .Record → Type 0) (kept : Kept M P) (other : M .Record → D .Reply → M .ReplyAnswer × M .Record)
+      (agree : (a : M .Record) (r : D .Reply) → P a → other a r ≡ M .reply a r) where
     pub same-logs : (a : M .Record) → P a → (calls : List (Call D)) →
         (after (withReply M other) a calls ≡ after M a calls) × (logOf (withReply M other) a calls ≡ logOf M a calls)
     same-logs a p [] = (refl, refl)

@@ -54,7 +54,8 @@ use Rattle.laws.proofs.Cookies as loaded
 
 unsaved-more : (ds : List (M.Done savingMachine)) (d : M.Done savingMachine) → unsaved (ds ++ d ∷ []) ≡ unsaved ds ++ (unsavedBy d ++ [])
 unsaved-more [] d = refl
-unsaved-more (x ∷ ds) d = ap (λ (l : List (M.Done machine)). unsavedBy x ++ l) (unsaved-more ds d) ∙ sym (append-assoc (unsavedBy x) (unsaved ds) (unsavedBy d ++ []))
+unsaved-more (x ∷ ds) d =
+    ap (λ (l : List (M.Done machine)). unsavedBy x ++ l) (unsaved-more ds d) ∙ sym (append-assoc (unsavedBy x) (unsaved ds) (unsavedBy d ++ []))
 
 none-more : {A : Type 0} (xs : List A) → xs ++ [] ≡ xs
 none-more [] = refl
@@ -64,10 +65,12 @@ module _ (P : List (M.Done machine) → Association → Type 0) (kept : KeptWith
     (idle : (done : List (M.Done machine)) (a : Association) (room : ℕ) → P done a → P done (saveOf a room .association)) where
   saving-kept : KeptWith savingMachine (λ done. P (unsaved done))
   saving-kept done a (M.timer (poll t)) p = rw (unsaved-more done (M.made savingMachine a (M.timer (poll t)))) (kept (unsaved done) a (M.timer t) p)
-  saving-kept done a (M.timer (save b)) p = rw (unsaved-more done (M.made savingMachine a (M.timer (save b))), none-more (unsaved done)) (idle (unsaved done) a (length b) p)
+  saving-kept done a (M.timer (save b)) p = rw (unsaved-more done (M.made savingMachine a (M.timer (save b))), none-more (unsaved done))
+      (idle (unsaved done) a (length b) p)
   saving-kept done a (M.reply r) p = rw (unsaved-more done (M.made savingMachine a (M.reply r))) (kept (unsaved done) a (M.reply r) p)
 
   -- holds along any log with saves
+  -- promise: no6.11
   pub carried : (a : Association) → P [] a → (calls : List (M.Call savingRule)) → P (unsaved (M.run savingMachine a calls)) (M.after savingMachine a calls)
   carried a p calls = along-with savingMachine (λ done. P (unsaved done)) saving-kept a p calls
 
@@ -76,6 +79,7 @@ state-left : (a : Association) (room : ℕ) → a .state ≡ saveOf a room .asso
 state-left a room = sym (save-stash-alone a room .state)
 
 -- No. 7: the remote minimum never falls
+-- promise: no6.11
 pub saving-never-falls : (a : Association) (calls : List (M.Call savingRule)) → remoteOf a ≤ℤ remoteOf (M.after savingMachine a calls)
 saving-never-falls a calls =
     carried (λ done b. remoteOf a ≤ℤ remoteOf b) (λ done b c h. ≤ℤ-trans h (never-falls b (c ∷ [])))
@@ -83,6 +87,7 @@ saving-never-falls a calls =
     a (≤ℤ-refl (remoteOf a)) calls
 
 -- No. 11: no poll that a metered association sends has a last poll below 8
+-- promise: no6.11
 pub saving-never-below-8 : (s : Settings) (list : List ℕ) → numberOf (profileOf s list) ≡ 0 → (calls : List (M.Call savingRule)) →
     let a = meteredOf s list .association in Sparing (pos 8) (unsaved (M.run savingMachine a calls)) (M.after savingMachine a calls)
 saving-never-below-8 s list e calls = carried (Held (pos 8)) (held-kept (pos 8)) idle (meteredOf s list .association) (metered-held s list e) calls .sparing
@@ -138,6 +143,7 @@ enough (M.reply r ∷ cs) k a (x ∷ nine) behind u e z m =
     (subst (λ (y : log.Entry rule). 9 ≤ k + timersIn (y ∷ nine)) (sym here) m)))
 
 -- from any record, whole or not; a save is no timer, and whatever it answers it stands in nobody's way
+-- promise: no6.11
 pub saving-nine-timers : (a : Association) (calls : List (M.Call savingRule)) (before nine behind : List (log.Entry rule)) →
     M.logged machine (unsaved (M.run savingMachine a calls)) ≡ before ++ (nine ++ behind) → NoZero nine → 9 ≤ timersIn nine → GaveUp nine
 saving-nine-timers a calls before nine behind e z m =
@@ -193,25 +199,31 @@ saving-handed (M.timer (save b) ∷ cs) a inside h =
     let k = save-holds a inside h (length b) in
     let more = unsaved (M.run savingMachine (M.step savingMachine a (M.timer (save b))) cs) in
     some-some (saving-handed cs (M.step savingMachine a (M.timer (save b))) (k .inside) (k .holds))
-    (subst (λ (g : Settings). SomeOf (k .inside ++ storedIn (g .nts) more) (inside ++ storedIn (a .settings .nts) more)) (sym (save-stash-alone a (length b) .settings))
+    (subst (λ (g : Settings). SomeOf (k .inside ++ storedIn (g .nts) more) (inside ++ storedIn (a .settings .nts) more))
+    (sym (save-stash-alone a (length b) .settings))
     (some-before (k .order) (storedIn (a .settings .nts) more)))
 saving-handed (M.reply r ∷ cs) a inside h = saving-call cs a inside h (M.reply r) (saving-handed cs (M.step machine a (M.reply r)))
 
 -- from a new association
+-- promise: no6.11
 pub saving-cookie-order : (s : Settings) (list : List ℕ) (calls : List (M.Call savingRule)) →
     let done = unsaved (M.run savingMachine (newOf s list .association) calls) in SomeOf (handedOut done) (storedFrom s list done)
-saving-cookie-order s list calls = from-new s list (unsaved (M.run savingMachine (newOf s list .association) calls)) (saving-handed calls (newOf s list .association))
+saving-cookie-order s list calls =
+    from-new s list (unsaved (M.run savingMachine (newOf s list .association) calls)) (saving-handed calls (newOf s list .association))
 
+-- promise: no6.11
 pub saving-cookie-places : (s : Settings) (list : List ℕ) (calls : List (M.Call savingRule)) →
     let done = unsaved (M.run savingMachine (newOf s list .association) calls) in Placed [] (handedOut done) (storedFrom s list done)
 saving-cookie-places s list calls = placed [] (saving-cookie-order s list calls)
 
 -- from a metered one
+-- promise: no6.11
 pub saving-metered-cookie-order : (s : Settings) (list : List ℕ) → numberOf (profileOf s list) ≡ 0 → (calls : List (M.Call savingRule)) →
     let done = unsaved (M.run savingMachine (meteredOf s list .association) calls) in SomeOf (handedOut done) (storedFrom s list done)
 saving-metered-cookie-order s list met calls = rw (same-record s list met) (saving-cookie-order s list calls)
 
 -- and from a loaded one: some of what its file held and of what was stored since
+-- promise: no6.11
 pub saving-loaded-cookie-order : (f : List ℕ) → Bytes f → loadNumber (loadOf f .answer) ≡ 0 → (calls : List (M.Call savingRule)) →
     let a = loadOf f .association in
     let done = unsaved (M.run savingMachine a calls) in SomeOf (handedOut done) (loaded.kept f ++ storedIn (a .settings .nts) done)

@@ -45,11 +45,13 @@ named-is c k = by (leb (c .len) 724) refl
     by : (t : Bool) → leb (c .len) 724 ≡ t → cookieOf (cond t (c .bytes) (replicate (c .len) 0)) ≡ c
     by true e =
         let n : length (c .bytes) ≡ c .len = k .sized ∙ when _ _ e in
-        cookie-same n (ap (λ (m : ℕ). take (cond (leb m 724) m 0) (c .bytes)) n ∙ ap (λ (m : ℕ). take m (c .bytes)) (when _ _ e) ∙ take-all (c .len) (c .bytes) (omega arith))
+        cookie-same n (ap (λ (m : ℕ). take (cond (leb m 724) m 0) (c .bytes)) n ∙ ap (λ (m : ℕ). take m (c .bytes)) (when _ _ e)
+        ∙ take-all (c .len) (c .bytes) (omega arith))
     by false e =
         let n : length {A = ℕ} (replicate (c .len) 0) ≡ c .len = length-replicate (c .len) 0 in
         let z : length (c .bytes) ≡ 0 = k .sized ∙ unless _ _ e in
-        cookie-same n (ap (λ (m : ℕ). take {A = ℕ} (cond (leb m 724) m 0) (replicate (c .len) 0)) n ∙ ap (λ (m : ℕ). take {A = ℕ} m (replicate (c .len) 0)) (unless _ _ e) ∙ none (c .bytes) z)
+        cookie-same n (ap (λ (m : ℕ). take {A = ℕ} (cond (leb m 724) m 0) (replicate (c .len) 0)) n
+        ∙ ap (λ (m : ℕ). take {A = ℕ} m (replicate (c .len) 0)) (unless _ _ e) ∙ none (c .bytes) z)
 
 all-named : (cs : List Cookie) → AllKeep cs → cs ≡ map cookieOf (map named cs)
 all-named [] k = refl
@@ -70,13 +72,17 @@ module _ (f : List ℕ) (y : Bytes f) (e : loadNumber (loadOf f .answer) ≡ 0) 
       let w = loads f y e .whole .stash in
       record { held = all-named _ (cookies-keep (box f .settings .capacity) (box f .stash) w); room = w .room }
 
-  pub loaded-cookie-order : (calls : List (M.Call rule)) → let done = M.run machine (box f) calls in SomeOf (handedOut done) (kept f ++ storedIn (box f .settings .nts) done)
+  -- promise: no14.9
+  pub loaded-cookie-order : (calls : List (M.Call rule)) → let done = M.run machine (box f) calls in
+      SomeOf (handedOut done) (kept f ++ storedIn (box f .settings .nts) done)
   loaded-cookie-order calls = handed-some calls (box f) (kept f) box-holds
 
-  pub loaded-cookie-places : (calls : List (M.Call rule)) → let done = M.run machine (box f) calls in Placed [] (handedOut done) (kept f ++ storedIn (box f .settings .nts) done)
+  pub loaded-cookie-places : (calls : List (M.Call rule)) → let done = M.run machine (box f) calls in
+      Placed [] (handedOut done) (kept f ++ storedIn (box f .settings .nts) done)
   loaded-cookie-places calls = placed [] (loaded-cookie-order calls)
 
   -- and over any run of the code's calls
+  -- promise: no14.9
   pub code-loaded-cookie-order : {b : Association} {calls : List (M.Call rule)} {done : List (M.Done machine)} → Ran (box f) calls done b →
       SomeOf (handedOut done) (kept f ++ storedIn (box f .settings .nts) done)
   code-loaded-cookie-order {calls} r = rw (ran-is-run r .0) (loaded-cookie-order calls)

@@ -1,4 +1,5 @@
--- How long the requests are that a timer's 20 asks for: at most 852 bytes, and a buffer of 852 holds each. Of a stash of a smaller capacity they are shorter (RULES, No. 12): no more
+-- How long the requests are that a timer's 20 asks for: at most 852 bytes, and a buffer of 852 holds each. Of a stash of a smaller capacity they are shorter
+-- (RULES, No. 12): no more
 -- cookies are asked for than the capacity.
 -- Assumes nothing.
 use mathlib.Core.Path.{_≡_, refl, sym, ap, _∙_}
@@ -52,6 +53,7 @@ unfoldable pub mostOf : ℕ → ℕ
 mostOf cap = cond (leb cap 1) 728 (cond (leb cap 2) 736 (cond (leb cap 3) 744 (cond (leb cap 6) 752 (cond (leb cap 7) 756 768))))
 
 -- and how long the request is with them: 84 bytes for the header and the unique identifier
+-- promise no12.7: What a timer asks for fits into 852 bytes at every capacity, and into fewer at a smaller one.
 abbrev pub longestOf : ℕ → ℕ
 longestOf cap = 84 + mostOf cap
 
@@ -106,7 +108,8 @@ module _ (cap : ℕ) where
 
   most-8 : 8 ≤ cap → 768 ≤ mostOf cap
   unfolding mostOf
-  most-8 h = rw (lt-leb cap 1 (omega arith), lt-leb cap 2 (omega arith), lt-leb cap 3 (omega arith), lt-leb cap 6 (omega arith), lt-leb cap 7 (omega arith)) (omega arith)
+  most-8 h = rw (lt-leb cap 1 (omega arith), lt-leb cap 2 (omega arith), lt-leb cap 3 (omega arith), lt-leb cap 6 (omega arith), lt-leb cap 7 (omega arith))
+      (omega arith)
 
   most-768 : mostOf cap ≤ 768
   unfolding mostOf
@@ -176,27 +179,38 @@ module _ (a : Association) (i : TimerInput) (room : ℕ) (kind : SendKind) (poll
   by-rule (sent-nts c p) e n =
       let l : getOf (a .settings .capacity) (a .stash) .slot .len ≡ len = cc in
       let q : askedWith (seenOf (a .settings .capacity) (a .stash)) ≡ count = cc in
-      rw (← l, ← q) (modest-asked cap (min (gapOf cap (getOf cap (a .stash) .stash)) 8) (getOf cap (a .stash) .slot .len) (omega arith) (omega (arith, gap-most cap (getOf cap (a .stash) .stash))) (λ z. omega (arith, p, z)))
+      rw (← l, ← q) (modest-asked cap (min (gapOf cap (getOf cap (a .stash) .stash)) 8) (getOf cap (a .stash) .slot .len) (omega arith)
+      (omega (arith, gap-most cap (getOf cap (a .stash) .stash))) (λ z. omega (arith, p, z)))
 
   -- where the timer sends a request of these numbers
-  module _ (sends : timerOf a i room .answer ≡ Sent kind poll len count) (upgrademark : ℕ) (cookie : List ℕ) (size : length (i .uid) ≡ 32) (long : length cookie ≡ len) where
+  module _ (sends : timerOf a i room .answer ≡ Sent kind poll len count) (upgrademark : ℕ) (cookie : List ℕ) (size : length (i .uid) ≡ 32)
+      (long : length cookie ≡ len) where
     modest : hasNts kind ≡ true → Modest cap (length cookie) count
     modest n = rw long (by-rule (given a i room) sends n)
 
     -- it has at most as many bytes as the longest of its capacity
+    -- promise: no12.7
     pub capacity-longest : length (packetOf kind poll (i .id) upgrademark (i .uid) cookie count) ≤ longestOf (a .settings .capacity)
     capacity-longest =
         at-most kind poll (i .id) upgrademark (i .uid) cookie count size (longestOf cap) (omega arith)
         (λ n. let m = modest n in (m .some, omega (arith, within cap (length cookie) count (omega (arith, m .few)) (m .within) (m .room))))
 
     -- and so at most 852
+    -- promise: no1.6 (852 of any that a timer's 20 asks for), no12.7
     pub timer-longest : length (packetOf kind poll (i .id) upgrademark (i .uid) cookie count) ≤ 852
     timer-longest = omega (arith, capacity-longest, most-768 cap)
 
     -- and a buffer of so many bytes is never too short for it: what the timer asks for, and is not V5, is written
-    pub capacity-written : isV5 kind ≡ false → (buffer : ℕ) → longestOf (a .settings .capacity) ≤ buffer → requestOf kind poll (i .id) upgrademark (i .uid) cookie count buffer ≡ Written (length (packetOf kind poll (i .id) upgrademark (i .uid) cookie count))
+    -- promise: no12.7
+    pub capacity-written : isV5 kind ≡ false → (buffer : ℕ) → longestOf (a .settings .capacity) ≤ buffer →
+        requestOf kind poll (i .id) upgrademark (i .uid) cookie count buffer ≡ Written (length (packetOf kind poll (i .id) upgrademark (i .uid) cookie count))
     unfolding requestOf
-    capacity-written v buffer h = rw (v, asked-well (hasNts kind) refl, le-ltb buffer (length (packetOf kind poll (i .id) upgrademark (i .uid) cookie count)) (omega (arith, capacity-longest)))
+    capacity-written v buffer h = rw (
+      v,
+      asked-well (hasNts kind) refl,
+      le-ltb buffer (length (packetOf kind poll (i .id) upgrademark (i .uid) cookie count))
+          (omega (arith, capacity-longest)),
+    )
       where
         asked-well : (t : Bool) → hasNts kind ≡ t → hasNts kind && not (askValid (length cookie) count) ≡ false
         asked-well true n =
@@ -204,13 +218,17 @@ module _ (a : Association) (i : TimerInput) (room : ℕ) (kind : SendKind) (poll
             rw (n, le-leb (length cookie) 724 (modest-short cap (length cookie) count m), le-leb 1 count (m .some), le-leb count 8 (m .few))
         asked-well false n = rw n
 
-    pub timer-written : isV5 kind ≡ false → (buffer : ℕ) → 852 ≤ buffer → requestOf kind poll (i .id) upgrademark (i .uid) cookie count buffer ≡ Written (length (packetOf kind poll (i .id) upgrademark (i .uid) cookie count))
+    -- promise: no1.6 (with 852 bytes of buffer that is never rejected, V5 apart), no12.7
+    pub timer-written : isV5 kind ≡ false → (buffer : ℕ) → 852 ≤ buffer →
+        requestOf kind poll (i .id) upgrademark (i .uid) cookie count buffer ≡ Written (length (packetOf kind poll (i .id) upgrademark (i .uid) cookie count))
     timer-written v buffer h = capacity-written v buffer (omega (arith, most-768 cap))
 
 -- each is reached: by this number of cookies of this length
 abbrev pub Reached : (cap len asked : ℕ) → Type 0
-Reached cap len asked = (poll : PollInterval) (id upgrademark : ℕ) → length (packetOf NtsV4 poll id upgrademark (replicate 32 0) (replicate len 0) asked) ≡ longestOf cap
+Reached cap len asked = (poll : PollInterval) (id upgrademark : ℕ) →
+    length (packetOf NtsV4 poll id upgrademark (replicate 32 0) (replicate len 0) asked) ≡ longestOf cap
 
+-- promise: no12.7
 pub all-reached : Reached 1 724 1 × Reached 2 362 2 × Reached 3 241 3 × Reached 4 181 4 × Reached 5 181 4 × Reached 6 181 4 × Reached 7 103 7 × Reached 8 90 8
 unfolding fieldLength mostOf
 all-reached = (
@@ -225,6 +243,7 @@ all-reached = (
 )
 
 -- 852 is reached: a cookie of 90 bytes, and eight asked for
+-- promise: no1.6
 pub reached : (poll : PollInterval) (id upgrademark : ℕ) → length (packetOf NtsV4 poll id upgrademark (replicate 32 0) (replicate 90 0) 8) ≡ 852
 unfolding fieldLength
 reached poll id upgrademark = length-nts NtsV4 poll id upgrademark (replicate 32 0) (replicate 90 0) 8 refl refl (omega arith)

@@ -1,4 +1,5 @@
--- Among any nine timers in a row that were not refused, with no reply measured between the first and the ninth, one answers a reset or a demobilize (RULES, No. 14).
+-- Among any nine timers in a row that were not refused, with no reply measured between the first and the ninth, one answers a reset or a demobilize (RULES,
+-- No. 14).
 -- A sent poll shifts reach and adds one to tries: after eight of them reach is 0 and tries are at least 8, which no startup limit exceeds.
 -- Assumes nothing.
 use mathlib.Core.Path.{_≡_, refl, sym, ap, subst, _∙_}
@@ -135,7 +136,16 @@ unmeasured {k} a r u z =
 -- ---- a log from any record
 
 pub later : {D : log.Rule} (e : log.Entry D) {es : List (log.Entry D)} → GaveUp es → GaveUp (e ∷ es)
-later e g = record { older = e ∷ g .older; newer = g .newer; poll = g .poll; number = g .number; parts = ap (λ (l : List (log.Entry _)). e ∷ l) (g .parts); gave-up = g .gave-up }
+later e g =
+    record {
+      older = e ∷ g .older;
+      newer = g .newer;
+      poll = g .poll;
+      number = g .number;
+      parts = ap (λ (l : List (log.Entry _)). e ∷ l)
+          (g .parts);
+      gave-up = g .gave-up;
+    }
 
 -- after k polls that were sent and not answered, nine less k are enough
 abbrev Enough : ℕ → Association → List (M.Call rule) → Type 0
@@ -143,7 +153,8 @@ Enough k a calls = NoZero (M.logOf machine a calls) → 9 ≤ k + timersIn (M.lo
 
 -- one timer, before a log of which it is known
 pub first : {k : ℕ} {a : Association} {n : ℕ} {o : TimerOut} (t : TimerIn) (es : List (log.Entry rule)) → Unheard k (a .state .effort) → Turn k a n o →
-    ((j : ℕ) → Unheard j (o .association .state .effort) → 9 ≤ j + timersIn es → GaveUp es) → 9 ≤ k + timersIn (log.timed t n ∷ es) → GaveUp (log.timed t n ∷ es)
+    ((j : ℕ) → Unheard j (o .association .state .effort) → 9 ≤ j + timersIn es → GaveUp es) → 9 ≤ k + timersIn (log.timed t n ∷ es) →
+    GaveUp (log.timed t n ∷ es)
 first t es u (gives-up g) rest m = record { older = []; newer = es; poll = t; number = _; parts = refl; gave-up = g }
 first {k} t es u (leaves r e) rest m =
     let v = subst (λ (b : Association). Unheard k (b .state .effort)) (sym e) u in
@@ -163,12 +174,14 @@ pub none-yet : (e : Effort) → Unheard 0 e
 none-yet e = record { few = omega arith; shifts = none; tries = omega arith }
 
 -- from any record, whole or not, whatever came before
+-- promise: no14.7 (from any record, whole or not, in any stretch of any log from it)
 pub nine-timers : (a : Association) (calls : List (M.Call rule)) → NineTimers machine a calls
 nine-timers a calls before nine behind e z m =
     let s = stretch machine a calls before nine behind e in
     rw (s .same) (enough (s .calls) 0 (s .start) (none-yet (s .start .state .effort)) (rw (s .same) at z) (omega (arith, ap timersIn (s .same))))
 
 -- and in the log of any run of the code's calls
+-- promise: no14.7 (of any run of the code's calls)
 pub code-nine-timers : {a b : Association} {calls : List (M.Call rule)} {done : List (M.Done machine)} → Ran a calls done b →
     (before nine behind : List (log.Entry rule)) → M.logged machine done ≡ before ++ (nine ++ behind) → NoZero nine → 9 ≤ timersIn nine → GaveUp nine
 code-nine-timers {a} {calls} r before nine behind e = nine-timers a calls before nine behind (sym (ap (M.logged machine) (ran-is-run r .0)) ∙ e)
@@ -180,6 +193,7 @@ one-of true c t = inl tt
 one-of false true t = inr refl
 one-of false false t = absurd t
 
+-- promise: no14.7 (each of the four numbers asks for a reset or a demobilize)
 pub gives-up-acts : (n : ℕ) → T (givesUp n) → (timer.actionsOf n ≡ reset ∷ []) ⊎ (timer.actionsOf n ≡ demobilize ∷ [])
 gives-up-acts n g =
     ⊎-elim (λ h. ⊎-elim (λ k. ⊎-elim (λ l. inl (rw (eqb→eq n 21 l))) (λ e. inr (rw (eqb-true n 22 e))) (one-of (eqb n 21) (eqb n 22) k))

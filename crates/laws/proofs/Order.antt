@@ -1,4 +1,5 @@
--- Over any log from a new association the cookies handed out, byte for byte as the lent buffer has them, are some of the cookies stored, in order, each place used at most once (RULES, No. 14).
+-- Over any log from a new association the cookies handed out, byte for byte as the lent buffer has them, are some of the cookies stored, in order, each place
+-- used at most once (RULES, No. 14).
 -- Of each call: what it hands out and what the stash holds after it are some of what the stash held before and of what the call stores, in order.
 -- Assumes nothing.
 use mathlib.Core.Path.{_≡_, refl, sym, ap, subst, _∙_}
@@ -60,9 +61,15 @@ pub record Went (inside : List (List ℕ)) (nts : Bool) (d : M.Done machine) (ne
   pub order : SomeOf (handedBy d ++ left) (inside ++ storedBy nts d)
 
 -- a call that leaves the stash
-stays : {inside : List (List ℕ)} {nts : Bool} {d : M.Done machine} {next : Association} → handedBy d ≡ [] → Holds (next .settings .capacity) (next .stash) inside → Went inside nts d next
+stays : {inside : List (List ℕ)} {nts : Bool} {d : M.Done machine} {next : Association} → handedBy d ≡ [] →
+    Holds (next .settings .capacity) (next .stash) inside → Went inside nts d next
 stays {inside} {nts} {d} e h =
-    record { left = inside; holds = h; order = subst (λ (hs : List (List ℕ)). SomeOf (hs ++ inside) (inside ++ storedBy nts d)) (sym e) (some-front inside (storedBy nts d)) }
+    record {
+      left = inside;
+      holds = h;
+      order = subst (λ (hs : List (List ℕ)). SomeOf (hs ++ inside) (inside ++ storedBy nts d)) (sym e)
+          (some-front inside (storedBy nts d));
+    }
 
 -- a call that takes the first, which is handed out or lost
 first-taken : {inside : List (List ℕ)} (c : List ℕ) (rest : List (List ℕ)) → inside ≡ c ∷ rest → SomeOf (c ∷ rest) (inside ++ [])
@@ -159,7 +166,8 @@ module _ (a : Association) (inside : List (List ℕ)) (h : Holds (a .settings .c
 -- ---- a log from any record
 
 -- one call, and those behind it
-pub joined : (h left inside s more : List (List ℕ)) {later : List (List ℕ)} → SomeOf (h ++ left) (inside ++ s) → SomeOf later (left ++ more) → SomeOf (h ++ later) (inside ++ (s ++ more))
+pub joined : (h left inside s more : List (List ℕ)) {later : List (List ℕ)} → SomeOf (h ++ left) (inside ++ s) → SomeOf later (left ++ more) →
+    SomeOf (h ++ later) (inside ++ (s ++ more))
 joined h left inside s more one rest = some-some (some-behind h rest) (rw (append-assoc h left more, append-assoc inside s more) at (some-before one more))
 
 pub handed-some : (calls : List (M.Call rule)) (a : Association) (inside : List (List ℕ)) → Holds (a .settings .capacity) (a .stash) inside →
@@ -175,9 +183,11 @@ handed-some (c ∷ cs) a inside h =
 
 -- from any whole record that holds these cookies: some of them and of what was stored since
 module _ (a : Association) (w : Whole a) (inside : List (List ℕ)) (held : cookies (a .settings .capacity) (a .stash) ≡ map cookieOf inside) where
+  -- promise: no14.9
   pub any-cookie-order : (calls : List (M.Call rule)) → let done = M.run machine a calls in SomeOf (handedOut done) (inside ++ storedIn (a .settings .nts) done)
   any-cookie-order calls = handed-some calls a inside (record { held = held; room = w .stash .room })
 
+  -- promise: no14.9
   pub code-any-cookie-order : {b : Association} {calls : List (M.Call rule)} {done : List (M.Done machine)} → Ran a calls done b →
       SomeOf (handedOut done) (inside ++ storedIn (a .settings .nts) done)
   code-any-cookie-order {calls} r = rw (ran-is-run r .0) (any-cookie-order calls)
@@ -199,7 +209,8 @@ module _ (cap : ℕ) (some : 0 < cap) (few : cap ≤ 8) where
 
 -- what a new one holds is some of its first list
 module _ (s : Settings) (list : List ℕ) where
-  new-by : {n : ℕ} {o : NewOut} → A.Given s list n o → Holding (o .association .settings .capacity) (o .association .stash) (storedOn (new.numberOf (o .answer)) (s .nts) list)
+  new-by : {n : ℕ} {o : NewOut} → A.Given s list n o →
+      Holding (o .association .settings .capacity) (o .association .stash) (storedOn (new.numberOf (o .answer)) (s .nts) list)
   unfolding blankOf freshOf new.madeOf
   new-by (A.bad-settings v) = record { inside = []; holds = new-holds 0 (omega arith); order = some-none [] }
   new-by (A.broken-list v b) = record { inside = []; holds = new-holds 0 (omega arith); order = some-none [] }
@@ -245,7 +256,8 @@ module _ (s : Settings) (list : List ℕ) where
 
   -- what is some of what a new one holds and of what is stored since is some of the order of storing, whatever `new` answered
   pub from-new : {handed : List (List ℕ)} (done : List (M.Done machine)) →
-      ((inside : List (List ℕ)) → Holds (made .settings .capacity) (made .stash) inside → SomeOf handed (inside ++ storedIn (made .settings .nts) done)) → SomeOf handed (storedFrom s list done)
+      ((inside : List (List ℕ)) → Holds (made .settings .capacity) (made .stash) inside → SomeOf handed (inside ++ storedIn (made .settings .nts) done)) →
+      SomeOf handed (storedFrom s list done)
   from-new done some =
       let k = new-by s list (new-numbers.given s list) in
       some-some (some (k .inside) (k .holds))
@@ -253,13 +265,17 @@ module _ (s : Settings) (list : List ℕ) where
       (some-behind (storedOn (new.numberOf (new.newOf s list .answer)) (s .nts) list)
       (stored-less (made .settings .nts) (s .nts) done (nts-by s list (new-numbers.given s list)))))
 
+  -- promise: no14.8
   pub cookie-order : (calls : List (M.Call rule)) → let done = M.run machine made calls in SomeOf (handedOut done) (storedFrom s list done)
   cookie-order calls = from-new (M.run machine made calls) (handed-some calls made)
 
   -- by the places in the order of storing, which rise
+  -- promise: no14.8
   pub cookie-places : (calls : List (M.Call rule)) → let done = M.run machine made calls in Placed [] (handedOut done) (storedFrom s list done)
   cookie-places calls = placed [] (cookie-order calls)
 
   -- and over any run of the code's calls
-  pub code-cookie-order : {b : Association} {calls : List (M.Call rule)} {done : List (M.Done machine)} → Ran made calls done b → SomeOf (handedOut done) (storedFrom s list done)
+  -- promise: no14.8
+  pub code-cookie-order : {b : Association} {calls : List (M.Call rule)} {done : List (M.Done machine)} → Ran made calls done b →
+      SomeOf (handedOut done) (storedFrom s list done)
   code-cookie-order {calls} r = rw (ran-is-run r .0) (cookie-order calls)

@@ -1,4 +1,5 @@
--- No poll that is sent along a log has an exponent below what the remote minimum began with, since that never falls (RULES, No. 7); so of a plain association none is below
+-- No poll that is sent along a log has an exponent below what the remote minimum began with, since that never falls (RULES, No. 7); so of a plain association
+-- none is below
 -- poll min, and of a metered one none is below 8 (RULES, No. 11), whatever poll is desired and whatever RATE or a V5 reply says.
 -- Assumes nothing.
 use mathlib.Core.Path.{_≡_, refl, sym, ap, subst, _∙_}
@@ -53,7 +54,8 @@ use Rattle.laws.specs.Polls.{lastOf, AtLeast, AllAtLeast, Sparing}
 -- ---- one call
 
 -- one answer more
-and-one : (least : ℤ) (done : List (M.Done machine)) (d : M.Done machine) → AllAtLeast least done → AllAtLeast least (d ∷ []) → AllAtLeast least (done ++ d ∷ [])
+and-one : (least : ℤ) (done : List (M.Done machine)) (d : M.Done machine) → AllAtLeast least done → AllAtLeast least (d ∷ []) →
+    AllAtLeast least (done ++ d ∷ [])
 and-one least [] d p q = q
 and-one least (M.ofTimer t x ∷ ds) d p q = (p .0, and-one least ds d (p .1) q)
 and-one least (M.ofReply r x ∷ ds) d p q = and-one least ds d p q
@@ -87,7 +89,8 @@ pub record Held (least : ℤ) (done : List (M.Done machine)) (a : Association) :
   pub sparing : Sparing least done a
   pub remote : least ≤ℤ remoteOf a
 
-pub held-kept : (least : ℤ) (done : List (M.Done machine)) (a : Association) (c : M.Call rule) → Held least done a → Held least (done ++ M.made machine a c ∷ []) (M.step machine a c)
+pub held-kept : (least : ℤ) (done : List (M.Done machine)) (a : Association) (c : M.Call rule) → Held least done a →
+    Held least (done ++ M.made machine a c ∷ []) (M.step machine a c)
 held-kept least done a (M.timer t) k =
     let r = rang a (t .poll) (length (t .buffer)) in
     let sent = eqb (timer.numberOf (timed a t .0 .0)) 20 in
@@ -96,7 +99,8 @@ held-kept least done a (M.timer t) k =
       sparing =
           record {
             sent = and-one least done _ (k .sparing .sent) (one, tt);
-            last = subst (λ (p : Polls). least ≤ℤ p .last .0) (sym (r .polls)) (last-least least sent (t .poll .desired) (a .state .polls) (k .remote) (k .sparing .last));
+            last = subst (λ (p : Polls). least ≤ℤ p .last .0) (sym (r .polls))
+                (last-least least sent (t .poll .desired) (a .state .polls) (k .remote) (k .sparing .last));
           };
       remote = ≤ℤ-trans (k .remote) (never-falls a (M.timer t ∷ []));
     }
@@ -113,8 +117,10 @@ held-kept least done a (M.reply r) k =
     }
 
 -- what is below the remote minimum and the last poll stays below every poll of any log
-pub sparing-from : (least : ℤ) (a : Association) → least ≤ℤ remoteOf a → least ≤ℤ lastOf a → (calls : List (M.Call rule)) → Sparing least (M.run machine a calls) (M.after machine a calls)
-sparing-from least a h k calls = along-with machine (Held least) (held-kept least) a (record { sparing = record { sent = tt; last = k }; remote = h }) calls .sparing
+pub sparing-from : (least : ℤ) (a : Association) → least ≤ℤ remoteOf a → least ≤ℤ lastOf a → (calls : List (M.Call rule)) →
+    Sparing least (M.run machine a calls) (M.after machine a calls)
+sparing-from least a h k calls =
+    along-with machine (Held least) (held-kept least) a (record { sparing = record { sent = tt; last = k }; remote = h }) calls .sparing
 
 -- ---- a log from a new association
 
@@ -122,18 +128,21 @@ made-polls : (s : Settings) (list : List ℕ) → new.madeOf s list .state .poll
 unfolding new.madeOf freshOf
 made-polls s list = by (s .nts)
   where
-    by : (n : Bool) → cond n (withStash (freshOf s) (storeListOf (s .capacity) (freshOf s .stash) list)) (freshOf s) .state .polls ≡ record { last = s .min; remote = s .min }
+    by : (n : Bool) → cond n (withStash (freshOf s) (storeListOf (s .capacity) (freshOf s .stash) list)) (freshOf s) .state .polls
+        ≡ record { last = s .min; remote = s .min }
     by true = refl
     by false = refl
 
 -- both poll values of what `new` makes are at min
-new-polls : (s : Settings) (list : List ℕ) → new.numberOf (new.newOf s list .answer) ≡ 0 → new.newOf s list .association .state .polls ≡ record { last = s .min; remote = s .min }
+new-polls : (s : Settings) (list : List ℕ) → new.numberOf (new.newOf s list .answer) ≡ 0 →
+    new.newOf s list .association .state .polls ≡ record { last = s .min; remote = s .min }
 new-polls s list e = by (plain-numbers.number s list 0 .0 e)
   where
     by : ((o : NewOut) × plain.Given s list 0 o) → new.newOf s list .association .state .polls ≡ record { last = s .min; remote = s .min }
     by (_, made v b u) = ap (λ (o : NewOut). o .association .state .polls) (plain-numbers.only s list (made v b u)) ∙ made-polls s list
 
 -- over any log from the plain call no poll is below poll min
+-- promise: no11.5 (of a plain association no sent poll is below poll min)
 pub new-sparing : (s : Settings) (list : List ℕ) → new.numberOf (new.newOf s list .answer) ≡ 0 → (calls : List (M.Call rule)) →
     let a = new.newOf s list .association in Sparing (s .min .0) (M.run machine a calls) (M.after machine a calls)
 new-sparing s list e calls =
@@ -157,6 +166,7 @@ metered-held s list e =
     }
 
 -- over any log from it no sent poll has a last poll below 8
+-- promise: no11.5
 pub never-below-8 : (s : Settings) (list : List ℕ) → numberOf (profileOf s list) ≡ 0 → (calls : List (M.Call rule)) →
     let a = meteredOf s list .association in Sparing (pos 8) (M.run machine a calls) (M.after machine a calls)
 never-below-8 s list e calls =
@@ -164,7 +174,9 @@ never-below-8 s list e calls =
     sparing-from (pos 8) (meteredOf s list .association) (h .remote) (h .sparing .last) calls
 
 -- and over any run of the code's calls
-pub code-never-below-8 : (s : Settings) (list : List ℕ) → numberOf (profileOf s list) ≡ 0 → {b : Association} {calls : List (M.Call rule)} {done : List (M.Done machine)} →
+-- promise: no11.5 (over any run of the code's calls)
+pub code-never-below-8 : (s : Settings) (list : List ℕ) → numberOf (profileOf s list) ≡ 0 →
+    {b : Association} {calls : List (M.Call rule)} {done : List (M.Done machine)} →
     Ran (meteredOf s list .association) calls done b → Sparing (pos 8) done b
 code-never-below-8 s list e {calls} r = let k = ran-is-run r in rw (k .0, k .1) (never-below-8 s list e calls)
 
@@ -178,7 +190,8 @@ record Blank (least : ℤ) (done : List (M.Done machine)) (a : Association) : Ty
   sent : AllAtLeast least done
   blank : a ≡ blankOf
 
-blank-kept : (least : ℤ) (done : List (M.Done machine)) (a : Association) (c : M.Call rule) → Blank least done a → Blank least (done ++ M.made machine a c ∷ []) (M.step machine a c)
+blank-kept : (least : ℤ) (done : List (M.Done machine)) (a : Association) (c : M.Call rule) → Blank least done a →
+    Blank least (done ++ M.made machine a c ∷ []) (M.step machine a c)
 blank-kept least done a (M.timer t) k =
     let w = ap wholeOf (k .blank) ∙ blank-broken in
     let e = timer-numbers.only a (t .poll) (length (t .buffer)) (not-whole w) in
@@ -193,6 +206,7 @@ blank-kept least done a (M.reply r) k =
     record { sent = and-one least done _ (k .sent) tt; blank = ap (λ o. o .association) e ∙ k .blank }
 
 -- so whatever the metered call answered, no poll that is sent after it is below 8
+-- promise: no11.5 (whatever the call answered)
 pub sent-never-below-8 : (s : Settings) (list : List ℕ) (calls : List (M.Call rule)) → AllAtLeast (pos 8) (M.run machine (meteredOf s list .association) calls)
 sent-never-below-8 s list calls = by (eqb (numberOf (profileOf s list)) 0) refl
   where

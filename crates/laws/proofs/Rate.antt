@@ -30,7 +30,24 @@ use Rattle.reply_clauses.specs.After.{Arrival, stepped, afterRateKiss}
 use Rattle.reply_rules.specs.Answer as reply
 use Rattle.reply.specs.declared.ReplyOut.{ReplyOut}
 use Rattle.reply.specs.Numbers as N
-use Rattle.reply.specs.Numbers.{not-whole, undecodable, broken-list, unexpected-version, never-sent, already-measured, late, no-match, rate, denied, denied-nts, ntsn, other-kiss, bad-stratum, not-server, measured}
+use Rattle.reply.specs.Numbers.{
+  not-whole,
+  undecodable,
+  broken-list,
+  unexpected-version,
+  never-sent,
+  already-measured,
+  late,
+  no-match,
+  rate,
+  denied,
+  denied-nts,
+  ntsn,
+  other-kiss,
+  bad-stratum,
+  not-server,
+  measured,
+}
 use Rattle.reply.proofs.Numbers.{given}
 use Rattle.reply.proofs.After.{Heard, heard, Paced, paced}
 use Rattle.log.specs.Machine as M
@@ -54,11 +71,13 @@ call-raises : (a : Association) (c : M.Call rule) → remoteOf a ≤ℤ remoteOf
 call-raises a (M.timer t) =
     let sent = eqb (timer.numberOf (timed a t .0 .0)) 20 in
     let polls = a .state .polls in
-    let e = ap (λ (p : Polls). p .remote) (rang a (t .poll) (length (t .buffer)) .polls) ∙ polled-remote sent (pollOf (t .poll .desired) (polls .remote)) polls in
+    let e = ap (λ (p : Polls). p .remote) (rang a (t .poll) (length (t .buffer)) .polls)
+    ∙ polled-remote sent (pollOf (t .poll .desired) (polls .remote)) polls in
     subst (λ (p : PollInterval). remoteOf a ≤ℤ p .0) (sym e) (≤ℤ-refl (remoteOf a))
 call-raises a (M.reply r) = paced a (read-by a r) (arrivalOf r) (given a (read-by a r) (arrivalOf r)) .least
 
 -- over any log from any record, whole or not, refused calls and all
+-- promise: no7.2 (from any record, whole or not, with rejected calls too), no11.5
 pub never-falls : (a : Association) (calls : List (M.Call rule)) → remoteOf a ≤ℤ remoteOf (M.after machine a calls)
 never-falls a calls =
     between machine (λ a b. remoteOf a ≤ℤ remoteOf b)
@@ -66,6 +85,7 @@ never-falls a calls =
     a calls
 
 -- and over any run of the code's calls
+-- promise: no7.2 (of the code's calls)
 pub code-never-falls : {a b : Association} {calls : List (M.Call rule)} {done : List (M.Done machine)} → Ran a calls done b → remoteOf a ≤ℤ remoteOf b
 code-never-falls {a} {calls} r = rw (ran-is-run r .1) (never-falls a calls)
 
@@ -145,10 +165,11 @@ module _ (a : Association) (read : ReplyRead) (t : Arrival) (w : Inside a) where
 same-reply : (a : Association) (r : ReplyIn) → Inside a → crateReplied a r ≡ replied a r
 same-reply a r w = λ i. (replied a r .0, same-remote a (read-by a r) (arrivalOf r) w (given a (read-by a r) (arrivalOf r)) i)
 
--- from any record with nothing pending
+-- promise: no7.3 (from any record with nothing pending)
 pub unasked-same : (a : Association) → pendingIn (a .state .request) ≡ none → (calls : List (M.Call rule)) → CrateSame a calls
 unasked-same a e calls = same-logs machine Inside inside-kept crateReplied same-reply a (λ t. absurd (not-pending (a .state .request) t e)) calls
 
 -- and so from a new association
+-- promise: no7.3 (the same records and the same numbers along any log)
 pub new-same : (s : Settings) (list : List ℕ) (calls : List (M.Call rule)) → CrateSame (newOf s list .association) calls
 new-same s list calls = unasked-same (newOf s list .association) (new-pends-nothing s list) calls

@@ -136,14 +136,16 @@ module _ (p front rest : List ℕ) (at : ℕ) (e : Extension) (here : p ≡ fron
 
 module _ (p rest : List ℕ) where
   -- the place of the next field
-  next-place : (front : List ℕ) (e : Extension) (es : List Extension) → p ≡ front ++ (allBytes (e ∷ es) ++ rest) → p ≡ (front ++ extensionBytes e) ++ (allBytes es ++ rest)
+  next-place : (front : List ℕ) (e : Extension) (es : List Extension) → p ≡ front ++ (allBytes (e ∷ es) ++ rest) →
+      p ≡ (front ++ extensionBytes e) ++ (allBytes es ++ rest)
   next-place front e es here = here ∙ simp append-assoc
 
   next-size : (front : List ℕ) (at : ℕ) (e : Extension) → length front ≡ at → Legible e → length (front ++ extensionBytes e) ≡ at + e .len
   next-size front at e size ok = length-append front (extensionBytes e) ∙ omega (arith, size, length-extension (e .kind) (e .len) (e .body) (ok .covers))
 
   -- with more than a tail behind them, the walk finds each
-  pub walks : (es : List Extension) (front : List ℕ) (at end : ℕ) → p ≡ front ++ (allBytes es ++ rest) → length front ≡ at → at + length (allBytes es) ≡ end → Each Legible es → 24 < length rest
+  pub walks : (es : List Extension) (front : List ℕ) (at end : ℕ) → p ≡ front ++ (allBytes es ++ rest) → length front ≡ at → at + length (allBytes es) ≡ end →
+      Each Legible es → 24 < length rest
       → walkOf p at 16 24 ≡ walkedBy at es (walkOf p end 16 24)
   walks [] front at end here size to ok more = let s : at ≡ end = omega arith in rw s
   walks (e ∷ es) front at end here size to ok more =
@@ -153,7 +155,8 @@ module _ (p rest : List ℕ) where
       omega (arith, length-append (extensionBytes e) (allBytes es), length-extension (e .kind) (e .len) (e .body) (ok .0 .covers)) in
       walk-turn p at 16 24 (lit≤ tt)
       ∙ rw step
-      (ap (field (foundAt at e)) (walks es (front ++ extensionBytes e) (at + e .len) end (next-place front e es here) (next-size front at e size (ok .0)) long (ok .1) more))
+      (ap (field (foundAt at e)) (walks es (front ++ extensionBytes e) (at + e .len) end (next-place front e es here) (next-size front at e size (ok .0)) long
+      (ok .1) more))
 
   -- ---- the uid fields before an offset
 
@@ -174,10 +177,12 @@ module _ (p rest : List ℕ) where
       let there = here ∙ ap (λ l. front ++ l) (append-assoc (extensionBytes e) (allBytes es) rest) in
       let long : at + e .len + length (allBytes es) ≡ end =
       omega (arith, length-append (extensionBytes e) (allBytes es), length-extension (e .kind) (e .len) (e .body) (ok .0 .covers)) in
-      let behind = none-among es (front ++ extensionBytes e) (at + e .len) end (next-place front e es here) (next-size front at e size (ok .0)) long (ok .1) (other .1) in
+      let behind = none-among es (front ++ extensionBytes e) (at + e .len) end (next-place front e es here) (next-size front at e size (ok .0)) long (ok .1)
+      (other .1) in
       go (ltb 24 (e .len + length (allBytes es ++ rest))) refl there behind
     where
-      go : (t : Bool) → ltb 24 (e .len + length (allBytes es ++ rest)) ≡ t → p ≡ front ++ (extensionBytes e ++ (allBytes es ++ rest)) → ahead p 48 end 16 24 (at + e .len) ≡ []
+      go : (t : Bool) → ltb 24 (e .len + length (allBytes es ++ rest)) ≡ t → p ≡ front ++ (extensionBytes e ++ (allBytes es ++ rest)) →
+          ahead p 48 end 16 24 (at + e .len) ≡ []
           → ahead p 48 end 16 24 at ≡ []
       go true h there behind =
           let step = step-here p front (allBytes es ++ rest) at e there size (ok .0) (ltb-true 24 (e .len + length (allBytes es ++ rest)) h) in
@@ -195,7 +200,8 @@ carrying-legible kind body k h =
     record { kind = k; covers = field-covers n; least = field-least n; fours = field-fours n; short = omega (arith, field-most n h) }
 
 placeholder-legible : (n : ℕ) → n ≤ 724 → Legible (placeholder (fieldLength n))
-placeholder-legible n h = record { kind = lit< tt; covers = omega (arith, field-least n); least = field-least n; fours = field-fours n; short = omega (arith, field-most n h) }
+placeholder-legible n h =
+    record { kind = lit< tt; covers = omega (arith, field-least n); least = field-least n; fours = field-fours n; short = omega (arith, field-most n h) }
 
 each-alike : (P : Extension → Type 0) (n : ℕ) (e : Extension) → P e → Each P (replicate n e)
 each-alike P zero e h = tt
@@ -206,8 +212,11 @@ abbrev behindUid : List ℕ → ℕ → List Extension
 behindUid cookie asked = carrying cookieKind cookie ∷ replicate (asked - 1) (placeholder (fieldLength (length cookie)))
 
 behind-legible : (cookie : List ℕ) (asked : ℕ) → length cookie ≤ 724 → Each Legible (behindUid cookie asked)
-behind-legible cookie asked h =
-    (carrying-legible cookieKind cookie (lit< tt) h, each-alike Legible (asked - 1) (placeholder (fieldLength (length cookie))) (placeholder-legible (length cookie) h))
+behind-legible cookie asked h = (
+  carrying-legible cookieKind cookie (lit< tt) h,
+  each-alike Legible (asked - 1) (placeholder (fieldLength (length cookie)))
+      (placeholder-legible (length cookie) h),
+)
 
 behind-other : (cookie : List ℕ) (asked : ℕ) → Each (λ e. e .kind ≡ uidKind → ⊥) (behindUid cookie asked)
 behind-other cookie asked =
@@ -257,14 +266,17 @@ module _ (kind : SendKind) (poll : PollInterval) (id upgrademark : ℕ) (uid coo
       }
 
   -- the same header, of every kind and whatever stands behind
-  pub header-read : SFits w8 (poll .0) → id < 2 ^ 64 → upgrademark < 2 ^ 64 → (rest : List ℕ) → headerOf (packet ++ rest) ≡ Decoded (headerFor kind poll id upgrademark)
+  -- promise: no1.1 (the reader of `header` gives it back, whatever follows)
+  pub header-read : SFits w8 (poll .0) → id < 2 ^ 64 → upgrademark < 2 ^ 64 → (rest : List ℕ) →
+      headerOf (packet ++ rest) ≡ Decoded (headerFor kind poll id upgrademark)
   unfolding packetOf withFields
   header-read p i m rest = go (hasNts kind)
     where
       go : (t : Bool) → headerOf (cond t (withFields front uid cookie asked) front ++ rest) ≡ Decoded (headerFor kind poll id upgrademark)
       go true =
           let fs = allBytes (fieldsFor uid cookie asked) in
-          ap headerOf (append-assoc front fs rest) ∙ header-front front (fs ++ rest) (omega (arith, front-long)) ∙ read-write (headerFor kind poll id upgrademark) (fit p i m)
+          ap headerOf (append-assoc front fs rest) ∙ header-front front (fs ++ rest) (omega (arith, front-long))
+          ∙ read-write (headerFor kind poll id upgrademark) (fit p i m)
       go false = header-front front rest (omega (arith, front-long)) ∙ read-write (headerFor kind poll id upgrademark) (fit p i m)
 
   module _ (nts : hasNts kind ≡ true) (size : length uid ≡ 32) (short : length cookie ≤ 724) (rest : List ℕ) where
@@ -281,6 +293,7 @@ module _ (kind : SendKind) (poll : PollInterval) (id upgrademark : ℕ) (uid coo
     legible = (carrying-legible uidKind uid (lit< tt) (omega arith), behind-legible cookie asked short)
 
     -- with more than a tail behind it, as an authenticator is, the walk finds each field as it was written, and goes on where the packet ends
+    -- promise: no1.2 (the walk of `fields` finds each where it was written)
     pub fields-read : 24 < length rest → packetWalk (packet ++ rest) ≡ walkedBy 48 (fieldsFor uid cookie asked) (walkOf (packet ++ rest) (length packet) 16 24)
     fields-read more = walks (packet ++ rest) rest (fieldsFor uid cookie asked) front 48 (length packet) laid front-long packet-long legible more
 
@@ -295,7 +308,8 @@ module _ (kind : SendKind) (poll : PollInterval) (id upgrademark : ℕ) (uid coo
         let others = allBytes (behindUid cookie asked) in
         let here = laid ∙ ap (λ l. front ++ l) (append-assoc (extensionBytes e) others rest) in
         let step = step-here p front (others ++ rest) 48 e here front-long ok (omega (arith, len)) in
-        let long : length (extensionBytes e ++ others) ≡ e .len + length others = length-append (extensionBytes e) others ∙ omega (arith, length-extension uidKind (e .len) uid (ok .covers)) in
+        let long : length (extensionBytes e ++ others) ≡ e .len + length others = length-append (extensionBytes e) others
+        ∙ omega (arith, length-extension uidKind (e .len) uid (ok .covers)) in
         let none = none-among p rest (behindUid cookie asked) (front ++ extensionBytes e) (48 + e .len) (length packet)
         (next-place p rest front e (behindUid cookie asked) laid) (next-size p rest front 48 e front-long ok) (omega (arith, packet-long, long))
         (behind-legible cookie asked short) (behind-other cookie asked) in
@@ -306,6 +320,7 @@ module _ (kind : SendKind) (poll : PollInterval) (id upgrademark : ℕ) (uid coo
         bodies ∙ ap (λ b. b ∷ []) body
 
     -- the same uid, whatever stands behind: no other 32 bytes agree
+    -- promise: no1.2 (its uid group agrees with the 32 bytes that were written, and with no other 32)
     pub uid-read : (v : List ℕ) → length v ≡ 32 → (packetUid (packet ++ rest) 48 (length packet) v ≡ Agree) ↔ (v ≡ uid)
     unfolding packetUid
     uid-read v long =

@@ -27,10 +27,12 @@ use Rattle.laws.specs.Retired.{Current, Plain, AllPlain}
 use Rattle.laws.proofs.Unanswered.{call-whole, whole-along}
 
 -- along any log from a whole record neither its start version nor its version is of the retired kind
+-- promise: no14.6
 pub never-back : (a : Association) → Whole a → (calls : List (M.Call rule)) → Current (M.after machine a calls)
 never-back a w calls = none-retired (M.after machine a calls) (whole-along a w calls)
 
 -- and of any run of the code's calls
+-- promise: no14.6 (of any run of the code's calls)
 pub code-never-back : {a b : Association} {calls : List (M.Call rule)} {done : List (M.Done machine)} → Whole a → Ran a calls done b → Current b
 code-never-back {a} {calls} w r = rw (ran-is-run r .1) (never-back a w calls)
 
@@ -64,6 +66,7 @@ module _ (a : Association) (w : Whole a) (i : TimerInput) (room : ℕ) where
   plain (T.sent-nts k z) = tried-plain
 
 -- no poll of any log from a whole record is an upgrade request
+-- promise: no14.6
 pub no-upgrade-request : (calls : List (M.Call rule)) (a : Association) → Whole a → AllPlain (M.run machine a calls)
 no-upgrade-request [] a w = tt
 no-upgrade-request (M.timer t ∷ cs) a w =

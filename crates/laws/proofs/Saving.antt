@@ -50,7 +50,8 @@ settings-kept a (M.timer (save b)) = save-stash-alone a (length b) .settings
 settings-kept a (M.reply r) = laws .settings-kept a (M.reply r)
 
 pending-next : (a : Association) (c : Call savingRule) →
-    pendingIn (M.step savingMachine a c .state .request) ≡ next savingRule (a .settings) (pendingIn (a .state .request)) (M.note savingMachine (M.made savingMachine a c))
+    pendingIn (M.step savingMachine a c .state .request)
+    ≡ next savingRule (a .settings) (pendingIn (a .state .request)) (M.note savingMachine (M.made savingMachine a c))
 pending-next a (M.timer (poll t)) = laws .pending-next a (M.timer t)
 pending-next a (M.timer (save b)) = let u = unasked a (length b) in rw (u .not-sent, u .request)
 pending-next a (M.reply r) = laws .pending-next a (M.reply r)
@@ -71,6 +72,7 @@ same-live : (s : Settings) (q : Option Pending) (r : ReplyIn) → live rule s q 
 same-live s none r = refl
 same-live s (some q) r = refl
 
+-- promise: no6.11
 pub saving-laws : M.Laws savingMachine
 saving-laws =
     record {
@@ -81,28 +83,34 @@ saving-laws =
       refused = λ a r n h. laws .refused a r (same-live (a .settings) (pendingIn (a .state .request)) r ∙ n) h;
     }
 
+-- promise: no6.11
 pub saving-demand3 : (s : Settings) (list : List ℕ) (calls : List (Call savingRule)) →
     let a = newOf s list .association in
     Accepted (logOf savingMachine a calls) → Demand3 savingMachine a calls
 saving-demand3 s list calls ok = demand3 savingMachine saving-laws (newOf s list .association) calls (new-pends-nothing s list) ok
 
+-- promise: no6.11
 pub saving-why : (s : Settings) (list : List ℕ) (calls : List (Call savingRule)) → Why savingMachine (newOf s list .association) calls
 saving-why s list calls = why-told savingMachine saving-laws (newOf s list .association) calls (new-pends-nothing s list) (new-unanswered s list)
 
 -- a metered association is one that `new` makes
+-- promise: no6.11
 pub saving-metered-demand3 : (s : Settings) (list : List ℕ) (calls : List (Call savingRule)) →
     let a = meteredOf s list .association in
     Accepted (logOf savingMachine a calls) → Demand3 savingMachine a calls
 saving-metered-demand3 s list calls =
     once-over-both (λ (a : Association). Accepted (logOf savingMachine a calls) → Demand3 savingMachine a calls) (λ s list. saving-demand3 s list calls) s list
 
+-- promise: no6.11
 pub saving-metered-why : (s : Settings) (list : List ℕ) (calls : List (Call savingRule)) → Why savingMachine (meteredOf s list .association) calls
 saving-metered-why s list calls = once-over-both (λ (a : Association). Why savingMachine a calls) (λ s list. saving-why s list calls) s list
 
+-- promise: no6.11
 pub saving-loaded-demand3 : (f : List ℕ) (calls : List (Call savingRule)) →
     let a = loadOf f .association in
     Accepted (logOf savingMachine a calls) → Demand3 savingMachine a calls
 saving-loaded-demand3 f calls ok = demand3 savingMachine saving-laws (loadOf f .association) calls (load-nothing f .0) ok
 
+-- promise: no6.11
 pub saving-loaded-why : (f : List ℕ) (calls : List (Call savingRule)) → Why savingMachine (loadOf f .association) calls
 saving-loaded-why f calls = why-told savingMachine saving-laws (loadOf f .association) calls (load-nothing f .0) (load-nothing f .1)

@@ -1,4 +1,5 @@
--- Some of a list, in order: of any list none, all, and what a longer one has in front; of some of it some again; and the places that are used rise, and are the list's.
+-- Some of a list, in order: of any list none, all, and what a longer one has in front; of some of it some again; and the places that are used rise, and are
+-- the list's.
 -- Assumes nothing.
 use mathlib.Core.Path.{_≡_, refl, ap, _∙_}
 use mathlib.Core.List.{List, [], _∷_, _++_, map}

@@ -1,4 +1,5 @@
--- A stash that holds some cookies, named by their bytes: taking gives the first of them, byte for byte, and after storing it holds some of them and of those stored, in order.
+-- A stash that holds some cookies, named by their bytes: taking gives the first of them, byte for byte, and after storing it holds some of them and of those
+-- stored, in order.
 -- Assumes nothing.
 use mathlib.Core.Path.{_≡_, refl, sym, ap, _∙_}
 use mathlib.Core.Bool.{true}
@@ -104,7 +105,11 @@ module _ (cap : ℕ) where
                 | yes k ↦
                     record {
                       inside = inside ++ (c ∷ []);
-                      holds = record { held = store-room cap s i (h .room) c l k ∙ ap (λ (q : List Cookie). q ++ (cookieOf c ∷ [])) (h .held) ∙ back inside; room = room };
+                      holds = record {
+                        held = store-room cap s i (h .room) c l k ∙ ap (λ (q : List Cookie). q ++ (cookieOf c ∷ [])) (h .held)
+                            ∙ back inside;
+                        room = room;
+                      };
                       order = some-all (inside ++ (c ∷ []));
                     }
                 | no k ↦
@@ -132,16 +137,23 @@ module _ (cap : ℕ) where
               }
         ]
 
-  store-each : (cs : List (List ℕ)) (s : CookieStash) (inside : List (List ℕ)) → inRange cap s ≡ true → Holds cap s inside → Holding cap (storeAll cap s cs) (inside ++ cs)
+  store-each : (cs : List (List ℕ)) (s : CookieStash) (inside : List (List ℕ)) → inRange cap s ≡ true → Holds cap s inside →
+      Holding cap (storeAll cap s cs) (inside ++ cs)
   unfolding inRange
   store-each [] s inside i h = record { inside = inside; holds = h; order = some-front inside [] }
   store-each (c ∷ cs) s inside i h =
       let one = store-one s inside i h c in
       let more = store-each cs (storeOf cap s c) (one .inside) (store-range cap s c i) (one .holds) in
-      record { inside = more .inside; holds = more .holds; order = some-some (more .order) (rw (append-assoc inside (c ∷ []) cs) at (some-before (one .order) cs)) }
+      record {
+        inside = more .inside;
+        holds = more .holds;
+        order = some-some (more .order)
+            (rw (append-assoc inside (c ∷ []) cs) at (some-before (one .order) cs));
+      }
 
   -- a whole list's cookies in order; a broken one changes nothing
-  pub store-some : (s : CookieStash) (inside : List (List ℕ)) → inRange cap s ≡ true → Holds cap s inside → (l : List ℕ) → Holding cap (storeListOf cap s l) (inside ++ cookiesOf (cookiesIn l))
+  pub store-some : (s : CookieStash) (inside : List (List ℕ)) → inRange cap s ≡ true → Holds cap s inside → (l : List ℕ) →
+      Holding cap (storeListOf cap s l) (inside ++ cookiesOf (cookiesIn l))
   unfolding storeListOf
   store-some s inside i h l = by (cookiesIn l)
     where

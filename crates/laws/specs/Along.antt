@@ -1,4 +1,4 @@
--- What is said of a machine's calls, so that it can be said of its logs: a property that each call keeps, and a machine that answers replies in another way.
+-- Properties of a machine's calls that carry over to its logs: a property that each call keeps, and a machine that answers replies in another way.
 -- Assumes nothing.
 use mathlib.Core.List.{List, [], _∷_, _++_}
 use Rattle.log.specs.Log.{Rule}
@@ -13,7 +13,7 @@ module _ {D : Rule} (M : Machine D) where
   abbrev pub Kept : (M .Record → Type 0) → Type 0
   Kept P = (a : M .Record) (c : Call D) → P a → P (step M a c)
 
-  -- a relation between the records at the two ends of a log: it holds of an empty one, of two in a row, and of each call
+  -- a relation between the records at the two ends of a log: it holds for an empty log, for two logs in a row, and for each call
   pub record Orders (R : M .Record → M .Record → Type 0) : Type 0 where
     pub none : (a : M .Record) → R a a
     pub more : {a b c : M .Record} → R a b → R b c → R a c

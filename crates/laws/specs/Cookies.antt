@@ -1,4 +1,5 @@
--- The cookies of a log from a new association (RULES, No. 14): those that are stored, and those that are handed out. Inputs, numbers and buffers alone say which; nothing here knows a record.
+-- The cookies of a log from a new association (RULES, No. 14): those that are stored, and those that are handed out. Only inputs, numbers and buffers say
+-- which; nothing here depends on a record.
 -- Assumes nothing.
 use mathlib.Core.Bool.{Bool, _&&_, cond}
 use mathlib.Core.List.{List, [], _∷_, _++_}
@@ -35,6 +36,9 @@ storedIn nts [] = []
 storedIn nts (d ∷ ds) = storedBy nts d ++ storedIn nts ds
 
 -- the order of storing: the first list, then those of the replies
+-- promise no14.8: Cookies in order: over any log from a new association the cookies handed out are, in order, some of the cookies stored, each place used at
+--     most once.
+--     edit: laws/a_cookie_is_handed_out_twice
 abbrev pub storedFrom : Settings → List ℕ → List (Done machine) → List (List ℕ)
 storedFrom s list done = storedOn (new.numberOf (new.newOf s list .answer)) (s .nts) list ++ storedIn (s .nts) done
 
@@ -54,6 +58,7 @@ abbrev pub handedBy : Done machine → List (List ℕ)
 handedBy (ofTimer t x) = handedWith (x .0) (x .1)
 handedBy (ofReply r x) = []
 
+-- promise: no14.8 (inputs, numbers and buffers alone; no record)
 abbrev pub handedOut : List (Done machine) → List (List ℕ)
 handedOut [] = []
 handedOut (d ∷ ds) = handedBy d ++ handedOut ds

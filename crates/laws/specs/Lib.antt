@@ -1,4 +1,4 @@
--- Statements over logs, the crate beside them, some of a list in order, and what reads a request back.
+-- Statements about logs, also by the crate's rule, about some elements of a list in order, and about reading a request back.
 pub mod Along
 pub mod Rate
 pub mod Retired

@@ -12,6 +12,7 @@ use Rattle.log.specs.Machine.{Done, ofTimer, ofReply}
 use Rattle.association_log.specs.Association.{machine}
 
 -- neither the start version nor the version is upgrading
+-- promise no14.6: From a whole record no call leads to the upgrading version, and no upgrade request is sent, over any log.
 abbrev pub Current : Association → Type 0
 Current a = (upgrading (a .settings .start .kind) ≡ false) × (upgrading (a .state .version .kind) ≡ false)
 
@@ -25,6 +26,7 @@ Plain CookieTooLarge = Unit {0}
 Plain ShortBuffer = Unit {0}
 Plain NotWhole = Unit {0}
 
+-- promise: no14.6
 abbrev pub AllPlain : List (Done machine) → Type 0
 AllPlain [] = Unit {0}
 AllPlain (ofTimer t x ∷ ds) = Plain (x .0) × AllPlain ds

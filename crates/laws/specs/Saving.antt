@@ -1,5 +1,5 @@
--- The association as a machine of timers, saves and replies (RULES, No. 6): a save stands in a log where a timer may, with its own number, and asks for nothing.
--- The log's rule is `association_log`'s. What is said of timers and replies alone is said of what was done, the saves left out.
+-- The association as a machine of timers, saves and replies (RULES, No. 6): a save appears in a log where a timer may, with its own number, and asks for
+-- nothing. The log's rule is that of `association_log`. Statements about timers and replies alone are about what was done without the saves.
 -- Assumes nothing.
 use mathlib.Core.Path.{_≡_}
 use mathlib.Core.Bool.{false}
@@ -53,6 +53,8 @@ savingRule = record {
   unexpired = rule .unexpired;
 }
 
+-- promise no6.11: Logs that contain saves: demand 3 and the laws of No. 3, No. 7, No. 11 and No. 14 hold of them too, and a save changes the stash alone.
+--     edit: laws/a_save_sends_a_poll
 abbrev pub savingMachine : Machine savingRule
 savingMachine = record {
   Record = Association;
@@ -75,6 +77,7 @@ unsavedBy (ofTimer (poll t) (saved x)) = []
 unsavedBy (ofTimer (save b) x) = []
 unsavedBy (ofReply r x) = ofReply r x ∷ []
 
+-- promise: no6.11
 abbrev pub unsaved : List (Done savingMachine) → List (Done machine)
 unsaved [] = []
 unsaved (d ∷ ds) = unsavedBy d ++ unsaved ds

@@ -1,4 +1,4 @@
--- The unanswered polls along a log (RULES, No. 8): what the numbers of its calls make of them, and nothing else of it.
+-- The unanswered polls along a log (RULES, No. 8): they depend only on the numbers of its calls.
 -- Assumes nothing.
 use mathlib.Core.Bool.{cond}
 use mathlib.Core.List.{List, [], _∷_}
@@ -12,7 +12,8 @@ use Rattle.association_log.specs.Association.{rule}
 abbrev pub unansweredIn : Association → ℕ
 unansweredIn a = a .state .effort .unanswered
 
--- a timer answering 20, 23 or 24 adds one up to 8, a measured reply makes it 0, and all else leaves it
+-- a timer answering 20, 23 or 24 adds one up to 8, a measured reply makes it 0, and nothing else changes it
+-- promise no8.5: The numbers of a log determine the unanswered polls: over any log from any record, starting at 8 for a new association.
 abbrev pub countAfter : ℕ → List (Entry rule) → ℕ
 countAfter n [] = n
 countAfter n (timed t k ∷ later) = countAfter (cond (triesPoll k) (min (n + 1) 8) n) later

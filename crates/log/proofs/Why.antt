@@ -91,7 +91,13 @@ module _ (D : Rule) (s : D .Settings) where
   why before r = reason D (asked D s before) (answeredFrom false before) r
 
   why-answered : (older since : List (Entry D)) (m r : D .Reply) → NoPoll since → why (older ++ replied m 0 ∷ since) r ≡ 13
-  why-answered older since m r p = rw (asked-append D s none older (replied m 0 ∷ since), asked-none D s since p, answered-append false older (replied m 0 ∷ since), answered-yes since p)
+  why-answered older since m r p = rw (
+    asked-append D s none older (replied m 0 ∷ since),
+    asked-none D s since p,
+    answered-append false older
+        (replied m 0 ∷ since),
+    answered-yes since p,
+  )
 
   why-open : (older since : List (Entry D)) (t : D .Timer) (r : D .Reply) → NoPoll since → NoZero since →
       why (older ++ timed t 20 ∷ since) r ≡ cond (D .unexpired (D .asks s t) r) 0 14
@@ -118,7 +124,8 @@ module _ (D : Rule) (s : D .Settings) where
       by : (log : List (Entry D)) → Kind log → Told none false log → Story log r (why log r)
       by _ (unsent log p z) h = rw (why-unsent log r p z) (never p)
       by _ (spent older since m p) h =
-          rw (why-answered older since m r p) (answered (record { older = older; since = since; reply = m; parts = refl; polled = polled older m since h; last = p }))
+          rw (why-answered older since m r p) (answered
+          (record { older = older; since = since; reply = m; parts = refl; polled = polled older m since h; last = p }))
       by _ (open-poll older since t p z) h = rw (why-open older since t r p z) (open-by older since t p z (D .unexpired (D .asks s t) r) refl)
 
   -- with no poll sent none is measured, so the reason is 12
@@ -195,6 +202,7 @@ module _ {D : Rule} (M : Machine D) (L : Laws M) where
   all [] a = tt
   all (c ∷ cs) a = (one a c, rw (L .settings-kept a c, L .pending-next a c, L .answered-next a c) at (all cs (step M a c)))
 
+  -- promise: no3.5 (of any machine that obeys the laws)
   pub why-told : (a : M .Record) (calls : List (Call D)) → M .pending a ≡ none → M .answered a ≡ false → Why M a calls
   why-told a calls new unanswered =
       let s = M .settings a in

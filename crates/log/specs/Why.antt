@@ -1,4 +1,4 @@
--- What No. 3 says of any calls made to a record of a machine, by the log alone: why a reply had no live request.
+-- What No. 3 says about any calls made to a record of a machine, from the log alone: why a reply had no live request.
 -- Assumes nothing.
 use mathlib.Core.Path.{_≡_}
 use mathlib.Core.Bool.{false, not}
@@ -15,6 +15,7 @@ NoZero (e ∷ es) = T (not (measured e)) × NoZero es
 
 module _ {D : Rule} where
   -- a poll was sent, and a reply has been measured since the last one
+  -- promise: no3.5
   pub record Answered (log : List (Entry D)) : Type 0 where
     pub older : List (Entry D)
     pub since : List (Entry D)
@@ -24,6 +25,7 @@ module _ {D : Rule} where
     pub last : NoPoll since
 
   -- the last poll sent is unmeasured, and its deadline is before the reply's now
+  -- promise: no3.5
   pub record Late (s : D .Settings) (log : List (Entry D)) (r : D .Reply) : Type 0 where
     pub older : List (Entry D)
     pub since : List (Entry D)
@@ -33,7 +35,8 @@ module _ {D : Rule} where
     pub unmeasured : NoZero since
     pub passed : D .unexpired (D .asks s poll) r ≡ false
 
--- Of each reply that was read, with a list that is not broken and of a version that is expected.
+-- For each reply that was read, with a list that is not broken and of a version that is expected.
+-- promise: no3.5
 pub record Why {D : Rule} (M : Machine D) (a : M .Record) (calls : List (Call D)) : Type 0 where
   pub never-sent : (before behind : List (Entry D)) (r : D .Reply) (n : ℕ) → logOf M a calls ≡ before ++ replied r n ∷ behind → T (considered n) →
       (n ≡ 12) ↔ NoPoll before

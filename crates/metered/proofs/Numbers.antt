@@ -22,6 +22,7 @@ module _ (s : Settings) (list : List ℕ) where
   Told r = Given (numberOf r) r
 
   -- what is given is given under the rule of its number
+  -- promise: no11.1
   pub given : Told (profileOf s list)
   unfolding profileOf
   given =
@@ -38,6 +39,7 @@ module _ (s : Settings) (list : List ℕ) where
       bad-settings
 
   -- where a number's rule holds, that rule's answer is given
+  -- promise: no11.1
   pub only : {n : ℕ} {r : ProfileAnswer} → Given n r → profileOf s list ≡ r
   unfolding profileOf
   only (bad-settings v) = rw v
@@ -58,6 +60,7 @@ module _ (s : Settings) (list : List ℕ) where
   numbered (met d e) = refl
 
   -- so a number is given if and only if its rule holds
+  -- promise: no11.1, no14.2 (at 36)
   pub number : (n : ℕ) → (numberOf (profileOf s list) ≡ n) ↔ ((r : ProfileAnswer) × Given n r)
   number n = (
     λ e. (profileOf s list, subst (λ (k : ℕ). Given k (profileOf s list)) e given),

@@ -1,4 +1,5 @@
--- A metered association is a plain one (RULES, No. 11): the call gives the check's number, on 0 the very record that `new` makes, and on any other number the blank one.
+-- A metered association is a plain one (RULES, No. 11): the call gives the check's number, on 0 the very record that `new` makes, and on any other number the
+-- blank one.
 -- So what is proved of every record that `new` gives is proved of every one that this call gives.
 -- Assumes nothing.
 use mathlib.Core.Path.{_≡_, refl, sym, ap, subst, _∙_}
@@ -28,21 +29,24 @@ use Rattle.metered.proofs.Numbers.{given}
 
 module _ (s : Settings) (list : List ℕ) where
   -- the call gives the check's answer, whatever it is
+  -- promise: no11.2
   pub same-answer : meteredOf s list .answer ≡ profileOf s list
   unfolding meteredOf
   same-answer = refl
 
-  -- on 0 the record is the plain call's, of the same settings and list
+  -- promise no11.3: On 0 of `metered` the record is the one that the plain call makes of the same settings and list.
   pub same-record : numberOf (profileOf s list) ≡ 0 → meteredOf s list .association ≡ new.newOf s list .association
   unfolding meteredOf
   same-record e = when _ _ (eq-eqb _ _ e)
 
   -- with what the plain call says fell out of the list
+  -- promise: no5.5, no11.3 (what fell out of the list too)
   pub same-dropped : numberOf (profileOf s list) ≡ 0 → meteredOf s list .dropped ≡ new.newOf s list .dropped
   unfolding meteredOf
   same-dropped e = when _ _ (eq-eqb _ _ e)
 
   -- on any other number it is the blank one
+  -- promise: no11.2
   pub refused-blank : (numberOf (profileOf s list) ≡ 0 → ⊥) → meteredOf s list .association ≡ blankOf
   unfolding meteredOf
   refused-blank u = unless _ _ (ne-eqb _ _ u)
@@ -61,14 +65,17 @@ module _ (s : Settings) (list : List ℕ) where
   settled e = passed (given s list) e
 
   -- and there the plain call answers 0 too
+  -- promise: no11.3 (the plain call answers 0 too)
   pub plain-made : numberOf (profileOf s list) ≡ 0 → new.numberOf (new.newOf s list .answer) ≡ 0
   plain-made e = let d = settled e in let p = d .brief .slow .plain in plain.number s list 0 .1 (_, made (p .valid) (p .unbroken) (d .start))
 
   -- with a whole record
+  -- promise: no11.3
   pub metered-whole : numberOf (profileOf s list) ≡ 0 → Whole (meteredOf s list .association)
   metered-whole e = subst Whole (sym (same-record e)) (by (new-gives s list))
     where
-      by : ((new.numberOf (new.newOf s list .answer) ≡ 0) × Whole (new.newOf s list .association)) ⊎ ((new.numberOf (new.newOf s list .answer) ≡ 0 → ⊥) × (new.newOf s list .association ≡ blankOf)) →
+      by : ((new.numberOf (new.newOf s list .answer) ≡ 0) × Whole (new.newOf s list .association))
+          ⊎ ((new.numberOf (new.newOf s list .answer) ≡ 0 → ⊥) × (new.newOf s list .association ≡ blankOf)) →
           Whole (new.newOf s list .association)
       by (inl w) = w .1
       by (inr w) = absurd (w .0 (plain-made e))
@@ -93,6 +100,7 @@ blank-of-new =
     }
 
 -- every record that this call gives the plain one gives too
+-- promise: no11.4 (every record of this call is one of the plain call, the blank one too)
 pub of-new : (s : Settings) (list : List ℕ) → OfNew (meteredOf s list .association)
 of-new s list = by (eqb (numberOf (profileOf s list)) 0) refl
   where
@@ -101,5 +109,7 @@ of-new s list = by (eqb (numberOf (profileOf s list)) 0) refl
     by false e = subst OfNew (sym (refused-blank s list (eqb-false _ _ e))) blank-of-new
 
 -- so what holds of every record of the plain call holds of every one of this call: proved once over both
-pub once-over-both : (P : Association → Type 0) → ((s : Settings) (list : List ℕ) → P (new.newOf s list .association)) → (s : Settings) (list : List ℕ) → P (meteredOf s list .association)
+-- promise: no11.4 (what holds of every record of the plain call holds of every one of this call)
+pub once-over-both : (P : Association → Type 0) → ((s : Settings) (list : List ℕ) → P (new.newOf s list .association)) → (s : Settings) (list : List ℕ) →
+    P (meteredOf s list .association)
 once-over-both P p s list = let o = of-new s list in subst P (sym (o .same)) (p (o .settings) (o .list))

@@ -1,4 +1,4 @@
--- RULES, "The numbers" and No. 11: when the check gives each number, in the order of the tests.
+-- RULES, "The numbers" and No. 11: when the check returns each number, in the order of the tests.
 -- Assumes nothing.
 use mathlib.Core.Path.{_≡_}
 use mathlib.Core.Bool.{true, false}
@@ -36,6 +36,7 @@ module _ (s : Settings) (list : List ℕ) where
     pub start : upgrading (s .start .kind) ≡ false
 
   -- ---- the numbers, each with its answer
+  -- promise: no11.1
   pub data Given : ℕ → ProfileAnswer → Type 0 where
     bad-settings : settingsValid s ≡ false → Given 30 BadSettings
     broken-list : settingsValid s ≡ true → listBroken (s .nts) list ≡ true → Given 33 BrokenList

@@ -1,5 +1,5 @@
-// A profile for metered links, where every packet is paid for: the check that names the first rule broken, and the call that makes such an association.
-// Promises: each number exactly under its rule, in its order; on 0 the record that `Association::new` makes, and the blank one on any other number.
+// A profile for metered links, where every packet costs money: the check that returns the first broken rule, and the call that makes such an association.
+// Promises: each number exactly when its rule says so, in its order; with 0 the record that `Association::new` makes, and with any other number the blank one.
 // Rule: RULES, No. 11, and No. 5 for what fell out; definitions in specs/Profile.antt, number by number in specs/Numbers.antt.
 use association::Association;
 use association::Settings;
@@ -9,7 +9,7 @@ ghost use mathlib.Core.Path.{_≡_};
 ghost use Rattle.cookielist.specs.List.{cookiesIn};
 ghost use Rattle.metered.specs.Profile.{numberOf, longerIn, longCookie, profileOf, meteredOf};
 
-// The least that the lower poll limit may be: a poll in some four minutes.
+// The least value of the lower poll limit: a poll every four minutes or so.
 pub const LEAST_POLL: i8 = 8;
 
 // The most polls that may be sent before the association gives up.
@@ -45,7 +45,7 @@ impl ProfileAnswer {
     }
 }
 
-// Whether a whole cookie list has a cookie of more than so many bytes.
+// Whether a whole cookie list has a cookie of more than `most` bytes.
 fn has_longer(most: usize, list: &[u8]) -> bool
     ensures { λ r. ⌜ r ≡ longerIn most (cookiesIn (now (list .entry))) ⌝ }
 {
@@ -81,6 +81,7 @@ fn has_long_cookie(nts: bool, list: &[u8]) -> bool
 }
 
 // Whether settings and first cookie list meet the profile, and if not, which rule is the first that they break. The list counts with NTS only.
+// promise: no11.1, no12.1, no14.2
 pub fn profile(settings: Settings, list: &[u8]) -> ProfileAnswer
     ensures { λ r. ⌜ r ≡ profileOf settings (now (list .entry)) ⌝ }
 {
@@ -107,14 +108,15 @@ pub fn profile(settings: Settings, list: &[u8]) -> ProfileAnswer
     ProfileAnswer::Met
 }
 
-// What `metered` gives: the profile's answer, what fell out while the first list was stored, and the association, blank where it was refused.
+// What `metered` returns: the profile's answer, what fell out while the first list was stored, and the association, which is blank if it was rejected.
 pub struct MeteredOut {
     pub answer: ProfileAnswer,
     pub dropped: Dropped,
     pub association: Association,
 }
 
-// Makes an association that meets the profile: the one that `Association::new` makes, which tells what of the list fell out.
+// Makes an association that meets the profile: `Association::new` makes it, and reports what fell out of the list.
+// promise: no5.5, no11.2, no12.1
 pub fn metered(settings: Settings, list: &[u8]) -> MeteredOut
     ensures { λ r. ⌜ r ≡ meteredOf settings (now (list .entry)) ⌝ }
 {

@@ -89,15 +89,18 @@ at-most (suc n) x = by (eqb (x % 2) 0) (trailing n (x / 2)) (at-most n (x / 2))
     by true t h = omega arith
     by false t h = omega arith
 
+-- promise: 2.3 (8 at most), no8.1 (at most 8)
 pub most-unanswered : (r : Reach) → unansweredOf r ≤ 8
 most-unanswered r = at-most 8 (r .0)
 
 -- 8 when new
+-- promise: 2.3, no8.2
 pub never-unanswered : unansweredOf neverOf ≡ 8
 unfolding trailing
 never-unanswered = refl
 
 -- a poll adds one, up to 8
+-- promise: 2.3, no8.3
 pub polled-unanswered : (r : Reach) → unansweredOf (polledOf r) ≡ min (unansweredOf r + 1) 8
 polled-unanswered r =
     let x = r .0 in
@@ -105,6 +108,7 @@ polled-unanswered r =
     even 7 ((x * 2) % 256) (min (trailing 8 x) 7) (omega arith) (ap (trailing 7) h ∙ low-7 x) ∙ omega arith
 
 -- an answer leaves none
+-- promise: 2.3, no8.4
 pub answered-unanswered : (r : Reach) → unansweredOf (answeredOf r) ≡ 0
 answered-unanswered r = by (eqb (r .0 % 2) 0) refl
   where

@@ -34,5 +34,6 @@ module _ (b : List ℕ) (stratum : ℕ) (local : List ℕ) (bloom : Bloom) where
         let s = ev ∙ seen-is cap b (of-sized b cap (of-ok b o .sized)) in
         e ∙ (λ i. acceptSeen (settingsIn b) (stateIn b) (s i) stratum local bloom) ∙ sym (when (acceptOf (unpacked b) stratum local bloom) NotWhole o)
 
-  pub told : (r : Opened) → r ≡ openedOf b → r .ok ≡ true → (v : Seen) → v ≡ seenIn b (r .settings .capacity) → (x : AcceptAnswer) → x ≡ acceptSeen (r .settings) (r .state) v stratum local bloom → x ≡ acceptCall b stratum local bloom
+  pub told : (r : Opened) → r ≡ openedOf b → r .ok ≡ true → (v : Seen) → v ≡ seenIn b (r .settings .capacity) → (x : AcceptAnswer) →
+      x ≡ acceptSeen (r .settings) (r .state) v stratum local bloom → x ≡ acceptCall b stratum local bloom
   told r e k v ev x ex = let o = found-ok b r e ∙ k in subst (Says v x o) (sym (found-is b r e o)) (base v x o) ev ex

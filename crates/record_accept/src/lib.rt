@@ -1,12 +1,13 @@
 // Acceptance of the source of a record in lent bytes.
-// Promises: what `accept` promises of the record that the bytes hold; bytes that are no record give 32.
+// Promises: what `accept` promises, for the record in the bytes; bytes that are no record give 32.
 // Rule: RULES, part 12; definitions in specs/Accept.antt.
 use accept::AcceptAnswer;
 use accept::Bloom;
 ghost use mathlib.Core.Path.{_≡_};
 ghost use Rattle.record_accept.specs.Accept.{acceptCall};
 
-// What is read of the record are its settings, its state and what is seen of its stash; nothing changes.
+// Reads the record's settings, its state and the summary of its stash; changes nothing.
+// promise: exports.3
 pub fn accept(b: &[u8], stratum: u8, local: &[u32], bloom: Bloom) -> AcceptAnswer
     ensures { λ r. ⌜ r ≡ acceptCall (now (b .entry)) stratum (now (local .entry)) bloom ⌝ }
 {

@@ -10,4 +10,10 @@ use Rattle.record_bytes.specs.State.{PendingFit, StateFit}
 
 pub state-fit : (s : State) (vs : List Val) → Is State·.the-row s vs → StateFit s
 state-fit s vs is =
-    record { last = search needs; remote = search needs; refid = search needs; request = record { id = search needs; deadline = search needs; uid = search needs } }
+    record {
+      last = search needs;
+      remote = search needs;
+      refid = search needs;
+      request = record
+          { id = search needs; deadline = search needs; uid = search needs };
+    }

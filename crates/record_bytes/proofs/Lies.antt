@@ -89,7 +89,8 @@ module _ (a : Association) (n : length (a .state .request .uid) ≡ 32) where
   the-rows = sym (drop-drop 63 29 (packed a)) ∙ ap (drop 63) behind ∙ drop-at state rows 63 (state-long (a .state) n)
 
   long : length (packed a) ≡ 92 + length rows
-  long = ap length pieces ∙ length-append head (state ++ rows) ∙ ap (λ (k : ℕ). length head + k) (length-append state rows) ∙ omega (arith, head-long, state-long (a .state) n)
+  long = ap length pieces ∙ length-append head (state ++ rows) ∙ ap (λ (k : ℕ). length head + k) (length-append state rows)
+      ∙ omega (arith, head-long, state-long (a .state) n)
 
   with-stash : (t : CookieStash) → withStash (a .settings .capacity) (packed a) t ≡ packed (A.withStash a t)
   unfolding withStash packed
@@ -125,7 +126,8 @@ module _ (a : Association) (b : List ℕ) (l : Lies a b) where
   pub put : (t : CookieStash) → withStash cap b t ≡ packed (A.withStash a t)
   put t = ap (λ (x : List ℕ). withStash cap x t) (l .is) ∙ with-stash a (l .uid) t
 
-  pub takes : (t : Bool) (ys : List ℕ) → takenIn cap t b ys ≡ took (packed (A.withStash a (cond t (getOf cap (a .stash) .stash) (a .stash)))) (cond t (handedOf (getOf cap (a .stash) .slot) ys) ys)
+  pub takes : (t : Bool) (ys : List ℕ) → takenIn cap t b ys
+      ≡ took (packed (A.withStash a (cond t (getOf cap (a .stash) .stash) (a .stash)))) (cond t (handedOf (getOf cap (a .stash) .slot) ys) ys)
   unfolding takenIn
   takes true ys =
       ap (λ (t : Bool). cond t (took (withStash cap b (getOf cap (stashIn b cap) .stash)) (handedOf (getOf cap (stashIn b cap) .slot) ys)) (took b ys)) sized
@@ -133,10 +135,13 @@ module _ (a : Association) (b : List ℕ) (l : Lies a b) where
       ∙ ap (λ (x : List ℕ). took x (handedOf (getOf cap (a .stash) .slot) ys)) (put (getOf cap (a .stash) .stash))
   takes false ys = ap (λ (x : List ℕ). took x ys) (l .is)
 
-  pub refills : (t : Bool) (list : List ℕ) → refilledIn cap t list b ≡ refilled (cond t (droppedOf cap (a .stash) list) noneDropped) (packed (A.withStash a (cond t (storeListOf cap (a .stash) list) (a .stash))))
+  pub refills : (t : Bool) (list : List ℕ) →
+      refilledIn cap t list b ≡ refilled (cond t (droppedOf cap (a .stash) list) noneDropped)
+      (packed (A.withStash a (cond t (storeListOf cap (a .stash) list) (a .stash))))
   unfolding refilledIn
   refills true list =
-      ap (λ (t : Bool). cond t (refilled (droppedOf cap (stashIn b cap) list) (withStash cap b (storeListOf cap (stashIn b cap) list))) (refilled noneDropped b)) sized
+      ap (λ (t : Bool). cond t (refilled (droppedOf cap (stashIn b cap) list) (withStash cap b (storeListOf cap (stashIn b cap) list)))
+      (refilled noneDropped b)) sized
       ∙ ap (λ (s : CookieStash). refilled (droppedOf cap s list) (withStash cap b (storeListOf cap s list))) (l .own)
       ∙ ap (refilled (droppedOf cap (a .stash) list)) (put (storeListOf cap (a .stash) list))
   refills false list = ap (refilled noneDropped) (l .is)
@@ -152,7 +157,8 @@ module _ (s : Settings) (r : ℕ) (q : State) (n : length (q .request .uid) ≡ 
   empty = record { settings = s; stash = emptyFrom r; state = q }
 
   eight : replicate (s .capacity) emptySlot ++ replicate (8 - s .capacity) emptySlot ≡ replicate 8 emptySlot
-  eight = let e : s .capacity + (8 - s .capacity) ≡ 8 = omega arith in replicate-append-replicate (s .capacity) (8 - s .capacity) emptySlot ∙ ap (λ (j : ℕ). replicate j emptySlot) e
+  eight = let e : s .capacity + (8 - s .capacity) ≡ 8 = omega arith in
+      replicate-append-replicate (s .capacity) (8 - s .capacity) emptySlot ∙ ap (λ (j : ℕ). replicate j emptySlot) e
 
   zero-rows : rowsOf (take (s .capacity) (replicate 8 emptySlot)) ≡ replicate (s .capacity * 726) 0
   zero-rows =
@@ -194,13 +200,17 @@ module _ (s : Settings) (r : ℕ) (q : State) (n : length (q .request .uid) ≡ 
       let R = stateBytes q ++ rowsOf (take (s .capacity) (replicate 8 emptySlot)) in
       let l = settings-long s in
       let e : 27 ≡ length S + 0 = omega arith in
-      let g : 28 ≡ length S + 1 = omega arith in
-      (ap (λ (j : ℕ). getD (S ++ (r ∷ 0 ∷ R)) j 0) e ∙ getD-append-add S (r ∷ 0 ∷ R) 0 0, ap (λ (j : ℕ). getD (S ++ (r ∷ 0 ∷ R)) j 0) g ∙ getD-append-add S (r ∷ 0 ∷ R) 1 0)
+      let g : 28 ≡ length S + 1 = omega arith in (
+        ap (λ (j : ℕ). getD (S ++ (r ∷ 0 ∷ R)) j 0) e ∙ getD-append-add S (r ∷ 0 ∷ R) 0 0,
+        ap (λ (j : ℕ). getD (S ++ (r ∷ 0 ∷ R)) j 0) g
+            ∙ getD-append-add S (r ∷ 0 ∷ R) 1 0,
+      )
 
   own-stash : stashIn (packed empty) (s .capacity) ≡ emptyFrom r
   unfolding stashIn
   own-stash =
-      let slots = ap (λ (x : List Slot). x ++ replicate (8 - s .capacity) emptySlot) (slots-zero (packed empty) 92 (s .capacity) (omega (arith, total)) zeros-past) ∙ eight in
+      let slots = ap (λ (x : List Slot). x ++ replicate (8 - s .capacity) emptySlot)
+      (slots-zero (packed empty) 92 (s .capacity) (omega (arith, total)) zeros-past) ∙ eight in
       λ i. record { slots = slots i; read = at-27 .0 i; held = at-27 .1 i }
 
   pub headed-lies : Lies empty (headed (replicate k 0) s r q)

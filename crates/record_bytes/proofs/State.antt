@@ -16,7 +16,20 @@ use Rattle.association.specs.declared.State.{State}
 use Rattle.handover_groups.specs.Codes.{yesCode, yesOf, yesKnown}
 use Rattle.handover_groups.specs.State.{versionBytes, versionOf, versionKnown, pollsBytes, pollsOf, sourceBytes, sourceOf, sourceKnown}
 use Rattle.handover_groups.proofs.OfCodes.{word, word-again, yes-kept, yes-again}
-use Rattle.handover_groups.proofs.OfState.{PollsFit, version-back, version-known, version-long, version-again, polls-back, polls-long, polls-again, source-back, source-known, source-long, source-again}
+use Rattle.handover_groups.proofs.OfState.{
+  PollsFit,
+  version-back,
+  version-known,
+  version-long,
+  version-again,
+  polls-back,
+  polls-long,
+  polls-again,
+  source-back,
+  source-known,
+  source-long,
+  source-again,
+}
 use Rattle.record_bytes.specs.State.{triesBytes, triesOf, pendingBytes, pendingOf, pendingKnown, stateBytes, stateOf, stateKnown, PendingFit, StateFit}
 
 -- ---- what is written is read back
@@ -24,7 +37,14 @@ use Rattle.record_bytes.specs.State.{triesBytes, triesOf, pendingBytes, 
 pub pending-back : (p : Pending) → PendingFit p → pendingOf (pendingBytes p) ≡ p
 unfolding pendingOf pendingBytes part
 pending-back p f =
-    rw (yes-kept (p .present) .0, yes-kept (p .answered) .0, word 8 (p .id) (f .id), word 8 (p .deadline) (f .deadline), take-all 32 (p .uid) (omega (arith, f .uid)))
+    rw (
+      yes-kept (p .present) .0,
+      yes-kept (p .answered) .0,
+      word 8 (p .id) (f .id),
+      word 8 (p .deadline) (f .deadline),
+      take-all 32 (p .uid)
+          (omega (arith, f .uid)),
+    )
 
 pub pending-known : (p : Pending) → pendingKnown (pendingBytes p) ≡ true
 unfolding pendingKnown pendingBytes
@@ -135,8 +155,10 @@ spelled-is l k (suc n) e = ap (λ (x : List ℕ). getD l k 0 ∷ x) (spelled-is 
 
 -- each group by its bytes
 pub state-spelled : (s : State) {t a : ℕ} {v p g i d : List ℕ} → v ≡ versionBytes (s .version) → p ≡ pollsBytes (s .polls) → g ≡ sourceBytes (s .source) →
-    t ≡ yesCode (s .request .present) → a ≡ yesCode (s .request .answered) → i ≡ toBe 8 (s .request .id) → d ≡ toBe 8 (s .request .deadline) → length (s .request .uid) ≡ 32 →
-    s .effort .reach .0 ∷ s .effort .tries ∷ s .effort .unanswered ∷ (spelled v 0 2 ++ (spelled p 0 2 ++ (spelled g 0 6 ++ (t ∷ a ∷ (spelled i 0 8 ++ (spelled d 0 8 ++ spelled (s .request .uid) 0 32)))))) ≡ stateBytes s
+    t ≡ yesCode (s .request .present) → a ≡ yesCode (s .request .answered) → i ≡ toBe 8 (s .request .id) → d ≡ toBe 8 (s .request .deadline) →
+    length (s .request .uid) ≡ 32 →
+    s .effort .reach .0 ∷ s .effort .tries ∷ s .effort .unanswered
+    ∷ (spelled v 0 2 ++ (spelled p 0 2 ++ (spelled g 0 6 ++ (t ∷ a ∷ (spelled i 0 8 ++ (spelled d 0 8 ++ spelled (s .request .uid) 0 32)))))) ≡ stateBytes s
 unfolding stateBytes triesBytes pendingBytes
 state-spelled s {v = v} {p = p} {g = g} {i = i} {d = d} ev ep eg et ea ei ed n =
     let wv = spelled-is v 0 2 (ap length ev ∙ version-long (s .version)) ∙ ev in

@@ -30,7 +30,13 @@ state-stash b cap s n h =
     let mid = putMid 29 63 b w in
     let lw : length w ≡ 63 = state-long s n in
     let is : cond (leb 92 (length b)) (take 29 b ++ (w ++ drop 92 b)) b ≡ mid
-    = ap (λ (t : Bool). cond t (take 29 b ++ (w ++ drop 92 b)) b) (le-leb 92 (length b) h) ∙ ap (λ (x : List ℕ). take 29 b ++ (w ++ x)) (sym (drop-drop 63 29 b)) in
+    = ap (λ (t : Bool). cond t (take 29 b ++ (w ++ drop 92 b)) b) (le-leb 92 (length b) h)
+    ∙ ap (λ (x : List ℕ). take 29 b ++ (w ++ x)) (sym (drop-drop 63 29 b)) in
     let slots = slots-same b mid (mid-long 29 63 b w lw h) (λ i p. mid-above 29 63 b w lw h i p) 92 cap (omega arith) in
     (λ i. record { slots = slotsIn (is i) 92 cap ++ replicate (8 - cap) emptySlot; read = getD (is i) 27 0; held = getD (is i) 28 0 })
-    ∙ (λ i. record { slots = slots i ++ replicate (8 - cap) emptySlot; read = mid-below 29 63 b w lw h 27 (omega arith) i; held = mid-below 29 63 b w lw h 28 (omega arith) i })
+    ∙ (λ i. record {
+      slots = slots i ++ replicate (8 - cap) emptySlot;
+      read = mid-below 29 63 b w lw h 27 (omega arith) i;
+      held = mid-below 29 63 b w lw h 28
+          (omega arith) i;
+    })

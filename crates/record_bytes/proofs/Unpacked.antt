@@ -44,7 +44,8 @@ rows-at b (x ∷ xs) (one n s r) at e =
 
 rows-long : (xs : List Slot) → Rowed xs → length (rowsOf xs) ≡ length xs * 726
 rows-long [] none = refl
-rows-long (x ∷ xs) (one n s r) = length-append (rowOf x) (rowsOf xs) ∙ ap (λ (k : ℕ). k + length (rowsOf xs)) (length-append (x .bytes) (toBe 2 (x .len))) ∙ omega (arith, rows-long xs r)
+rows-long (x ∷ xs) (one n s r) =
+    length-append (rowOf x) (rowsOf xs) ∙ ap (λ (k : ℕ). k + length (rowsOf xs)) (length-append (x .bytes) (toBe 2 (x .len))) ∙ omega (arith, rows-long xs r)
 
 rowed : (n : ℕ) (xs : List Slot) → ((k : ℕ) → k < length xs → (length (slotAt xs k .bytes) ≡ 724) × (slotAt xs k .len ≤ 65535)) → Rowed (take n xs)
 rowed zero xs f = none
@@ -109,7 +110,8 @@ module _ (a : Association) (f : Fits a) where
       let d : Slot = record { bytes = []; len = 0 } in
       let l : length (drop cap (a .stash .slots)) ≡ 8 - cap = length-drop cap (a .stash .slots) ∙ ap (λ (n : ℕ). n - cap) (f .typed .eight) in
       ext-getD d (drop cap (a .stash .slots)) (replicate (8 - cap) emptySlot) (l ∙ sym (length-replicate (8 - cap) emptySlot))
-      (λ i h. getD-drop cap (a .stash .slots) i d ∙ f .past (cap + i) (omega arith) (omega (arith, f .most)) ∙ sym (getD-replicate (8 - cap) i emptySlot d (omega arith)))
+      (λ i h. getD-drop cap (a .stash .slots) i d ∙ f .past (cap + i) (omega arith) (omega (arith, f .most))
+      ∙ sym (getD-replicate (8 - cap) i emptySlot d (omega arith)))
 
   has-rows : Rowed (take cap (a .stash .slots))
   has-rows = rowed cap (a .stash .slots) (λ k h. f .typed .each k (omega (arith, f .typed .eight)))
@@ -135,7 +137,8 @@ module _ (a : Association) (f : Fits a) where
   unfolding packed
   packed-ok =
       let n : length b ≡ 92 + cap * 726
-      = length-append S (a .stash .read ∷ a .stash .held ∷ (T ++ R)) ∙ omega (arith, settings-long (a .settings), length-append T R, lT, rows-long (take cap (a .stash .slots)) has-rows, count) in
+      = length-append S (a .stash .read ∷ a .stash .held ∷ (T ++ R))
+      ∙ omega (arith, settings-long (a .settings), length-append T R, lT, rows-long (take cap (a .stash .slots)) has-rows, count) in
       record {
         sized = record { most = f .most; long = n };
         settings = ap settingsKnown first ∙ settings-known (a .settings);

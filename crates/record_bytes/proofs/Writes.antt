@@ -104,6 +104,7 @@ module _ (b : List ℕ) where
           g
           ∙ when (take 29 written ++ (stateBytes q ++ drop 92 written)) written (le-leb 92 (length written) (omega (arith, written-long)))
           ∙ (λ i. take 29 (written-is i) ++ (stateBytes q ++ drop 92 (written-is i)))
-          ∙ (λ i. take-at head (drop 29 b) 29 head-is i ++ (stateBytes q ++ (sym (drop-drop 63 29 (head ++ drop 29 b)) ∙ ap (drop 63) (drop-at head (drop 29 b) 29 head-is) ∙ drop-drop 63 29 b) i))
+          ∙ (λ i. take-at head (drop 29 b) 29 head-is i
+          ++ (stateBytes q ++ (sym (drop-drop 63 29 (head ++ drop 29 b)) ∙ ap (drop 63) (drop-at head (drop 29 b) 29 head-is) ∙ drop-drop 63 29 b) i))
           ∙ append-assoc S (r ∷ 0 ∷ []) (stateBytes q ++ drop 92 b)
           ∙ sym (when (S ++ (r ∷ 0 ∷ (stateBytes q ++ drop 92 b))) b (le-leb 92 (length b) h))

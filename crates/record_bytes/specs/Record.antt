@@ -29,10 +29,12 @@ settingsIn b = settingsOf (part b 0 27)
 abbrev pub stateIn : List ℕ → State
 stateIn b = stateOf (part b 29 63)
 
+-- promise: exports.1
 unfoldable pub unpacked : List ℕ → Association
 unpacked b = record { settings = settingsIn b; stash = stashIn b (settingsIn b .capacity); state = stateIn b }
 
--- of the slots only those of the capacity
+-- only the slots within the capacity
+-- promise: exports.1
 unfoldable pub packed : Association → List ℕ
 packed a =
     settingsBytes (a .settings)
@@ -40,26 +42,28 @@ packed a =
 
 -- ---- when they are a record
 
--- as many bytes as the capacity asks for, and every code of a kind
+-- the number of bytes fits the capacity, and every code is known
 unfoldable pub okIn : List ℕ → ℕ → Bool
 okIn b cap = sizedIn b cap && (settingsKnown (part b 0 27) && stateKnown (part b 29 63))
 
+-- promise exports.1: Packing loses nothing: the bytes of a record are what it unpacks to, packed. What is packed is a record and unpacks to what it was.
+--     edit: record_bytes/the_state_goes_a_byte_before_its_place
 unfoldable pub ok : List ℕ → Bool
 ok b = okIn b (settingsIn b .capacity)
 
 -- ---- opened, and written
 
--- whether they are a record, with settings and state; those of bytes that are none are the ones of 92 zeros
+-- whether they are a record, with settings and state; bytes that are no record have those of 92 zeros
 abbrev pub opened : Bool → List ℕ → Opened
 opened t b = record { ok = t; settings = settingsIn b; state = stateIn b }
 
 unfoldable pub openedOf : List ℕ → Opened
 openedOf b = cond (ok b) (opened true b) (opened false (replicate 92 0))
 
--- another state; bytes with no head stay
+-- another state; bytes that are too short for a head do not change
 unfoldable pub storedState : List ℕ → State → List ℕ
 storedState b s = cond (leb 92 (length b)) (take 29 b ++ (stateBytes s ++ drop 92 b)) b
 
--- another head, of a stash that holds nothing
+-- another head, with an empty stash
 unfoldable pub headed : List ℕ → Settings → ℕ → State → List ℕ
 headed b s read q = cond (leb 92 (length b)) (settingsBytes s ++ (read ∷ 0 ∷ (stateBytes q ++ drop 92 b))) b

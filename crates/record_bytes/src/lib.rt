@@ -1,5 +1,5 @@
-// A record that lies in lent bytes: when bytes are a record, its settings and its state, and both put where they are to lie.
-// Promises: whatever the bytes are, they are a record or they are not; reading and writing undo each other, both ways round.
+// A record in lent bytes: when bytes are a record, how its settings and its state are read, and how both are written in place.
+// Promises: any bytes are a record or they are not; reading and writing undo each other, in both directions.
 // Rule: RULES, "Settings and a whole record"; the layout is in specs/Record.antt, the state's in specs/State.antt.
 use association::Effort;
 use association::Pending;
@@ -15,7 +15,7 @@ ghost use Rattle.handover_groups.proofs.OfSettings.{SettingsFit};
 ghost use Rattle.record_bytes.specs.State.{triesOf, pendingOf, pendingKnown, stateBytes, stateOf, stateKnown, StateFit};
 ghost use Rattle.record_bytes.specs.Record.{okIn, opened, openedOf, storedState, headed};
 
-// What is read of lent bytes: whether they are a record, its settings and its state.
+// What is read from lent bytes: whether they are a record, its settings and its state.
 pub struct Opened {
     pub ok: bool,
     pub settings: Settings,
@@ -65,7 +65,7 @@ fn pending_known(b: &[u8]) -> bool
     if b[0] <= 1 { b[1] <= 1 } else { false }
 }
 
-// The state that 63 bytes are.
+// Reads the state from 63 bytes.
 fn state_of(b: &[u8]) -> State
     requires { ⌜ length (now b) ≡ 63 ⌝ }
     ensures { λ r. ⌜ r ≡ stateOf (now (b .entry)) ⌝ }
@@ -84,7 +84,7 @@ fn state_of(b: &[u8]) -> State
     }
 }
 
-// Whether every code among them is of a kind.
+// Whether every code in them is known.
 fn state_known(b: &[u8]) -> bool
     requires { ⌜ length (now b) ≡ 63 ⌝ }
     ensures { λ r. ⌜ r ≡ stateKnown (now (b .entry)) ⌝ }
@@ -111,7 +111,7 @@ fn known(b: &[u8], capacity: u8) -> bool
     false
 }
 
-// What is said of bytes that are no record.
+// The result for bytes that are no record.
 fn none() -> Opened
     ensures { λ r. ⌜ r ≡ opened false (replicate 92 0) ⌝ }
 {
@@ -125,7 +125,8 @@ fn none() -> Opened
     }
 }
 
-// Every call on a record begins here: any bytes are answered.
+// Every call on a record starts here. It answers for any bytes.
+// promise: exports.1
 pub fn open_record(b: &[u8]) -> Opened
     ensures { λ r. ⌜ r ≡ openedOf (now (b .entry)) ⌝ }
 {
@@ -232,7 +233,8 @@ fn state_bytes(s: State) -> [u8; 63]
     ]
 }
 
-// The state goes where it is to lie; that it fits is what its types say. Bytes with no head stay.
+// Writes the state in place; its types say that it fits. Bytes that are too short for a head do not change.
+// promise: exports.1
 pub fn store_state(b: &mut [u8], s: State)
     ensures { λ _. ⌜ (now (b .exit) ≡ storedState (now (b .entry)) s) × StateFit s ⌝ }
 {
@@ -243,7 +245,8 @@ pub fn store_state(b: &mut [u8], s: State)
     bytes::copy(&w, &mut b[29..92]);
 }
 
-// The head of a record whose stash holds nothing, with a reading place. Bytes with no head stay.
+// Writes the head of a record with an empty stash and a reading place. Bytes that are too short for a head do not change.
+// promise: exports.1
 pub fn store_head(b: &mut [u8], settings: Settings, read: u8, state: State)
     ensures { λ _. ⌜ (now (b .exit) ≡ headed (now (b .entry)) settings read state) × SettingsFit settings × StateFit state ⌝ }
 {

@@ -45,7 +45,8 @@ pub record Along (cap : ℕ) (body b₀ b : List ℕ) (at : ℕ) : Type 0 where
   pub kept : Becomes cap b₀ b (stashIn b cap)
   pub long : length b ≡ length b₀
 
-pub begins : (cap : ℕ) (body b : List ℕ) → Sized b cap → stashFits body ≡ true → stashKnown cap body ≡ true → getD body 0 0 < cap → stashIn b cap ≡ emptyAt (getD body 0 0) → Along cap body b b 1
+pub begins : (cap : ℕ) (body b : List ℕ) → Sized b cap → stashFits body ≡ true → stashKnown cap body ≡ true → getD body 0 0 < cap →
+    stashIn b cap ≡ emptyAt (getD body 0 0) → Along cap body b b 1
 begins cap body b s f k r e =
     record { reading = subst (Reading cap body 1) (sym e) (starts body f cap (s .most) r); known = k; kept = same cap b s; long = refl }
 
@@ -54,13 +55,15 @@ module _ (cap : ℕ) (body b₀ b : List ℕ) (at : ℕ) (o : Along cap body b�
   room len start end e =
       elim (decLt (stashIn b cap .held) cap) [
         | yes l ↦ l
-        | no m ↦ not-both (stashKnown cap body) (o .known) (too-many cap body at (stashIn b cap) (o .reading) len start end e (omega (arith, o .reading .counts)))
+        | no m ↦ not-both (stashKnown cap body) (o .known)
+            (too-many cap body at (stashIn b cap) (o .reading) len start end e (omega (arith, o .reading .counts)))
       ]
 
   in-range : (len start end : ℕ) → heldAt body at ≡ One len start end → rangeOf cap (getD b 27 0) (getD b 28 0) ≡ true
   unfolding stashIn
   in-range len start end e =
-      passes _ (le-leb cap 8 (o .reading .most)) ∙ passes _ (lt-ltb (getD b 27 0) cap (o .reading .reads)) ∙ le-leb (getD b 28 0) cap (omega (arith, room len start end e))
+      passes _ (le-leb cap 8 (o .reading .most)) ∙ passes _ (lt-ltb (getD b 27 0) cap (o .reading .reads))
+      ∙ le-leb (getD b 28 0) cap (omega (arith, room len start end e))
 
   laid-one : (len start end : ℕ) → heldAt body at ≡ One len start end → (c : List ℕ) → LaidIn cap len (part body start (end - start)) b c →
       Becomes cap b c (putOf cap (stashIn b cap) (slotFor (cookie len (part body start (end - start)))))
@@ -70,7 +73,8 @@ module _ (cap : ℕ) (body b₀ b : List ℕ) (at : ℕ) (o : Along cap body b�
       let n : length k ≡ stored len = length-part body start (end - start) (omega (arith, w)) ∙ w .2 in
       subst (λ (x : Slot). Becomes cap b c (putOf cap (stashIn b cap) x)) (slot-kept len k n) (l .becomes (o .kept .sized) (in-range len start end e) n)
 
-  pub goes-on : (len start end : ℕ) → heldAt body at ≡ One len start end → (c : List ℕ) → LaidIn cap len (part body start (end - start)) b c → length c ≡ length b → Along cap body b₀ c end
+  pub goes-on : (len start end : ℕ) → heldAt body at ≡ One len start end → (c : List ℕ) → LaidIn cap len (part body start (end - start)) b c →
+      length c ≡ length b → Along cap body b₀ c end
   goes-on len start end e c l n =
       let g = laid-one len start end e c l in
       record {

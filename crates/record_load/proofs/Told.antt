@@ -45,7 +45,8 @@ module _ (b f : List ℕ) (o : FileRead) (e : o ≡ readOf f) where
     pub told-31 : (length b ≡ 92 + o .settings .capacity * 726 → ⊥) → gave (number 31) b ≡ loadedBy b (loadOf f)
     told-31 n = sym (unless _ _ (sized-by false (ne-eqb _ _ n))) ∙ told-by (Loaded said) h
 
-    pub told-0 : length b ≡ 92 + o .settings .capacity * 726 → (c : List ℕ) → c ≡ packed (record { settings = o .settings; stash = stashOf (o .settings .capacity) (bodyIn f o); state = o .state }) →
+    pub told-0 : length b ≡ 92 + o .settings .capacity * 726 → (c : List ℕ) →
+        c ≡ packed (record { settings = o .settings; stash = stashOf (o .settings .capacity) (bodyIn f o); state = o .state }) →
         gave (record { number = 0; retired = said }) c ≡ loadedBy b (loadOf f)
     told-0 n c z =
         ap (gave (record { number = 0; retired = said })) (z ∙ sym (ap packed (found .association)))

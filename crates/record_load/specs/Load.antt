@@ -1,5 +1,5 @@
--- Loading into lent bytes: 61, 62 and 63 as by `loadOf`, every byte zero; then 31, where they are not as many as the file's capacity asks for,
--- and nothing changes; else the loaded record, packed.
+-- Loading into lent bytes: 61, 62 and 63 as by `loadOf`, with every byte zero; then 31 if their number does not fit the file's capacity, and nothing changes;
+-- otherwise the loaded record, packed.
 -- Assumes nothing.
 use mathlib.Core.Bool.{false, cond}
 use mathlib.Core.List.{List}
@@ -23,6 +23,7 @@ gave r b = record { told = r; bytes = b }
 abbrev pub number : ℕ → LoadTold
 number n = record { number = n; retired = false }
 
+-- promise: exports.4
 abbrev pub byAnswer : List ℕ → LoadAnswer → Association → LoadCall
 byAnswer b (Loaded said) a =
     cond (eqb (length b) (92 + a .settings .capacity * 726)) (gave (record { number = 0; retired = said }) (packed a)) (gave (number 31) b)
@@ -30,5 +31,6 @@ byAnswer b WrongMark a = gave (number 61) (replicate (length b) 0)
 byAnswer b WrongLength a = gave (number 62) (replicate (length b) 0)
 byAnswer b NoAssociation a = gave (number 63) (replicate (length b) 0)
 
+-- promise: exports.3
 abbrev pub loadedBy : List ℕ → LoadOut → LoadCall
 loadedBy b o = byAnswer b (o .answer) (o .association)

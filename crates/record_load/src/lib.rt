@@ -1,5 +1,5 @@
-// The hand-over file is read into lent bytes: its cookies are laid where they are to lie, and no record is held on the stack.
-// Promises: of any file the answer that its definition gives, and every byte: the loaded record, or zeros; with 31 the bytes as they were.
+// Loads the hand-over file into lent bytes: the cookies are written in place, and no record is held on the stack.
+// Promises: for any file, the answer of its definition, and every byte: the loaded record, or zeros; with 31 the bytes do not change.
 // Rule: RULES, No. 6, No. 12 and No. 14; definitions in specs/Load.antt.
 use association::Settings;
 use association::State;
@@ -15,7 +15,7 @@ ghost use Rattle.record_stash.specs.Slots.{Becomes};
 ghost use Rattle.record_bytes.specs.Record.{packed};
 ghost use Rattle.record_load.specs.Load.{gave, loadedBy};
 
-// The cookies of a body go into a stash that is empty, and whose reading place is the body's.
+// Writes the cookies of a body to an empty stash with the body's reading place.
 fn lay_all(b: &mut [u8], capacity: u8, body: &[u8])
     requires { ⌜ (Sized (now b) capacity)
         × (stashFits (now body) ≡ true)
@@ -40,13 +40,13 @@ fn lay_all(b: &mut [u8], capacity: u8, body: &[u8])
     }
 }
 
-// What loading tells: its number, and whether a version of the file was of the retired kind.
+// What loading reports: its number, and whether a version in the file was of the retired kind.
 pub struct LoadTold {
     pub number: u8,
     pub retired: bool,
 }
 
-// A record goes into bytes that are as many as its capacity asks for: its head, then the cookies of the body.
+// Writes a record to bytes whose number fits its capacity: its head, then the cookies of the body.
 fn write(b: &mut [u8], settings: Settings, state: State, st: &[u8])
     requires { ⌜ (Sized (now b) (settings .capacity)) × (stashFits (now st) ≡ true) × (stashKnown (settings .capacity) (now st) ≡ true) ⌝ }
     ensures { λ _. ⌜ now (b .exit) ≡ packed (record { settings = settings; stash = stashOf (settings .capacity) (now (st .entry)); state = state }) ⌝ }
@@ -57,7 +57,7 @@ fn write(b: &mut [u8], settings: Settings, state: State, st: &[u8])
     lay_all(b, settings.capacity, st);
 }
 
-// A file that is refused leaves zeros.
+// A rejected file leaves zeros.
 fn refused(b: &mut [u8], number: u8) -> LoadTold
     ensures { λ r. ⌜ (r ≡ record { number = number; retired = false }) × (now (b .exit) ≡ replicate (length (now (b .entry))) 0) ⌝ }
 {
@@ -69,6 +69,7 @@ fn refused(b: &mut [u8], number: u8) -> LoadTold
 }
 
 // Reads a file into lent bytes.
+// promise: exports.3, exports.4
 pub fn load(b: &mut [u8], file: &[u8]) -> LoadTold
     ensures { λ r. ⌜ gave r (now (b .exit)) ≡ loadedBy (now (b .entry)) (loadOf (now (file .entry))) ⌝ }
 {

@@ -22,7 +22,8 @@ pub new-determined : DeterminedLent new.Post (λ κs e. now (e .0))
 new-determined κs a y z e f p q = let e = p ∙ sym q in (λ i. record { answer = e i .answer; dropped = e i .dropped }, ap (λ (t : Call NewInBytes). t .bytes) e)
 
 pub metered-determined : DeterminedLent metered.Post (λ κs e. now (e .0))
-metered-determined κs a y z e f p q = let e = p ∙ sym q in (λ i. record { answer = e i .answer; dropped = e i .dropped }, ap (λ (t : Call MeteredInBytes). t .bytes) e)
+metered-determined κs a y z e f p q =
+    let e = p ∙ sym q in (λ i. record { answer = e i .answer; dropped = e i .dropped }, ap (λ (t : Call MeteredInBytes). t .bytes) e)
 
 pub blank-determined : DeterminedLent blank.Post (λ κs e. now (e .0))
 blank-determined κs a y z e f p q = (refl, p ∙ sym q)

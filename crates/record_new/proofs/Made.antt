@@ -43,7 +43,8 @@ module _ (s : Settings) where
   fresh-stash = refl
 
   -- with the first cookies, or without
-  by-nts : (t : Bool) (x : CookieStash) → record { settings = s; stash = cond t x (freshOf s .stash); state = freshOf s .state } ≡ cond t (withStash (freshOf s) x) (freshOf s)
+  by-nts : (t : Bool) (x : CookieStash) → record { settings = s; stash = cond t x (freshOf s .stash); state = freshOf s .state }
+      ≡ cond t (withStash (freshOf s) x) (freshOf s)
   unfolding freshOf
   by-nts true x = refl
   by-nts false x = refl
@@ -58,13 +59,16 @@ module _ (s : Settings) where
     unfolding firstDropped madeOf
     filled-is = ap (λ (a : Association). refilled (firstDropped s list) (packed a)) (by-nts (s .nts) (storeListOf (s .capacity) (freshOf s .stash) list))
 
-    pub make-is : (c h : List ℕ) → c ≡ replicate (length b) 0 → h ≡ headed c s 0 q → (x : Refilled) → x ≡ refilledIn (s .capacity) (s .nts) list h → x ≡ refilled (firstDropped s list) (packed (madeOf s list))
+    pub make-is : (c h : List ℕ) → c ≡ replicate (length b) 0 → h ≡ headed c s 0 q → (x : Refilled) → x ≡ refilledIn (s .capacity) (s .nts) list h →
+        x ≡ refilled (firstDropped s list) (packed (madeOf s list))
     make-is c h ec eh x ex =
         let a : Association = record { settings = s; stash = emptyFrom 0; state = q } in
-        let l : Lies a h = subst (Lies a) (sym (eh ∙ ap (λ (y : List ℕ). headed y s 0 q) ec)) (headed-lies s 0 q (f .request .uid) (length b) (z .long) (z .most)) in
+        let l : Lies a h = subst (Lies a) (sym (eh ∙ ap (λ (y : List ℕ). headed y s 0 q) ec))
+        (headed-lies s 0 q (f .request .uid) (length b) (z .long) (z .most)) in
         ex
         ∙ refills a h l (s .nts) list
-        ∙ (λ i. refilled (cond (s .nts) (droppedOf (s .capacity) (emptyFrom 0) list) noneDropped) (packed (record { settings = s; stash = cond (s .nts) (storeListOf (s .capacity) (emptyFrom 0) list) (emptyFrom 0); state = eq i })))
+        ∙ (λ i. refilled (cond (s .nts) (droppedOf (s .capacity) (emptyFrom 0) list) noneDropped)
+        (packed (record { settings = s; stash = cond (s .nts) (storeListOf (s .capacity) (emptyFrom 0) list) (emptyFrom 0); state = eq i })))
         ∙ ap filled fresh-stash
         ∙ filled-is
 
@@ -89,7 +93,8 @@ module _ {A B : Type 0} (number : B → ℕ) (says : B → A) (wrong : A) (s : S
   fits : number is ≡ 0 → madeIn b (s .capacity) (number is) (says is) wrong d a ≡ cond (sizedIn b (s .capacity)) made misfit
   fits e = when (cond (sizedIn b (s .capacity)) made misfit) cleared-all (eq-eqb (number is) 0 e)
 
-  calls-by : (number is ≡ 0 → (d ≡ firstDropped s list) × (a ≡ madeOf s list)) → Calls number says wrong s list b is (madeIn b (s .capacity) (number is) (says is) wrong d a)
+  calls-by : (number is ≡ 0 → (d ≡ firstDropped s list) × (a ≡ madeOf s list)) →
+      Calls number says wrong s list b is (madeIn b (s .capacity) (number is) (says is) wrong d a)
   calls-by m =
       record {
         refuses = λ h. sym (unless (cond (sizedIn b (s .capacity)) made misfit) cleared-all (ne-eqb (number is) 0 h));
@@ -98,7 +103,8 @@ module _ {A B : Type 0} (number : B → ℕ) (says : B → A) (wrong : A) (s : S
       }
 
 -- what the code gives, of the test's result and its number: one law for both calls
-module _ {A B : Type 0} {number : B → ℕ} {says : B → A} {wrong : A} {s : Settings} {list b : List ℕ} {is : B} {call : Call A} (k : Calls number says wrong s list b is call) (x : B) (ex : x ≡ is) (n : ℕ) (en : n ≡ number x) where
+module _ {A B : Type 0} {number : B → ℕ} {says : B → A} {wrong : A} {s : Settings} {list b : List ℕ} {is : B} {call : Call A}
+    (k : Calls number says wrong s list b is call) (x : B) (ex : x ≡ is) (n : ℕ) (en : n ≡ number x) where
   number-is : n ≡ number is
   number-is = en ∙ ap number ex
 
@@ -109,7 +115,8 @@ module _ {A B : Type 0} {number : B → ℕ} {says : B → A} {wrong : A} {s : S
     pub told-wrong : sizedIn b (s .capacity) ≡ false → {d : Dropped} → d ≡ noneDropped → gave wrong d b ≡ call
     told-wrong z p = (λ i. gave wrong (p i) b) ∙ k .misfits (sym number-is ∙ e) z
 
-    pub told-made : sizedIn b (s .capacity) ≡ true → {d : Dropped} {c : List ℕ} → refilled d c ≡ refilled (firstDropped s list) (packed (madeOf s list)) → gave (says x) d c ≡ call
+    pub told-made : sizedIn b (s .capacity) ≡ true → {d : Dropped} {c : List ℕ} → refilled d c ≡ refilled (firstDropped s list) (packed (madeOf s list)) →
+        gave (says x) d c ≡ call
     told-made z g = (λ i. gave (says (ex i)) (g i .dropped) (g i .bytes)) ∙ k .makes (sym number-is ∙ e) z
 
 module _ (s : Settings) (list : List ℕ) where

@@ -1,5 +1,5 @@
 -- An association that is made in lent bytes (RULES, "Settings and a whole record", No. 5, No. 11, No. 12 and No. 14), and the blank record.
--- Bytes of another number than the capacity's: 31, after every other refusal, and they stay. After every other refusal all of them are zero.
+-- If the number of bytes does not fit the capacity: 31, after every other test, and they do not change. With every other rejection all of them become zero.
 -- Assumes nothing.
 use mathlib.Core.Bool.{cond}
 use mathlib.Core.List.{List}
@@ -31,7 +31,7 @@ meteredNumber M.WrongSize = 31
 
 -- ---- the calls
 
--- what is said, what fell out while the first list was stored, and the bytes after
+-- the answer, what fell out while the first list was stored, and the bytes after the call
 pub record Call (A : Type 0) : Type 0 where
   pub answer : A
   pub dropped : Dropped
@@ -40,17 +40,22 @@ pub record Call (A : Type 0) : Type 0 where
 abbrev pub gave : {A : Type 0} → A → Dropped → List ℕ → Call A
 gave r d b = record { answer = r; dropped = d; bytes = b }
 
--- number 0: the association goes into the bytes, if they are as many as its capacity asks for; any other: all are zero
+-- number 0: the association goes into the bytes, if their number fits its capacity; any other: all are zero
+-- promise exports.4: `new`, `metered` and `load` answer 31 if the number of bytes is not that of the capacity, after every other rejection; the bytes stay.
+--     Every other rejection leaves the bytes zero.
+--     edit: record_new/bytes_of_a_wrong_size_are_cleared, record_load/a_wrong_size_is_answered_as_settings
 abbrev pub madeIn : {A : Type 0} → List ℕ → ℕ → ℕ → A → A → Dropped → Association → Call A
 madeIn b cap number said wrong d a =
     cond (eqb number 0)
     (cond (sizedIn b cap) (gave said d (packed a)) (gave wrong noneDropped b))
     (gave said noneDropped (replicate (length b) 0))
 
+-- promise: exports.3
 unfoldable pub newCall : Settings → List ℕ → List ℕ → Call NewInBytes
 newCall s list b =
     let o = New.newOf s list in madeIn b (s .capacity) (New.numberOf (o .answer)) (N.Said (o .answer)) N.WrongSize (o .dropped) (o .association)
 
+-- promise: exports.3
 unfoldable pub meteredCall : Settings → List ℕ → List ℕ → Call MeteredInBytes
 meteredCall s list b =
     let o = Profile.meteredOf s list in madeIn b (s .capacity) (Profile.numberOf (o .answer)) (M.Said (o .answer)) M.WrongSize (o .dropped) (o .association)

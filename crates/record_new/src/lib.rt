@@ -1,5 +1,5 @@
-// An association that is made in lent bytes, where it is to lie: no record is held on the stack.
-// Promises: the record that `new` or `metered` makes, packed; 31 where the bytes are of another number, and they stay; all zero after any other refusal.
+// Makes an association in lent bytes, in place: no record is held on the stack.
+// Promises: the record that `new` or `metered` makes, packed; 31 with no change if the number of bytes is wrong; all zero if it is rejected otherwise.
 // Rule: RULES, "Settings and a whole record", No. 5, No. 11, No. 12 and No. 14; definitions in specs/New.antt.
 use association::Effort;
 use association::NewAnswer;
@@ -20,7 +20,7 @@ ghost use Rattle.record_stash.specs.Slots.{refilled};
 ghost use Rattle.record_bytes.specs.Record.{packed};
 ghost use Rattle.record_new.specs.New.{newNumber, meteredNumber, gave, newCall, meteredCall, blanked};
 
-// What `new` says, or that the bytes are not as many as the capacity asks for.
+// What `new` answers, or that the number of bytes does not fit the capacity.
 pub enum NewInBytes {
     Said(NewAnswer),
     WrongSize,
@@ -37,7 +37,7 @@ impl NewInBytes {
     }
 }
 
-// What `metered` says, or that the bytes are not as many as the capacity asks for.
+// What `metered` answers, or that the number of bytes does not fit the capacity.
 pub enum MeteredInBytes {
     Said(ProfileAnswer),
     WrongSize,
@@ -54,19 +54,19 @@ impl MeteredInBytes {
     }
 }
 
-// What `new` gives: its answer, and what fell out while the first list was stored.
+// What `new` returns: its answer, and what fell out while the first list was stored.
 pub struct NewMade {
     pub answer: NewInBytes,
     pub dropped: Dropped,
 }
 
-// What `metered` gives.
+// What `metered` returns.
 pub struct MeteredMade {
     pub answer: MeteredInBytes,
     pub dropped: Dropped,
 }
 
-// What `new` says of settings and first list.
+// What `new` answers for settings and first list.
 fn tested(settings: Settings, list: &[u8]) -> NewAnswer
     ensures { λ r. ⌜ r ≡ newOf settings (now (list .entry)) .answer ⌝ }
 {
@@ -83,7 +83,6 @@ fn tested(settings: Settings, list: &[u8]) -> NewAnswer
     NewAnswer::Made
 }
 
-// The state of a new association.
 fn fresh_state(settings: Settings) -> State
     ensures { λ r. ⌜ r ≡ freshOf settings .state ⌝ }
 {
@@ -110,7 +109,7 @@ fn fresh_state(settings: Settings) -> State
     }
 }
 
-// The new association goes where it is to lie; what fell out of its first list comes back.
+// Writes the new association in place, and returns what fell out of its first list.
 fn make(b: &mut [u8], settings: Settings, list: &[u8]) -> Dropped
     requires { ⌜ Sized (now b) (settings .capacity) ⌝ }
     ensures { λ r. ⌜ refilled r (now (b .exit)) ≡ refilled (firstDropped settings (now (list .entry))) (packed (madeOf settings (now (list .entry)))) ⌝ }
@@ -121,7 +120,8 @@ fn make(b: &mut [u8], settings: Settings, list: &[u8]) -> Dropped
     record_stash::refill(b, settings.capacity, settings.nts, list)
 }
 
-// Makes an association; with NTS it takes a first cookie list, and tells what of it fell out.
+// Makes an association. With NTS it stores a first cookie list, and reports what fell out.
+// promise: exports.3, exports.4
 pub fn new(b: &mut [u8], settings: Settings, list: &[u8]) -> NewMade
     ensures { λ r. ⌜ gave (r .answer) (r .dropped) (now (b .exit)) ≡ newCall settings (now (list .entry)) (now (b .entry)) ⌝ }
 {
@@ -148,6 +148,7 @@ pub fn new(b: &mut [u8], settings: Settings, list: &[u8]) -> NewMade
 }
 
 // Makes an association that meets the profile for metered links.
+// promise: exports.3, exports.4
 pub fn metered(b: &mut [u8], settings: Settings, list: &[u8]) -> MeteredMade
     ensures { λ r. ⌜ gave (r .answer) (r .dropped) (now (b .exit)) ≡ meteredCall settings (now (list .entry)) (now (b .entry)) ⌝ }
 {
@@ -174,6 +175,7 @@ pub fn metered(b: &mut [u8], settings: Settings, list: &[u8]) -> MeteredMade
 }
 
 // The blank record: every byte is zero.
+// promise: exports.3
 pub fn blank(b: &mut [u8])
     ensures { λ _. ⌜ now (b .exit) ≡ blanked (now (b .entry)) ⌝ }
 {

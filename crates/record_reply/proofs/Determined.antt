@@ -18,4 +18,5 @@ reply-decoded-determined κs a y z e f p q = let e = p ∙ sym q in (ap (λ (t :
 
 -- at any arrival
 pub undecodable-determined : Determined undecodable.Post
-undecodable-determined κs a y z e f p q = let s : Arrival = record { list = []; t1 = record { 0 = 0 }; t4 = record { 0 = 0 }; time = 0 } in ap (λ (t : ReplyCall). t .replied) (p s ∙ sym (q s))
+undecodable-determined κs a y z e f p q =
+    let s : Arrival = record { list = []; t1 = record { 0 = 0 }; t4 = record { 0 = 0 }; time = 0 } in ap (λ (t : ReplyCall). t .replied) (p s ∙ sym (q s))

@@ -36,7 +36,8 @@ use Rattle.record_bytes.proofs.Writes.{found-ok, found-is}
 use Rattle.record_reply.specs.Reply.{gave, noRecord, replyPacked, answered, repliedCall, settledIn}
 
 -- what was seen of a record, judged, left and fell out is the reply by value
-by-value : (a : Association) (read : ReplyRead) (t : Arrival) (rs : Seen) (v : Verdict) → rs ≡ seenOf (a .settings .capacity) (a .stash) → v ≡ verdictOf (a .settings) (a .state) rs read t →
+by-value : (a : Association) (read : ReplyRead) (t : Arrival) (rs : Seen) (v : Verdict) → rs ≡ seenOf (a .settings .capacity) (a .stash) →
+    v ≡ verdictOf (a .settings) (a .state) rs read t →
     judged a (t .list) v ≡ repliedOf a read t
 unfolding repliedOf
 by-value a read t rs v es ev = ap (judged a (t .list)) (ev ∙ ap (λ (s : Seen). verdictOf (a .settings) (a .state) s read t) es)
@@ -47,9 +48,11 @@ module _ (b : List ℕ) (t : Arrival) where
   refused read r e k = sym (unless (replyPacked (repliedOf (unpacked b) read t)) (gave noRecord b) (found-ok b r e ∙ k))
 
   -- what is read goes by the settings and the state
-  module _ (how : Settings → State → ReplyRead) (y : Bytes b) (v : Verdict) (f : StateFit (v .state)) (rs : Seen) (p : Replied) (c : List ℕ) (o : ok b ≡ true) where
+  module _ (how : Settings → State → ReplyRead) (y : Bytes b) (v : Verdict) (f : StateFit (v .state)) (rs : Seen) (p : Replied) (c : List ℕ)
+      (o : ok b ≡ true) where
     abbrev Says : Opened → Type 0
-    Says r = rs ≡ seenIn b (r .settings .capacity) → v ≡ verdictOf (r .settings) (r .state) rs (how (r .settings) (r .state)) t → gave p c ≡ settledIn (r .settings .capacity) v (t .list) b →
+    Says r = rs ≡ seenIn b (r .settings .capacity) → v ≡ verdictOf (r .settings) (r .state) rs (how (r .settings) (r .state)) t →
+        gave p c ≡ settledIn (r .settings .capacity) v (t .list) b →
         gave p c ≡ repliedCall b (how (unpacked b .settings) (unpacked b .state)) t
 
     base : Says (opened true b)
@@ -66,8 +69,10 @@ module _ (b : List ℕ) (t : Arrival) where
         ∙ ap replyPacked q
         ∙ sym (when (replyPacked (repliedOf a read t)) (gave noRecord b) o)
 
-  pub told : (how : Settings → State → ReplyRead) → Bytes b → (r : Opened) → r ≡ openedOf b → r .ok ≡ true → (v : Verdict) → StateFit (v .state) → (rs : Seen) → rs ≡ seenIn b (r .settings .capacity) →
-      v ≡ verdictOf (r .settings) (r .state) rs (how (r .settings) (r .state)) t → (p : Replied) (c : List ℕ) → gave p c ≡ settledIn (r .settings .capacity) v (t .list) b →
+  pub told : (how : Settings → State → ReplyRead) → Bytes b → (r : Opened) → r ≡ openedOf b → r .ok ≡ true → (v : Verdict) → StateFit (v .state) →
+      (rs : Seen) → rs ≡ seenIn b (r .settings .capacity) →
+      v ≡ verdictOf (r .settings) (r .state) rs (how (r .settings) (r .state)) t → (p : Replied) (c : List ℕ) →
+      gave p c ≡ settledIn (r .settings .capacity) v (t .list) b →
       gave p c ≡ repliedCall b (how (unpacked b .settings) (unpacked b .state)) t
   told how y r e k v f rs es ev p c eg =
       let o = found-ok b r e ∙ k in
@@ -80,12 +85,14 @@ module _ (b : List ℕ) (y : Bytes b) (o : ok b ≡ true) (rs : Seen) (w : Bool)
   abbrev left : Bool → Verdict
   left k = cond k (leaves Undecodable (unpacked b .state)) (leaves NotWhole (unpacked b .state))
 
-  packed-left : (k : Bool) → replyPacked (judged (unpacked b) (t .list) (left k)) ≡ gave (record { answer = cond k Undecodable NotWhole; dropped = noneDropped }) b
+  packed-left : (k : Bool) → replyPacked (judged (unpacked b) (t .list) (left k))
+      ≡ gave (record { answer = cond k Undecodable NotWhole; dropped = noneDropped }) b
   packed-left true = ap (gave (record { answer = Undecodable; dropped = noneDropped })) (bytes-again b y o)
   packed-left false = ap (gave (record { answer = NotWhole; dropped = noneDropped })) (bytes-again b y o)
 
   abbrev LeftBy : Opened → Type 0
-  LeftBy r = rs ≡ seenIn b (r .settings .capacity) → w ≡ wholeSeen (r .settings) rs (r .state) → gave (record { answer = cond w Undecodable NotWhole; dropped = noneDropped }) b ≡ repliedCall b R.Undecodable t
+  LeftBy r = rs ≡ seenIn b (r .settings .capacity) → w ≡ wholeSeen (r .settings) rs (r .state) →
+      gave (record { answer = cond w Undecodable NotWhole; dropped = noneDropped }) b ≡ repliedCall b R.Undecodable t
 
   base-left : LeftBy (opened true b)
   unfolding repliedCall repliedOf verdictOf unpacked
@@ -94,9 +101,12 @@ module _ (b : List ℕ) (y : Bytes b) (o : ok b ≡ true) (rs : Seen) (w : Bool)
       let cap = settingsIn b .capacity in
       let s = es ∙ seen-is cap b (of-sized b cap (of-ok b o .sized)) in
       let k : w ≡ wholeSeen (a .settings) (seenOf cap (a .stash)) (a .state) = ew ∙ ap (λ (v : Seen). wholeSeen (a .settings) v (a .state)) s in
-      sym (packed-left w) ∙ ap (λ (k : Bool). replyPacked (judged a (t .list) (left k))) k ∙ sym (when (replyPacked (repliedOf a R.Undecodable t)) (gave noRecord b) o)
+      sym (packed-left w) ∙ ap (λ (k : Bool). replyPacked (judged a (t .list) (left k))) k
+      ∙ sym (when (replyPacked (repliedOf a R.Undecodable t)) (gave noRecord b) o)
 
-pub undecodable-is : (b : List ℕ) → Bytes b → (r : Opened) → r ≡ openedOf b → r .ok ≡ true → (rs : Seen) → rs ≡ seenIn b (r .settings .capacity) → (w : Bool) → w ≡ wholeSeen (r .settings) rs (r .state) → (t : Arrival) →
+-- promise: exports.9
+pub undecodable-is : (b : List ℕ) → Bytes b → (r : Opened) → r ≡ openedOf b → r .ok ≡ true → (rs : Seen) → rs ≡ seenIn b (r .settings .capacity) → (w : Bool) →
+    w ≡ wholeSeen (r .settings) rs (r .state) → (t : Arrival) →
     gave (record { answer = cond w Undecodable NotWhole; dropped = noneDropped }) b ≡ repliedCall b R.Undecodable t
 undecodable-is b y r e k rs es w ew t =
     let o = found-ok b r e ∙ k in

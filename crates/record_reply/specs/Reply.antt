@@ -30,11 +30,12 @@ gave r b = record { replied = r; bytes = b }
 abbrev pub replyPacked : ReplyOut → ReplyCall
 replyPacked o = gave (o .replied) (packed (o .association))
 
--- what is told of bytes that are no record
+-- what is returned for bytes that are no record
 abbrev pub noRecord : Replied
 noRecord = record { answer = NotWhole; dropped = noneDropped }
 
--- of what was read, by either form
+-- from what was read, in either form
+-- promise: exports.3
 unfoldable pub repliedCall : List ℕ → ReplyRead → Arrival → ReplyCall
 repliedCall b read t = cond (ok b) (replyPacked (repliedOf (unpacked b) read t)) (gave noRecord b)
 
@@ -49,11 +50,11 @@ ReplyIn b packet end decrypted t r c = gave r c ≡ replyCall b packet end decry
 abbrev pub replyDecodedCall : List ℕ → DecodedReply → Arrival → ReplyCall
 replyDecodedCall b d t = repliedCall b (Decoded (decodedOf d)) t
 
--- a decoded reply with an unknown code, whenever and with whatever list it arrived: 1 where the record is whole
+-- a decoded reply with an unknown code, at any time and with any list: 1 if the record is whole
 abbrev pub UndecodableIn : List ℕ → Replied → Type 0
 UndecodableIn b r = (t : Arrival) → gave r b ≡ repliedCall b Undecodable t
 
--- a verdict, carried out where the record lies: its state, then the cookies of the list
+-- a verdict, carried out on the record in place: its state, then the cookies of the list
 abbrev pub answered : ReplyAnswer → Refilled → ReplyCall
 answered r f = gave (record { answer = r; dropped = f .dropped }) (f .bytes)
 

@@ -1,5 +1,5 @@
 // The reply on a record in lent bytes.
-// Promises: what `reply` promises of the record that the bytes hold, every byte of it; bytes that are no record give 32 and stay.
+// Promises: what `reply` promises, for the record in the bytes and every byte of it; bytes that are no record give 32 and do not change.
 // Rule: RULES, part 11 and No. 5; definitions in specs/Reply.antt.
 use cookiestash::Dropped;
 use incoming::DecodedReply;
@@ -22,7 +22,7 @@ fn not_whole() -> Replied
     }
 }
 
-// A verdict is carried out where the record lies. Copied are the state, and the cookies that are stored.
+// Carries out a verdict on the record in place. It copies only the state, and the cookies that are stored.
 fn settle(b: &mut [u8], capacity: u8, verdict: Verdict, list: &[u8]) -> Replied
     ensures { λ r. ⌜ (gave r (now (b .exit)) ≡ settledIn capacity verdict (now (list .entry)) (now (b .entry))) × StateFit (verdict .state) ⌝ }
 {
@@ -34,6 +34,7 @@ fn settle(b: &mut [u8], capacity: u8, verdict: Verdict, list: &[u8]) -> Replied
 }
 
 // The byte form (V3, V4).
+// promise: exports.3
 pub fn reply(
     b: &mut [u8],
     packet: &[u8],
@@ -69,6 +70,7 @@ pub fn reply(
 }
 
 // The decoded form (V5 only).
+// promise: exports.3
 pub fn reply_decoded(
     b: &mut [u8],
     d: DecodedReply,
@@ -91,6 +93,7 @@ pub fn reply_decoded(
 }
 
 // The decoded form of a reply with an unknown code: nothing is stored.
+// promise: exports.9
 pub fn undecodable(b: &[u8]) -> Replied
     ensures { λ r. ⌜ UndecodableIn (now (b .entry)) r ⌝ }
 {

@@ -38,10 +38,12 @@ module _ (cap : ℕ) (b : List ℕ) (s : Sized b cap) (k : ℕ) (h : k < cap) wh
   pub row-whole : Whole cap (stashIn b cap) → WholeSlot (slotIn b (92 + k * 726))
   row-whole w = subst WholeSlot (slot-at cap b s k h) (w .each k (omega (arith, w .room)))
 
-  pub row-fits : (at m : ℕ) → at + length (cookieBytes (seen (slotAt (stashIn b cap .slots) k))) ≤ m → at + length (cookieBytes (seen (slotIn b (92 + k * 726)))) ≤ m
+  pub row-fits : (at m : ℕ) → at + length (cookieBytes (seen (slotAt (stashIn b cap .slots) k))) ≤ m →
+      at + length (cookieBytes (seen (slotIn b (92 + k * 726)))) ≤ m
   row-fits at m f = subst (λ (x : Slot). at + length (cookieBytes (seen x)) ≤ m) (slot-at cap b s k h) f
 
-  pub row-put : {out p : List ℕ} {at r : ℕ} → Put out at (cookieBytes (seen (slotIn b (92 + k * 726)))) r p → Put out at (cookieBytes (seen (slotAt (stashIn b cap .slots) k))) r p
+  pub row-put : {out p : List ℕ} {at r : ℕ} → Put out at (cookieBytes (seen (slotIn b (92 + k * 726)))) r p →
+      Put out at (cookieBytes (seen (slotAt (stashIn b cap .slots) k))) r p
   row-put {out = out} {p = p} {at = at} {r = r} f = subst (λ (x : Slot). Put out at (cookieBytes (seen x)) r p) (sym (slot-at cap b s k h)) f
 
   pub row-len : (len : ℕ) → len ≡ be (part b (92 + k * 726 + 724) 2) → len ≡ slotAt (stashIn b cap .slots) k .len
@@ -66,7 +68,8 @@ module _ (cap : ℕ) (b : List ℕ) (s : Sized b cap) (z : List ℕ) (is : z ≡
   end = set mid 28 0
 
   n : length z ≡ length b - 92
-  n = ap length is ∙ length-replicate {A = ℕ} (length (take (length b - 92) (drop 92 b))) 0 ∙ length-take-le (length b - 92) (drop 92 b) (omega (arith, length-drop 92 b))
+  n = ap length is ∙ length-replicate {A = ℕ} (length (take (length b - 92) (drop 92 b))) 0
+      ∙ length-take-le (length b - 92) (drop 92 b) (omega (arith, length-drop 92 b))
 
   fits : 92 + (length b - 92) ≤ length b
   fits = omega (arith, s .long)
@@ -87,9 +90,11 @@ module _ (cap : ℕ) (b : List ℕ) (s : Sized b cap) (z : List ℕ) (is : z ≡
   unfolding part
   tail i h =
       let m = length b - 92 in
-      let e : drop 92 mid ≡ z = sym (all (drop 92 mid) m (omega (arith, length-drop 92 mid, mid-is))) ∙ mid-inside 92 m b z n fits 0 m (omega arith) ∙ all z m n in
+      let e : drop 92 mid ≡ z = sym (all (drop 92 mid) m (omega (arith, length-drop 92 mid, mid-is))) ∙ mid-inside 92 m b z n fits 0 m (omega arith)
+      ∙ all z m n in
       let j : 92 + (i - 92) ≡ i = omega arith in
-      getD-set-other mid 28 i 0 0 (λ u. omega arith) ∙ ap (λ (k : ℕ). getD mid k 0) (sym j) ∙ sym (getD-drop 92 mid (i - 92) 0) ∙ ap (λ (l : List ℕ). getD l (i - 92) 0) e ∙ zero-in (i - 92)
+      getD-set-other mid 28 i 0 0 (λ u. omega arith) ∙ ap (λ (k : ℕ). getD mid k 0) (sym j) ∙ sym (getD-drop 92 mid (i - 92) 0)
+      ∙ ap (λ (l : List ℕ). getD l (i - 92) 0) e ∙ zero-in (i - 92)
     where
       all : (l : List ℕ) (m : ℕ) → length l ≡ m → take m (drop 0 l) ≡ l
       all l m e = take-all m l (omega arith)

@@ -38,7 +38,8 @@ use Rattle.record_bytes.proofs.Writes.{found-ok, found-is}
 use Rattle.record_save.specs.Save.{SaveCall, gave, savePacked, saveCall}
 
 -- a stash that changed, and nothing else
-unpacks : (b : List ℕ) (cap : ℕ) (c : List ℕ) (t : CookieStash) → Becomes cap b c t → settingsIn c ≡ settingsIn b → settingsIn c .capacity ≡ cap → unpacked c ≡ record { settings = settingsIn b; stash = t; state = stateOf (part b 29 63) }
+unpacks : (b : List ℕ) (cap : ℕ) (c : List ℕ) (t : CookieStash) → Becomes cap b c t → settingsIn c ≡ settingsIn b → settingsIn c .capacity ≡ cap →
+    unpacked c ≡ record { settings = settingsIn b; stash = t; state = stateOf (part b 29 63) }
 unfolding unpacked
 unpacks b cap c t g p k = λ i. record { settings = p i; stash = (ap (stashIn c) k ∙ g .stash) i; state = stateOf (g .state i) }
 
@@ -88,45 +89,58 @@ module _ (b out : List ℕ) where
     kept : okIn b (settingsIn b .capacity) ≡ true → b ≡ packed (unpacked b)
     kept k = sym (packed-unpacked b y (of-ok-in b (settingsIn b .capacity) k))
 
-    whole-is : (st : State) → st ≡ stateOf (part b 29 63) → (rs : Seen) → rs ≡ seenOf (settingsIn b .capacity) (stashIn b (settingsIn b .capacity)) → wholeSeen (settingsIn b) rs st ≡ wholeOf (unpacked b)
+    whole-is : (st : State) → st ≡ stateOf (part b 29 63) → (rs : Seen) → rs ≡ seenOf (settingsIn b .capacity) (stashIn b (settingsIn b .capacity)) →
+        wholeSeen (settingsIn b) rs st ≡ wholeOf (unpacked b)
     unfolding unpacked wholeOf
     whole-is st es rs er = λ i. wholeSeen (settingsIn b) (er i) (es i)
 
     module _ (st : State) (es : st ≡ stateOf (part b 29 63)) (rs : Seen) where
       -- 32, where the record is not whole
       abbrev Refuses : Settings → Type 0
-      Refuses S = okIn b (S .capacity) ≡ true → rs ≡ seenOf (S .capacity) (stashIn b (S .capacity)) → wholeSeen S rs st ≡ false → gave NotWhole b out ≡ saveCall b out
+      Refuses S = okIn b (S .capacity) ≡ true → rs ≡ seenOf (S .capacity) (stashIn b (S .capacity)) → wholeSeen S rs st ≡ false →
+          gave NotWhole b out ≡ saveCall b out
 
       pub not-whole : (S : Settings) → S ≡ settingsIn b → Refuses S
       not-whole S e = subst Refuses (sym e)
-          (λ k er w. ap (λ (x : List ℕ). gave NotWhole x out) (kept k) ∙ ap savePacked (not-whole-by (unpacked b) out (sym (whole-is st es rs er) ∙ w)) ∙ sym (calls k))
+          (λ k er w. ap (λ (x : List ℕ). gave NotWhole x out) (kept k) ∙ ap savePacked (not-whole-by (unpacked b) out (sym (whole-is st es rs er) ∙ w))
+          ∙ sym (calls k))
 
       -- so its stash is
       abbrev Holds : Settings → Type 0
-      Holds S = okIn b (S .capacity) ≡ true → rs ≡ seenOf (S .capacity) (stashIn b (S .capacity)) → wholeSeen S rs st ≡ true → Whole (S .capacity) (stashIn b (S .capacity))
+      Holds S = okIn b (S .capacity) ≡ true → rs ≡ seenOf (S .capacity) (stashIn b (S .capacity)) → wholeSeen S rs st ≡ true →
+          Whole (S .capacity) (stashIn b (S .capacity))
 
       pub stash-whole : (S : Settings) → Holds S
       unfolding wholeSeen
       stash-whole S k er w =
-          let v = both (settingsValid S) (rs .whole && (effortValid (st .effort) && (versionsValid (S .start) (st .version) && (pendingValid (st .request) && idleValid (S .nts) (rs .read) (rs .held) (st .request .uid))))) w in
-          let u = both (rs .whole) (effortValid (st .effort) && (versionsValid (S .start) (st .version) && (pendingValid (st .request) && idleValid (S .nts) (rs .read) (rs .held) (st .request .uid)))) (v .1) in
-          whole-of (S .capacity) (stashIn b (S .capacity)) (typed (S .capacity) b (of-ok-in b (S .capacity) k .sized) y) (sym (ap (λ (x : Seen). x .whole) er) ∙ u .0)
+          let v = both (settingsValid S) (rs .whole
+          && (effortValid (st .effort) && (versionsValid (S .start) (st .version)
+          && (pendingValid (st .request) && idleValid (S .nts) (rs .read) (rs .held) (st .request .uid))))) w in
+          let u = both (rs .whole) (effortValid (st .effort)
+          && (versionsValid (S .start) (st .version) && (pendingValid (st .request) && idleValid (S .nts) (rs .read) (rs .held) (st .request .uid))))
+          (v .1) in
+          whole-of (S .capacity) (stashIn b (S .capacity)) (typed (S .capacity) b (of-ok-in b (S .capacity) k .sized) y)
+          (sym (ap (λ (x : Seen). x .whole) er) ∙ u .0)
 
       module _ (n : ℕ) where
         abbrev Shorts : Settings → Type 0
-        Shorts S = okIn b (S .capacity) ≡ true → rs ≡ seenOf (S .capacity) (stashIn b (S .capacity)) → wholeSeen S rs st ≡ true → n ≡ length (stashBytes (S .capacity) (stashIn b (S .capacity))) → length out < 63 + n → gave ShortBuffer b out ≡ saveCall b out
+        Shorts S = okIn b (S .capacity) ≡ true → rs ≡ seenOf (S .capacity) (stashIn b (S .capacity)) → wholeSeen S rs st ≡ true →
+            n ≡ length (stashBytes (S .capacity) (stashIn b (S .capacity))) → length out < 63 + n → gave ShortBuffer b out ≡ saveCall b out
 
         base-short : Shorts (settingsIn b)
         unfolding unpacked
-        base-short k er w e l = ap (λ (x : List ℕ). gave ShortBuffer x out) (kept k) ∙ ap savePacked (short-by (unpacked b) out (sym (whole-is st es rs er) ∙ w) n e l) ∙ sym (calls k)
+        base-short k er w e l = ap (λ (x : List ℕ). gave ShortBuffer x out) (kept k)
+            ∙ ap savePacked (short-by (unpacked b) out (sym (whole-is st es rs er) ∙ w) n e l) ∙ sym (calls k)
 
         pub short-buffer : (S : Settings) → S ≡ settingsIn b → Shorts S
         short-buffer S e = subst Shorts (sym e) base-short
 
         module _ (c left : List ℕ) (z : Bytes c) (r : ℕ) where
           abbrev Saves : Settings → Type 0
-          Saves S = okIn b (S .capacity) ≡ true → rs ≡ seenOf (S .capacity) (stashIn b (S .capacity)) → wholeSeen S rs st ≡ true → n ≡ length (stashBytes (S .capacity) (stashIn b (S .capacity))) → 63 + n ≤ length out →
-              Put out 0 (groupsFile S (stashIn b (S .capacity)) st) r left → Becomes (S .capacity) b c (emptyAt (getD b 27 0)) → gave (Saved (63 + n)) c left ≡ saveCall b out
+          Saves S = okIn b (S .capacity) ≡ true → rs ≡ seenOf (S .capacity) (stashIn b (S .capacity)) → wholeSeen S rs st ≡ true →
+              n ≡ length (stashBytes (S .capacity) (stashIn b (S .capacity))) → 63 + n ≤ length out →
+              Put out 0 (groupsFile S (stashIn b (S .capacity)) st) r left → Becomes (S .capacity) b c (emptyAt (getD b 27 0)) →
+              gave (Saved (63 + n)) c left ≡ saveCall b out
 
           read-is : (cap : ℕ) → getD b 27 0 ≡ stashIn b cap .read
           unfolding stashIn
@@ -136,10 +150,13 @@ module _ (b out : List ℕ) where
           unfolding unpacked
           base k er w e l p g =
               let cap = settingsIn b .capacity in
-              let f : c ≡ packed (record { settings = settingsIn b; stash = emptyAt (getD b 27 0); state = stateOf (part b 29 63) }) = becomes-packed b cap (of-ok-in b cap k) refl c (emptyAt (getD b 27 0)) g z in
-              let q : Put out 0 (groupsFile (settingsIn b) (stashIn b cap) (stateOf (part b 29 63))) r left = subst (λ (x : State). Put out 0 (groupsFile (settingsIn b) (stashIn b cap) x) r left) es p in
+              let f : c ≡ packed (record { settings = settingsIn b; stash = emptyAt (getD b 27 0); state = stateOf (part b 29 63) }) = becomes-packed b cap
+              (of-ok-in b cap k) refl c (emptyAt (getD b 27 0)) g z in
+              let q : Put out 0 (groupsFile (settingsIn b) (stashIn b cap) (stateOf (part b 29 63))) r left = subst
+              (λ (x : State). Put out 0 (groupsFile (settingsIn b) (stashIn b cap) x) r left) es p in
               (λ i. gave (Saved (63 + n)) (f i) left)
-              ∙ ap savePacked (saved-by (unpacked b) out (sym (whole-is st es rs er) ∙ w) n e l left r q (emptyAt (getD b 27 0)) (ap emptyAt (read-is cap))) ∙ sym (calls k)
+              ∙ ap savePacked (saved-by (unpacked b) out (sym (whole-is st es rs er) ∙ w) n e l left r q (emptyAt (getD b 27 0)) (ap emptyAt (read-is cap)))
+              ∙ sym (calls k)
 
           pub told : (S : Settings) → S ≡ settingsIn b → Saves S
           told S e = subst Saves (sym e) base

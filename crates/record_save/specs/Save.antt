@@ -19,5 +19,6 @@ gave r b out = record { answer = r; bytes = b; left = out }
 abbrev pub savePacked : Handed → SaveCall
 savePacked h = gave (h .gives .answer) (packed (h .gives .association)) (h .left)
 
+-- promise: exports.3
 unfoldable pub saveCall : List ℕ → List ℕ → SaveCall
 saveCall b out = cond (ok b) (savePacked (handedOf (unpacked b) out)) (gave NotWhole b out)

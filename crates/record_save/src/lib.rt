@@ -1,5 +1,5 @@
-// The hand-over file is written from a record in lent bytes, whose stash is emptied where it lies.
-// Promises: what `save` promises of the record that the bytes hold, every byte of record and buffer; bytes that are no record give 32 and stay.
+// Writes the hand-over file from a record in lent bytes, and empties the record's stash in place.
+// Promises: what `save` promises, for the record in the bytes and every byte of record and buffer; bytes that are no record give 32 and do not change.
 // Rule: RULES, No. 6 and No. 12; definitions in specs/Save.antt.
 use association::Settings;
 use association::State;
@@ -19,7 +19,7 @@ ghost use Rattle.record_save.specs.Save.{gave, saveCall};
 // How many bytes a file has besides the stash's body.
 const BESIDES: usize = 63;
 
-// The cookie of the row at an offset: its length, and its stored bytes.
+// Writes the cookie of the row at an offset: its length, and its stored bytes.
 fn put_cookie(out: &mut [u8], at: usize, b: &[u8], from: usize) -> usize
     requires { ⌜ (from + 726 ≤ length (now b))
         × (WholeSlot (slotIn (now b) from))
@@ -34,7 +34,7 @@ fn put_cookie(out: &mut [u8], at: usize, b: &[u8], from: usize) -> usize
     handover_save::lay(out, to, &b[from..end])
 }
 
-// The cookies, oldest first.
+// Writes the cookies, oldest first.
 fn put_cookies(out: &mut [u8], at: usize, b: &[u8], capacity: u8) -> usize
     requires { ⌜ (Sized (now b) capacity)
         × (Whole capacity (stashIn (now b) capacity))
@@ -69,7 +69,7 @@ fn stash_length(b: &[u8], capacity: u8) -> usize
     sum
 }
 
-// The stash's record: the reading place, then the cookies.
+// Writes the stash's record: the reading place, then the cookies.
 fn put_stash(out: &mut [u8], at: usize, b: &[u8], capacity: u8, len: usize) -> usize
     requires { ⌜ (Sized (now b) capacity)
         × (Whole capacity (stashIn (now b) capacity))
@@ -85,7 +85,7 @@ fn put_stash(out: &mut [u8], at: usize, b: &[u8], capacity: u8, len: usize) -> u
     put_cookies(out, to, b, capacity)
 }
 
-// The whole file, from the start of the buffer.
+// Writes the whole file to the start of the buffer.
 fn put_file(out: &mut [u8], settings: Settings, b: &[u8], state: State, len: usize) -> usize
     requires { ⌜ (Sized (now b) (settings .capacity))
         × (Whole (settings .capacity) (stashIn (now b) (settings .capacity)))
@@ -98,7 +98,7 @@ fn put_file(out: &mut [u8], settings: Settings, b: &[u8], state: State, len: usi
     handover_save::lay_state(out, to, state)
 }
 
-// The stash becomes empty; its reading place stays.
+// Empties the stash; its reading place does not change.
 fn empty(b: &mut [u8], capacity: u8)
     requires { ⌜ Sized (now b) capacity ⌝ }
     ensures { λ _. ⌜ Becomes capacity (now (b .entry)) (now (b .exit)) (emptyAt (getD (now (b .entry)) 27 0)) ⌝ }
@@ -107,7 +107,8 @@ fn empty(b: &mut [u8], capacity: u8)
     b[28] = 0;
 }
 
-// Writes the file of the record, which is left without its cookies: a cookie has one owner.
+// Writes the file of the record, which then has no cookies: a cookie has one owner.
+// promise: exports.3
 pub fn save(b: &mut [u8], out: &mut [u8]) -> SaveAnswer
     ensures { λ r. ⌜ gave r (now (b .exit)) (now (out .exit)) ≡ saveCall (now (b .entry)) (now (out .entry)) ⌝ }
 {

@@ -41,20 +41,23 @@ broken cap l b d s f e =
       falls = e ∙ sym (ap tallyOf (falls-broken cap (stashIn b cap) (cookiesIn l) f));
     }
 
-pub begins : (cap : ℕ) (l b : List ℕ) (d : Dropped) → Sized b cap → Bytes b → Bytes l → length l < 18446744073709551616 → isWhole (cookiesIn l) ≡ true → d ≡ noneDropped → Along cap b b l 0 d
+pub begins : (cap : ℕ) (l b : List ℕ) (d : Dropped) → Sized b cap → Bytes b → Bytes l → length l < 18446744073709551616 → isWhole (cookiesIn l) ≡ true →
+    d ≡ noneDropped → Along cap b b l 0 d
 unfolding storeListOf droppedOf cookiesIn
 begins cap l b d s y z k f e =
     record {
       within = omega arith;
       sound = f;
       left = refl;
-      fell = ap (λ (x : Dropped). added x (fallenListed cap (stashIn b cap) (cookiesFrom l 0))) e ∙ from-none (fallenListed cap (stashIn b cap) (cookiesFrom l 0));
+      fell = ap (λ (x : Dropped). added x (fallenListed cap (stashIn b cap) (cookiesFrom l 0))) e
+          ∙ from-none (fallenListed cap (stashIn b cap) (cookiesFrom l 0));
       fit = fits cap (stashIn b cap) (typed cap b s y) l z k;
       kept = same cap b s;
       long = refl;
     }
 
-module _ (cap : ℕ) (b₀ b l : List ℕ) (at : ℕ) (d : Dropped) (o : Along cap b₀ b l at d) (z : Bytes l) (start end : ℕ) (e : entryAt l at ≡ Cookie start end) where
+module _ (cap : ℕ) (b₀ b l : List ℕ) (at : ℕ) (d : Dropped) (o : Along cap b₀ b l at d) (z : Bytes l) (start end : ℕ)
+    (e : entryAt l at ≡ Cookie start end) where
   abbrev cookie : List ℕ
   cookie = part l start (end - start)
 
@@ -62,20 +65,24 @@ module _ (cap : ℕ) (b₀ b l : List ℕ) (at : ℕ) (d : Dropped) (o : Along c
   rest-whole = sym (whole-cookie _ _ _ _ e) ∙ o .sound
 
   -- what fell out by the cookie, beside what falls out behind it
-  fell-more : added (plusOf d (fallenOf cap (stashIn b cap) cookie)) (fallenListed cap (storeOf cap (stashIn b cap) cookie) (cookiesFrom l end)) ≡ droppedOf cap (stashIn b₀ cap) l
+  fell-more : added (plusOf d (fallenOf cap (stashIn b cap) cookie)) (fallenListed cap (storeOf cap (stashIn b cap) cookie) (cookiesFrom l end))
+      ≡ droppedOf cap (stashIn b₀ cap) l
   fell-more = sym (falls-cookie cap (stashIn b cap) (eight cap b (o .kept .sized)) d l z at start end e rest-whole) ∙ o .fell
 
   pub fits-more : (f : Fallen) → f ≡ fallenOf cap (stashIn b cap) cookie → Fit (plusOf d f)
   fits-more f q =
       subst (λ (x : Fallen). Fit (plusOf d x)) (sym q)
-      (less-fits (plusOf d (fallenOf cap (stashIn b cap) cookie)) (droppedOf cap (stashIn b₀ cap) l) (fallenListed cap (storeOf cap (stashIn b cap) cookie) (cookiesFrom l end)) fell-more (o .fit))
+      (less-fits (plusOf d (fallenOf cap (stashIn b cap) cookie)) (droppedOf cap (stashIn b₀ cap) l)
+      (fallenListed cap (storeOf cap (stashIn b cap) cookie) (cookiesFrom l end)) fell-more (o .fit))
 
-  pub goes-on : (c : List ℕ) (f : Fallen) (g : Dropped) → Becomes cap b c (storeOf cap (stashIn b cap) cookie) → f ≡ fallenOf cap (stashIn b cap) cookie → g ≡ plusOf d f → length c ≡ length b → Along cap b₀ c l end g
+  pub goes-on : (c : List ℕ) (f : Fallen) (g : Dropped) → Becomes cap b c (storeOf cap (stashIn b cap) cookie) → f ≡ fallenOf cap (stashIn b cap) cookie →
+      g ≡ plusOf d f → length c ≡ length b → Along cap b₀ c l end g
   goes-on c f g h q r n =
       record {
         within = placed _ _ _ _ e .within;
         sound = rest-whole;
-        left = ap (λ (x : CookieStash). storeListed cap x (cookiesFrom l end)) (h .stash) ∙ sym (listed-cookie cap (stashIn b cap) l at start end e rest-whole) ∙ o .left;
+        left = ap (λ (x : CookieStash). storeListed cap x (cookiesFrom l end)) (h .stash) ∙ sym (listed-cookie cap (stashIn b cap) l at start end e rest-whole)
+            ∙ o .left;
         fell = (λ i. added ((r ∙ ap (plusOf d) q) i) (fallenListed cap (h .stash i) (cookiesFrom l end))) ∙ fell-more;
         fit = o .fit;
         kept = record { stash = refl; settings = h .settings ∙ o .kept .settings; state = h .state ∙ o .kept .state; sized = h .sized };
@@ -83,5 +90,6 @@ module _ (cap : ℕ) (b₀ b l : List ℕ) (at : ℕ) (d : Dropped) (o : Along c
       }
 
 -- all is stored
-pub ends : (cap : ℕ) (b₀ b l : List ℕ) (at : ℕ) (d : Dropped) → Along cap b₀ b l at d → storeListed cap (stashIn b cap) (cookiesFrom l at) ≡ stashIn b cap → added d (fallenListed cap (stashIn b cap) (cookiesFrom l at)) ≡ d → RefilledIn cap l b₀ b d
+pub ends : (cap : ℕ) (b₀ b l : List ℕ) (at : ℕ) (d : Dropped) → Along cap b₀ b l at d → storeListed cap (stashIn b cap) (cookiesFrom l at) ≡ stashIn b cap →
+    added d (fallenListed cap (stashIn b cap) (cookiesFrom l at)) ≡ d → RefilledIn cap l b₀ b d
 ends cap b₀ b l at d o e f = record { becomes = subst (Becomes cap b₀ b) (sym e ∙ o .left) (o .kept); falls = sym f ∙ o .fell }

@@ -25,7 +25,8 @@ zeros-split (suc n) [] = refl
 zeros-split (suc n) (x ∷ l) = ap (λ (t : Bool). eqb x 0 && t) (zeros-split n l) ∙ sym (and-assoc (eqb x 0) (zeros (take n l)) (zeros (drop n l)))
 
 -- what was scanned and what lies ahead decide together
-pub zeros-more : (b : List ℕ) (at end : ℕ) (t u : Bool) → at ≤ end → u ≡ zeros (take (end - at) (drop at b)) → t && zeros (drop at b) ≡ (t && u) && zeros (drop end b)
+pub zeros-more : (b : List ℕ) (at end : ℕ) (t u : Bool) → at ≤ end → u ≡ zeros (take (end - at) (drop at b)) →
+    t && zeros (drop at b) ≡ (t && u) && zeros (drop end b)
 zeros-more b at end t u h e =
     let n : at + (end - at) ≡ end = omega arith in
     let rest = drop-drop (end - at) at b ∙ ap (λ (k : ℕ). drop k b) n in
@@ -61,14 +62,16 @@ module _ (cap read m : ℕ) where
   holds-none : hasOf cap read 0 ≡ false
   holds-none = and-false (rangeOf cap read 0)
 
-  is-whole : rangeOf cap read 0 && (true && (zeros (drop cap (replicate m 0)) && roundFree cap (replicate m 0) (wrap cap (read + 0)) (cap - 0))) ≡ rangeOf cap read 0
+  is-whole : rangeOf cap read 0 && (true && (zeros (drop cap (replicate m 0)) && roundFree cap (replicate m 0) (wrap cap (read + 0)) (cap - 0)))
+      ≡ rangeOf cap read 0
   is-whole =
       (λ i. rangeOf cap read 0 && (none-past m cap i && none-round m cap (wrap cap (read + 0)) (cap - 0) i)) ∙ and-true (rangeOf cap read 0)
 
   has-room : cap - cond (hasOf cap read 0) (0 - 1) 0 ≡ cap
   has-room = let n : cap - 0 ≡ cap = omega arith in ap (λ (t : Bool). cap - cond t (0 - 1) 0) holds-none ∙ n
 
-  pub seen-none : (t : Bool) → t ≡ rangeOf cap read 0 → _≡_ {A = Seen} (record { whole = t; found = false; len = 0; gap = cap; read = read; held = 0 }) (seenFrom cap read 0 true (replicate m 0))
+  pub seen-none : (t : Bool) → t ≡ rangeOf cap read 0 →
+      _≡_ {A = Seen} (record { whole = t; found = false; len = 0; gap = cap; read = read; held = 0 }) (seenFrom cap read 0 true (replicate m 0))
   unfolding seenFrom
   seen-none t e =
       λ i. record {

@@ -7,7 +7,21 @@ use native.Mathlib.Decide.{decLt}
 use native.Mathlib.Nat.{mod-eq-of-lt}
 use native.Mathlib.Omega.{arith}
 use borrow.Rule.Slice.PartMut.{putMid}
-use lib.ListN.{length, getD, take, drop, set, replicate, length-set, length-append, length-take, length-drop, length-replicate, drop-of-length-le, List·getD-append}
+use lib.ListN.{
+  length,
+  getD,
+  take,
+  drop,
+  set,
+  replicate,
+  length-set,
+  length-append,
+  length-take,
+  length-drop,
+  length-replicate,
+  drop-of-length-le,
+  List·getD-append,
+}
 use lib.Seq.{getD-set-same, getD-set-other, set-append-left, ext-getD, take-at, drop-at, take-all, take-length, length-take-le}
 use Rattle.words.specs.Bytes.{be, part, toBe}
 use Rattle.words.proofs.Bytes.{be-toBe}
@@ -88,7 +102,8 @@ module _ (cap : ℕ) (b c : List ℕ) (k : ℕ) (x : Slot) (long : length c ≡ 
       ∙ sym (set-append-left (slotsIn b 92 cap) (replicate (8 - cap) emptySlot) k x (let n = slots-long b 92 cap in omega arith))
 
 -- the row of a place, the reading place and the count, put anew
-module _ (cap : ℕ) (b : List ℕ) (s : Sized b cap) (k : ℕ) (inside : k < cap) (x : Slot) (f : Fitting x) (r h : ℕ) (at m : ℕ) (is-at : at ≡ 92 + k * 726) (is-m : m ≡ 726) where
+module _ (cap : ℕ) (b : List ℕ) (s : Sized b cap) (k : ℕ) (inside : k < cap) (x : Slot) (f : Fitting x) (r h : ℕ) (at m : ℕ) (is-at : at ≡ 92 + k * 726)
+    (is-m : m ≡ 726) where
   abbrev mid : List ℕ
   mid = putMid at m b (rowOf x)
 
@@ -118,9 +133,11 @@ module _ (cap : ℕ) (b : List ℕ) (s : Sized b cap) (k : ℕ) (inside : k < ca
   unfolding slotIn
   the-row =
       let p : part end (92 + k * 726) 724 ≡ x .bytes
-      = tail (92 + k * 726) 724 (omega arith) ∙ ap (λ (j : ℕ). part mid j 724) (omega (arith, is-at)) ∙ mid-inside at m b (rowOf x) n fits 0 724 (omega arith) ∙ bytes-of x f in
+      = tail (92 + k * 726) 724 (omega arith) ∙ ap (λ (j : ℕ). part mid j 724) (omega (arith, is-at)) ∙ mid-inside at m b (rowOf x) n fits 0 724 (omega arith)
+      ∙ bytes-of x f in
       let q : part end (92 + k * 726 + 724) 2 ≡ part (rowOf x) 724 2
-      = tail (92 + k * 726 + 724) 2 (omega arith) ∙ ap (λ (j : ℕ). part mid j 2) (omega (arith, is-at)) ∙ mid-inside at m b (rowOf x) n fits 724 2 (omega arith) in
+      = tail (92 + k * 726 + 724) 2 (omega arith) ∙ ap (λ (j : ℕ). part mid j 2) (omega (arith, is-at))
+      ∙ mid-inside at m b (rowOf x) n fits 724 2 (omega arith) in
       let u : be (part end (92 + k * 726 + 724) 2) ≡ x .len = ap be q ∙ len-of x f in
       λ i. record { bytes = p i; len = u i }
 
@@ -162,7 +179,8 @@ row-kept row c len long most m em r₁ e₁ z ez l el y ey =
     let fz : z ≡ replicate (724 - m) 0 = ez ∙ ap (λ (k : ℕ). replicate k 0) lz in
     let kz : length z ≡ 724 - m = ap length fz ∙ length-replicate {A = ℕ} (724 - m) 0 in
     let t = drop (724 - m) (drop m row) in
-    let f₂ : putMid m (724 - m) r₁ z ≡ (c ++ z) ++ t = ap (λ (q : List ℕ). putMid m (724 - m) q z) f₁ ∙ mid-at m (724 - m) c (drop m row) z ln ∙ sym (append-assoc c z t) in
+    let f₂ : putMid m (724 - m) r₁ z ≡ (c ++ z) ++ t = ap (λ (q : List ℕ). putMid m (724 - m) q z) f₁ ∙ mid-at m (724 - m) c (drop m row) z ln
+    ∙ sym (append-assoc c z t) in
     let lx : length (c ++ z) ≡ 724 = length-append c z ∙ omega arith in
     let lt : length t ≡ 2 = length-drop (724 - m) (drop m row) ∙ ap (λ (k : ℕ). k - (724 - m)) (length-drop m row) ∙ omega arith in
     let ll : length l ≡ 2 = ap length el in
@@ -176,7 +194,11 @@ row-kept row c len long most m em r₁ e₁ z ez l el y ey =
 pub kept-fits : (len : ℕ) (c : List ℕ) → len < 65536 → length c ≤ 724 → Fitting (keptSlot len c)
 unfolding keptSlot
 kept-fits len c h most =
-    record { sized = length-append c (replicate (724 - length c) 0) ∙ ap (λ (k : ℕ). length c + k) (length-replicate {A = ℕ} (724 - length c) 0) ∙ omega arith; short = h }
+    record {
+      sized = length-append c (replicate (724 - length c) 0) ∙ ap (λ (k : ℕ). length c + k) (length-replicate {A = ℕ} (724 - length c) 0)
+          ∙ omega arith;
+      short = h;
+    }
 
 -- the slot of no cookie, and of a cookie by its stored bytes
 kept-none : keptSlot 0 [] ≡ emptySlot
@@ -200,7 +222,8 @@ has cap read held e =
     (w .0, w .1, w .2, ltb-true 0 held (k .1))
 
 module _ (cap : ℕ) (s : CookieStash) where
-  get-found : hasOf cap (s .read) (s .held) ≡ true → getOf cap s ≡ record { found = true; slot = slotAt (s .slots) (s .read); stash = changed s (s .read) emptySlot (wrap cap (s .read + 1)) (s .held - 1) }
+  get-found : hasOf cap (s .read) (s .held) ≡ true →
+      getOf cap s ≡ record { found = true; slot = slotAt (s .slots) (s .read); stash = changed s (s .read) emptySlot (wrap cap (s .read + 1)) (s .held - 1) }
   unfolding getOf inRange restOf
   get-found e = simp e
 
@@ -216,7 +239,8 @@ module _ (cap : ℕ) (b : List ℕ) (s : Sized b cap) where
   -- the slot at a place of the stash
   pub slot-at : (k : ℕ) → k < cap → slotAt (stashIn b cap .slots) k ≡ slotIn b (92 + k * 726)
   unfolding stashIn
-  slot-at k h = List·getD-append (slotsIn b 92 cap) (replicate (8 - cap) emptySlot) (record { bytes = []; len = 0 }) k (let n = slots-long b 92 cap in omega arith) ∙ slots-at b 92 cap k h
+  slot-at k h = List·getD-append (slotsIn b 92 cap) (replicate (8 - cap) emptySlot) (record { bytes = []; len = 0 }) k
+      (let n = slots-long b 92 cap in omega arith) ∙ slots-at b 92 cap k h
 
   pub same : Becomes cap b b (stashIn b cap)
   same = record { stash = refl; settings = refl; state = refl; sized = s }
@@ -231,7 +255,8 @@ module _ (cap : ℕ) (b : List ℕ) (s : Sized b cap) where
 
   module _ (ys : List ℕ) where
     pub taken-by : hasOf cap (getD b 27 0) (getD b 28 0) ≡ true → (c zs : List ℕ) (next : ℕ) → next ≡ wrap cap (getD b 27 0 + 1) →
-        Becomes cap b c (changed (stashIn b cap) (getD b 27 0) (keptSlot 0 []) next (getD b 28 0 - 1)) → zs ≡ handedOf (slotIn b (92 + getD b 27 0 * 726)) ys → TakenIn cap b c ys zs
+        Becomes cap b c (changed (stashIn b cap) (getD b 27 0) (keptSlot 0 []) next (getD b 28 0 - 1)) → zs ≡ handedOf (slotIn b (92 + getD b 27 0 * 726)) ys →
+        TakenIn cap b c ys zs
     unfolding stashIn
     taken-by e c zs next en f g =
         let h = has cap (getD b 27 0) (getD b 28 0) e in

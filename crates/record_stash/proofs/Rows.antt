@@ -42,7 +42,8 @@ and-true true = refl
 and-true false = refl
 
 -- what was read and what lies ahead decide together
-pub padded-more : (b : List ℕ) (at cap i : ℕ) (t u : Bool) → i < cap → u ≡ padded (slotIn b at) → t && allPadded (slotsIn b at (cap - i)) ≡ (t && u) && allPadded (slotsIn b (at + 726) (cap - (i + 1)))
+pub padded-more : (b : List ℕ) (at cap i : ℕ) (t u : Bool) → i < cap → u ≡ padded (slotIn b at) →
+    t && allPadded (slotsIn b at (cap - i)) ≡ (t && u) && allPadded (slotsIn b (at + 726) (cap - (i + 1)))
 padded-more b at cap i t u h e =
     let n : cap - i - 1 ≡ cap - (i + 1) = omega arith in
     ap (λ (x : Bool). t && x) (padded-next b at (cap - i) (omega arith) ∙ (λ j. sym e j && allPadded (slotsIn b (at + 726) (n j))))
@@ -82,14 +83,17 @@ lens-at b cap k at h e =
     ∙ ap (λ (j : ℕ). slotIn b j .len) (sym e)
     ∙ len-is b at
 
-pub lens-more : (b : List ℕ) (cap i at v : ℕ) → i < cap → cap ≤ 8 → at ≡ 92 + i * 726 → v ≡ be (part b (at + 724) 2) → set (front 8 (lens b cap) i) i v ≡ front 8 (lens b cap) (i + 1)
+pub lens-more : (b : List ℕ) (cap i at v : ℕ) → i < cap → cap ≤ 8 → at ≡ 92 + i * 726 → v ≡ be (part b (at + 724) 2) →
+    set (front 8 (lens b cap) i) i v ≡ front 8 (lens b cap) (i + 1)
 lens-more b cap i at v h m e f =
     let n = lens-long b cap in
     ap (set (front 8 (lens b cap) i) i) (f ∙ sym (lens-at b cap i at h e)) ∙ front-more 8 (lens b cap) i (omega arith) (omega arith)
 
 pub lens-all : (b : List ℕ) (cap i : ℕ) → i ≡ cap → front 8 (lens b cap) i ≡ lensIn b cap
 unfolding front lensIn
-lens-all b cap i e = ap (λ (j : ℕ). take j (lens b cap) ++ replicate (8 - j) 0) e ∙ ap (λ (l : List ℕ). l ++ replicate (8 - cap) 0) (take-all cap (lens b cap) (let n = lens-long b cap in omega arith))
+lens-all b cap i e =
+    ap (λ (j : ℕ). take j (lens b cap) ++ replicate (8 - j) 0) e
+    ∙ ap (λ (l : List ℕ). l ++ replicate (8 - cap) 0) (take-all cap (lens b cap) (let n = lens-long b cap in omega arith))
 
 -- ---- the slots past the capacity
 

@@ -29,7 +29,8 @@ module _ (cap : ℕ) (b : List ℕ) (x : Slot) (place : ℕ) (p : place ≡ wrap
   unfolding stashIn putOf full
   room-put h = simp (p, lt-leb cap (getD b 28 0) h)
 
-  pub full-put : cap ≤ getD b 28 0 → (next : ℕ) → next ≡ wrap cap (getD b 27 0 + 1) → changed (stashIn b cap) place x next (getD b 28 0) ≡ putOf cap (stashIn b cap) x
+  pub full-put : cap ≤ getD b 28 0 → (next : ℕ) → next ≡ wrap cap (getD b 27 0 + 1) →
+      changed (stashIn b cap) place x next (getD b 28 0) ≡ putOf cap (stashIn b cap) x
   unfolding stashIn putOf full
   full-put h next e = simp (p, e, le-leb cap (getD b 28 0) h)
 
@@ -48,9 +49,11 @@ module _ (cap : ℕ) (b : List ℕ) where
   unfolding stashIn oldestOf full
   full-falls h = simp (le-leb cap (getD b 28 0) h)
 
-  pub one-falls : Sized b cap → cap ≤ getD b 28 0 → getD b 27 0 < cap → (len : ℕ) → len ≡ be (part b (92 + getD b 27 0 * 726 + 724) 2) → record { fell = true; len = len } ≡ oldestOf cap (stashIn b cap)
+  pub one-falls : Sized b cap → cap ≤ getD b 28 0 → getD b 27 0 < cap → (len : ℕ) → len ≡ be (part b (92 + getD b 27 0 * 726 + 724) 2) →
+      record { fell = true; len = len } ≡ oldestOf cap (stashIn b cap)
   one-falls s h r len l =
-      let u : len ≡ slotAt (stashIn b cap .slots) (getD b 27 0) .len = l ∙ sym (len-in b (92 + getD b 27 0 * 726)) ∙ ap (λ (y : Slot). y .len) (sym (slot-at cap b s (getD b 27 0) r)) in
+      let u : len ≡ slotAt (stashIn b cap .slots) (getD b 27 0) .len = l ∙ sym (len-in b (92 + getD b 27 0 * 726))
+      ∙ ap (λ (y : Slot). y .len) (sym (slot-at cap b s (getD b 27 0) r)) in
       (λ i. record { fell = true; len = u i }) ∙ sym (full-falls h)
 
 -- ---- a cookie is stored, or not
@@ -60,11 +63,13 @@ module _ (cap : ℕ) (b c : List ℕ) where
   unfolding storeOf fallenOf inRange stashIn
   out-store e = (simp e, simp e)
 
-  long-store : rangeOf cap (getD b 27 0) (getD b 28 0) ≡ true → 65535 < length c → (storeOf cap (stashIn b cap) c ≡ stashIn b cap) × (fallenOf cap (stashIn b cap) c ≡ noneFallen)
+  long-store : rangeOf cap (getD b 27 0) (getD b 28 0) ≡ true → 65535 < length c → (storeOf cap (stashIn b cap) c ≡ stashIn b cap) ×
+      (fallenOf cap (stashIn b cap) c ≡ noneFallen)
   unfolding storeOf fallenOf inRange stashIn
   long-store e h = (simp (e, lt-leb (length c) 65535 h), simp (e, lt-leb (length c) 65535 h))
 
-  put-store : rangeOf cap (getD b 27 0) (getD b 28 0) ≡ true → length c ≤ 65535 → (storeOf cap (stashIn b cap) c ≡ putOf cap (stashIn b cap) (slotOf c)) × (fallenOf cap (stashIn b cap) c ≡ oldestOf cap (stashIn b cap))
+  put-store : rangeOf cap (getD b 27 0) (getD b 28 0) ≡ true → length c ≤ 65535 → (storeOf cap (stashIn b cap) c ≡ putOf cap (stashIn b cap) (slotOf c)) ×
+      (fallenOf cap (stashIn b cap) c ≡ oldestOf cap (stashIn b cap))
   unfolding storeOf fallenOf inRange stashIn
   put-store e h = (simp (e, le-leb (length c) 65535 h), simp (e, le-leb (length c) 65535 h))
 
@@ -75,15 +80,18 @@ module _ (cap : ℕ) (b c : List ℕ) where
     pub long-by : rangeOf cap (getD b 27 0) (getD b 28 0) ≡ true → 65535 < length c → StoredIn cap c b b noneFallen
     long-by e h = let p = long-store e h in (subst (Becomes cap b b) (sym (p .0)) (same cap b s), sym (p .1))
 
-    pub put-by : rangeOf cap (getD b 27 0) (getD b 28 0) ≡ true → length c ≤ 65535 → (n : ℕ) → n ≡ stored (length c) → (d : List ℕ) (f : Fallen) → Becomes cap b d (putOf cap (stashIn b cap) (keptSlot (length c) (take n c))) → f ≡ oldestOf cap (stashIn b cap) → StoredIn cap c b d f
-    put-by e h n en d f g q = let p = put-store e h in (subst (Becomes cap b d) (ap (putOf cap (stashIn b cap)) (kept-stored c n en) ∙ sym (p .0)) g, q ∙ sym (p .1))
+    pub put-by : rangeOf cap (getD b 27 0) (getD b 28 0) ≡ true → length c ≤ 65535 → (n : ℕ) → n ≡ stored (length c) → (d : List ℕ) (f : Fallen) →
+        Becomes cap b d (putOf cap (stashIn b cap) (keptSlot (length c) (take n c))) → f ≡ oldestOf cap (stashIn b cap) → StoredIn cap c b d f
+    put-by e h n en d f g q = let p = put-store e h in
+        (subst (Becomes cap b d) (ap (putOf cap (stashIn b cap)) (kept-stored c n en) ∙ sym (p .0)) g, q ∙ sym (p .1))
 
 -- ---- what the bytes say of the stash
 
 module _ (cap : ℕ) (b : List ℕ) (s : Sized b cap) where
   pub eight : length (stashIn b cap .slots) ≡ 8
   unfolding stashIn
-  eight = length-append (slotsIn b 92 cap) (replicate (8 - cap) emptySlot) ∙ (λ i. slots-long b 92 cap i + length-replicate (8 - cap) emptySlot i) ∙ omega (arith, s .most)
+  eight = length-append (slotsIn b 92 cap) (replicate (8 - cap) emptySlot) ∙ (λ i. slots-long b 92 cap i + length-replicate (8 - cap) emptySlot i)
+      ∙ omega (arith, s .most)
 
   sized-row : Bytes b → (at : ℕ) → at + 726 ≤ length b → (length (slotIn b at .bytes) ≡ 724) × (slotIn b at .len ≤ 65535)
   unfolding slotIn
@@ -103,7 +111,8 @@ module _ (cap : ℕ) (b : List ℕ) (s : Sized b cap) where
       let d : Slot = record { bytes = []; len = 0 } in
       let n = slots-long b 92 cap in
       let e : k ≡ length (slotsIn b 92 cap) + (k - cap) = omega arith in
-      ap (slotAt (slotsIn b 92 cap ++ replicate (8 - cap) emptySlot)) e ∙ getD-append-add (slotsIn b 92 cap) (replicate (8 - cap) emptySlot) (k - cap) d ∙ getD-replicate (8 - cap) (k - cap) emptySlot d (omega arith)
+      ap (slotAt (slotsIn b 92 cap ++ replicate (8 - cap) emptySlot)) e ∙ getD-append-add (slotsIn b 92 cap) (replicate (8 - cap) emptySlot) (k - cap) d
+      ∙ getD-replicate (8 - cap) (k - cap) emptySlot d (omega arith)
 
   abbrev Sizes : Slot → Type 0
   Sizes x = (length (x .bytes) ≡ 724) × (x .len ≤ 65535)

@@ -19,14 +19,29 @@ use Rattle.cookiestash.specs.Stash.{stored, emptySlot, rangeOf, putOf}
 use Rattle.cookiestash.specs.Whole.{seenOf}
 use Rattle.cookiestash.specs.Falling.{noneDropped}
 use Rattle.record_stash.specs.Rows.{slotIn, slotsIn, stashIn, sizedIn, Sized, rowOf, rowsOf}
-use Rattle.record_stash.specs.Slots.{withStash, unseen, seenIn, took, takenIn, refilled, refilledIn, keptSlot, laidIn, Becomes, TakenIn, LaidIn, RefilledIn}
+use Rattle.record_stash.specs.Slots.{
+  withStash,
+  unseen,
+  seenIn,
+  took,
+  takenIn,
+  refilled,
+  refilledIn,
+  keptSlot,
+  laidIn,
+  Becomes,
+  TakenIn,
+  LaidIn,
+  RefilledIn,
+}
 use Rattle.record_stash.proofs.Rows.{slots-long}
 
 -- ---- the test of the number of bytes
 
 pub sized-of : (b : List ℕ) (cap : ℕ) → sizedIn b cap ≡ true → Sized b cap
 unfolding sizedIn
-sized-of b cap e = let k = both (leb cap 8) (eqb (length b) (92 + cap * 726)) e in record { most = leb-true cap 8 (k .0); long = eqb-true (length b) (92 + cap * 726) (k .1) }
+sized-of b cap e =
+    let k = both (leb cap 8) (eqb (length b) (92 + cap * 726)) e in record { most = leb-true cap 8 (k .0); long = eqb-true (length b) (92 + cap * 726) (k .1) }
 
 pub of-sized : (b : List ℕ) (cap : ℕ) → Sized b cap → sizedIn b cap ≡ true
 unfolding sizedIn
@@ -36,7 +51,8 @@ of-sized b cap s = passes (eqb (length b) (92 + cap * 726)) (le-leb cap 8 (s .mo
 
 row-again : (b : List ℕ) (at : ℕ) → Bytes b → at + 726 ≤ length b → rowOf (slotIn b at) ≡ part b at 724 ++ part b (at + 724) 2
 unfolding slotIn
-row-again b at y h = ap (λ (l : List ℕ). part b at 724 ++ l) (toBe-be 2 (part b (at + 724) 2) (bytes-part b (at + 724) 2 y) (length-part b (at + 724) 2 (omega arith)))
+row-again b at y h =
+    ap (λ (l : List ℕ). part b at 724 ++ l) (toBe-be 2 (part b (at + 724) 2) (bytes-part b (at + 724) 2 y) (length-part b (at + 724) 2 (omega arith)))
 
 pub rows-again : (b : List ℕ) (at n : ℕ) → Bytes b → length b ≡ at + n * 726 → rowsOf (slotsIn b at n) ≡ drop at b
 rows-again b at zero y e = sym (drop-of-length-le b {i = at} (omega arith))

@@ -1,5 +1,5 @@
-// A stash that lies in lent bytes, as many as its capacity asks for: it is looked at, a cookie is taken, and a list is stored, where it lies.
-// Promises: what `cookiestash` promises of a stash by value, and that every other byte stays; no slot is copied. Bytes of another number stay.
+// A stash in lent bytes, whose number fits its capacity: summarizes it, takes a cookie, and stores a list, all in place.
+// Promises: what `cookiestash` promises of a stash by value, and no other byte changes; no slot is copied. If the number of bytes is wrong, nothing changes.
 // Rule: RULES, part 3, No. 5 and No. 12; definitions in specs/Rows.antt and specs/Slots.antt.
 use cookielist::Entry;
 use cookiestash::Dropped;
@@ -18,7 +18,7 @@ ghost use Rattle.record_stash.specs.Rows.{slotIn, slotsIn, stashIn, lens
 ghost use Rattle.record_stash.specs.Slots.{seenIn, took, takenIn, refilled, refilledIn, keptSlot};
 ghost use Rattle.record_stash.specs.Slots.{Becomes, PlacedIn, TakenIn, LaidIn, StoredIn, RefilledIn};
 
-// How many bytes stand before the rows, and how many a row has.
+// How many bytes come before the rows, and how many a row has.
 pub const HEAD: usize = 92;
 
 pub const ROW: usize = 726;
@@ -26,7 +26,8 @@ pub const ROW: usize = 726;
 // How many bytes two rows have.
 const PAIR: usize = 1452;
 
-// Whether the bytes are as many as a record of the capacity has.
+// Whether the number of bytes is that of a record of this capacity.
+// promise: exports.2
 pub fn sized(b: &[u8], capacity: u8) -> bool
     ensures { λ r. ⌜ r ≡ sizedIn (now (b .entry)) capacity ⌝ }
 {
@@ -37,7 +38,7 @@ pub fn sized(b: &[u8], capacity: u8) -> bool
     b.len() == HEAD + cap * ROW
 }
 
-// What is read of the rows: whether no slot has bytes past its stored ones, and how long the cookies are.
+// What is read from the rows: whether every slot is zero past its stored bytes, and how long the cookies are.
 struct RowsRead {
     padded: bool,
     lens: [u16; 8],
@@ -53,7 +54,7 @@ fn length_at(b: &[u8], at: usize) -> u16
     words::be16_at(&b[from..end], 0)
 }
 
-// Whether the slot at an offset, whose length this is, has no bytes past its stored ones. An empty one is tested whole, with bounds that the compiler knows.
+// Whether the slot at an offset, with this length, is zero past its stored bytes. An empty one is tested as a whole, with bounds that the compiler knows.
 fn padded_at(b: &[u8], at: usize, len: u16) -> bool
     requires { ⌜ (at + 726 ≤ length (now b)) × (len ≡ be (part (now b) (at + 724) 2)) ⌝ }
     ensures { λ r. ⌜ r ≡ padded (slotIn (now (b .entry)) at) ⌝ }
@@ -71,7 +72,7 @@ fn both(a: bool, b: bool) -> bool
     if a { b } else { false }
 }
 
-// The rows are read once, lengths and zeros in one pass.
+// Reads the rows once: lengths and zeros in one pass.
 fn read_rows(b: &[u8], cap: usize) -> RowsRead
     requires { ⌜ Sized (now b) cap ⌝ }
     ensures { λ r. ⌜ r ≡ record { padded = allPadded (slotsIn (now (b .entry)) 92 cap); lens = lensIn (now (b .entry)) cap } ⌝ }
@@ -100,7 +101,7 @@ fn zero_row(b: &[u8]) -> bool
     words::zeros_from(b, 0)
 }
 
-// Whether the bytes are all zero, two rows at a time, with bounds that the compiler knows: of two rows it leaves 12 bytes to be taken one by one, of one row 22.
+// Whether the bytes are all zero, two rows at a time, with bounds that the compiler knows: of two rows it then tests 12 bytes one by one, of one row 22.
 fn zero_rows(b: &[u8]) -> bool
     ensures { λ r. ⌜ r ≡ zeros (now (b .entry)) ⌝ }
 {
@@ -114,7 +115,7 @@ fn zero_rows(b: &[u8]) -> bool
     both(all, zero_row(&b[at..]))
 }
 
-// What is seen of a stash that holds no cookie and whose rows are zero: it is whole if its place is one of its capacity.
+// The summary of a stash that holds no cookie and whose rows are zero: it is whole if its place is within its capacity.
 fn seen_empty(capacity: u8, read: usize) -> Seen
     ensures { λ r. ⌜ r ≡ seenFrom capacity read 0 true (replicate 8 0) ⌝ }
 {
@@ -128,7 +129,8 @@ fn seen_empty(capacity: u8, read: usize) -> Seen
     }
 }
 
-// What the rules read of the stash. Where no cookie is held all rows are tested at once: zeros are slots that hold nothing.
+// The summary of the stash. If no cookie is held all rows are tested at once: zeros are slots that hold nothing.
+// promise: exports.2
 pub fn see(b: &[u8], capacity: u8) -> Seen
     ensures { λ r. ⌜ r ≡ seenIn (now (b .entry)) capacity ⌝ }
 {
@@ -154,7 +156,8 @@ pub fn see(b: &[u8], capacity: u8) -> Seen
     cookiestash::seen_from(capacity, read, held, rows.padded, lens)
 }
 
-// Every byte becomes zero.
+// Sets every byte to zero.
+// promise: exports.2
 pub fn clear(out: &mut [u8])
     ensures { λ _. ⌜ now (out .exit) ≡ replicate (length (now (out .entry))) 0 ⌝ }
 {
@@ -165,7 +168,7 @@ pub fn clear(out: &mut [u8])
     }
 }
 
-// A row becomes that of the slot which holds a cookie as it was kept: of a cookie longer than a slot only the length is.
+// Fills a row with the slot of a kept cookie; of a cookie longer than a slot only the length is kept.
 fn fill_row(row: &mut [u8], len: u16, kept: &[u8])
     requires { ⌜ (length (now row) ≡ 726) × (length (now kept) ≤ 724) ⌝ }
     ensures { λ _. ⌜ now (row .exit) ≡ rowOf (keptSlot len (now (kept .entry))) ⌝ }
@@ -177,7 +180,7 @@ fn fill_row(row: &mut [u8], len: u16, kept: &[u8])
     bytes::copy(&word, &mut row[724..726]);
 }
 
-// A kept cookie goes to a place, and the reading place and the count are stored.
+// Writes a kept cookie to a place, and stores the reading place and the count.
 fn store_at(b: &mut [u8], cap: usize, place: usize, read: usize, held: usize, len: u16, kept: &[u8])
     requires { ⌜ (Sized (now b) cap) × (place < cap) × (read < 256) × (held < 256) × (length (now kept) ≤ 724) ⌝ }
     ensures { λ _. ⌜ PlacedIn cap place len (now (kept .entry)) read held (now (b .entry)) (now (b .exit)) ⌝ }
@@ -195,7 +198,7 @@ fn least(a: usize, b: usize) -> usize
     if a <= b { a } else { b }
 }
 
-// The stored bytes of the slot at an offset go to the start of the buffer, as many as it has room for.
+// Copies the stored bytes of the slot at an offset to the start of the buffer, as many as fit.
 fn give(b: &[u8], at: usize, buffer: &mut [u8])
     requires { ⌜ at + 726 ≤ length (now b) ⌝ }
     ensures { λ _. ⌜ now (buffer .exit) ≡ handedOf (slotIn (now (b .entry)) at) (now (buffer .entry)) ⌝ }
@@ -217,7 +220,7 @@ fn has_cookie(capacity: u8, read: usize, held: usize) -> bool
     }
 }
 
-// The oldest cookie is taken, if there is one: its slot is cleared where it lies.
+// Takes the oldest cookie, if there is one, and clears its slot in place.
 fn take_oldest(b: &mut [u8], capacity: u8, buffer: &mut [u8])
     requires { ⌜ Sized (now b) capacity ⌝ }
     ensures { λ _. ⌜ TakenIn capacity (now (b .entry)) (now (b .exit)) (now (buffer .entry)) (now (buffer .exit)) ⌝ }
@@ -232,7 +235,8 @@ fn take_oldest(b: &mut [u8], capacity: u8, buffer: &mut [u8])
     }
 }
 
-// The oldest cookie is taken, or nothing is: its stored bytes go to the start of the buffer.
+// Takes the oldest cookie, or nothing: its stored bytes go to the start of the buffer.
+// promise: exports.2
 pub fn take(b: &mut [u8], capacity: u8, takes: bool, buffer: &mut [u8])
     ensures { λ _. ⌜ took (now (b .exit)) (now (buffer .exit)) ≡ takenIn capacity takes (now (b .entry)) (now (buffer .entry)) ⌝ }
 {
@@ -245,7 +249,7 @@ pub fn take(b: &mut [u8], capacity: u8, takes: bool, buffer: &mut [u8])
     take_oldest(b, capacity, buffer);
 }
 
-// A kept cookie goes behind the newest; when all are held the oldest falls out.
+// Puts a kept cookie after the newest. If all are held the oldest falls out.
 fn put(b: &mut [u8], cap: usize, len: u16, kept: &[u8])
     requires { ⌜ (Sized (now b) cap) × (rangeOf cap (getD (now b) 27 0) (getD (now b) 28 0) ≡ true) × (length (now kept) ≤ 724) ⌝ }
     ensures { λ _. ⌜ Becomes cap (now (b .entry)) (now (b .exit)) (putOf cap (stashIn (now (b .entry)) cap) (keptSlot len (now (kept .entry)))) ⌝ }
@@ -261,7 +265,8 @@ fn put(b: &mut [u8], cap: usize, len: u16, kept: &[u8])
     store_at(b, cap, place, next, held, len, kept);
 }
 
-// A cookie as it was kept goes behind the newest.
+// Puts a cookie, as it was kept, after the newest.
+// promise: exports.2
 pub fn lay(b: &mut [u8], capacity: u8, len: u16, kept: &[u8])
     ensures { λ _. ⌜ LaidIn capacity len (now (kept .entry)) (now (b .entry)) (now (b .exit)) ⌝ }
 {
@@ -278,7 +283,7 @@ pub fn lay(b: &mut [u8], capacity: u8, len: u16, kept: &[u8])
     put(b, cap, len, kept);
 }
 
-// The oldest falls out where one more is put and all are held.
+// What falls out when one more is put: the oldest, if all are held.
 fn falls(b: &[u8], cap: usize) -> Fallen
     requires { ⌜ (Sized (now b) cap) × (rangeOf cap (getD (now b) 27 0) (getD (now b) 28 0) ≡ true) ⌝ }
     ensures { λ r. ⌜ r ≡ oldestOf cap (stashIn (now (b .entry)) cap) ⌝ }
@@ -295,7 +300,7 @@ fn falls(b: &[u8], cap: usize) -> Fallen
     Fallen { fell: true, len }
 }
 
-// One more that fell out, or none.
+// Adds one cookie that fell out, or none.
 fn plus(d: Dropped, fallen: Fallen) -> Dropped
     requires { ⌜ Fit (plusOf d fallen) ⌝ }
     ensures { λ r. ⌜ r ≡ plusOf d fallen ⌝ }
@@ -309,7 +314,7 @@ fn plus(d: Dropped, fallen: Fallen) -> Dropped
     d
 }
 
-// A cookie is stored, of which a slot keeps the bytes where it has room for them.
+// Stores a cookie. A slot keeps its bytes only if they fit.
 fn store(b: &mut [u8], capacity: u8, cookie: &[u8]) -> Fallen
     requires { ⌜ Sized (now b) capacity ⌝ }
     ensures { λ r. ⌜ StoredIn capacity (now (cookie .entry)) (now (b .entry)) (now (b .exit)) r ⌝ }
@@ -333,7 +338,7 @@ fn store(b: &mut [u8], capacity: u8, cookie: &[u8]) -> Fallen
     fallen
 }
 
-// The cookies of a list are stored, none of a broken one; what fell out comes back.
+// Stores the cookies of a list, or nothing if the list is broken. Returns what fell out.
 fn store_list(b: &mut [u8], capacity: u8, list: &[u8]) -> Dropped
     requires { ⌜ Sized (now b) capacity ⌝ }
     ensures { λ r. ⌜ RefilledIn capacity (now (list .entry)) (now (b .entry)) (now (b .exit)) r ⌝ }
@@ -353,7 +358,8 @@ fn store_list(b: &mut [u8], capacity: u8, list: &[u8]) -> Dropped
     }
 }
 
-// The cookies of a list are stored, or nothing is; what fell out comes back.
+// Stores the cookies of a list, or nothing. Returns what fell out.
+// promise: exports.2
 pub fn refill(b: &mut [u8], capacity: u8, stores: bool, list: &[u8]) -> Dropped
     ensures { λ r. ⌜ refilled r (now (b .exit)) ≡ refilledIn capacity stores (now (list .entry)) (now (b .entry)) ⌝ }
 {

@@ -32,9 +32,11 @@ module _ (b : List ℕ) (i : TimerInput) (ys : List ℕ) where
   unfolding timerCall
   refused r e k = sym (unless (timerPacked (timedOf (unpacked b) i ys)) (gave NotWhole b ys) (found-ok b r e ∙ k))
 
-  module _ (y : Bytes b) (d : Decision) (f : StateFit (d .state)) (mid : List ℕ) (em : mid ≡ storedState b (d .state)) (rs : Seen) (c zs : List ℕ) (o : ok b ≡ true) where
+  module _ (y : Bytes b) (d : Decision) (f : StateFit (d .state)) (mid : List ℕ) (em : mid ≡ storedState b (d .state)) (rs : Seen) (c zs : List ℕ)
+      (o : ok b ≡ true) where
     abbrev Says : Opened → Type 0
-    Says r = rs ≡ seenIn b (r .settings .capacity) → d ≡ decideOf (r .settings) (r .state) rs i (length ys) → took c zs ≡ takenIn (r .settings .capacity) (d .takes) mid ys → gave (d .answer) c zs ≡ timerCall b i ys
+    Says r = rs ≡ seenIn b (r .settings .capacity) → d ≡ decideOf (r .settings) (r .state) rs i (length ys) →
+        took c zs ≡ takenIn (r .settings .capacity) (d .takes) mid ys → gave (d .answer) c zs ≡ timerCall b i ys
 
     base : Says (opened true b)
     unfolding timerCall unpacked
@@ -48,8 +50,10 @@ module _ (b : List ℕ) (i : TimerInput) (ys : List ℕ) where
         let q = timer.told a i ys rs d (decided a d) left (es ∙ seen-is cap b (of-sized b cap (l .sized))) ed refl refl in
         (λ j. gave (d .answer) (t j .bytes) (t j .left)) ∙ ap timerPacked q ∙ sym (when (timerPacked (timedOf a i ys)) (gave NotWhole b ys) o)
 
-  pub told : Bytes b → (r : Opened) → r ≡ openedOf b → r .ok ≡ true → (d : Decision) → StateFit (d .state) → (mid : List ℕ) → mid ≡ storedState b (d .state) → (rs : Seen) →
-      rs ≡ seenIn b (r .settings .capacity) → d ≡ decideOf (r .settings) (r .state) rs i (length ys) → (c zs : List ℕ) → took c zs ≡ takenIn (r .settings .capacity) (d .takes) mid ys → gave (d .answer) c zs ≡ timerCall b i ys
+  pub told : Bytes b → (r : Opened) → r ≡ openedOf b → r .ok ≡ true → (d : Decision) → StateFit (d .state) → (mid : List ℕ) → mid ≡ storedState b (d .state) →
+      (rs : Seen) →
+      rs ≡ seenIn b (r .settings .capacity) → d ≡ decideOf (r .settings) (r .state) rs i (length ys) → (c zs : List ℕ) →
+      took c zs ≡ takenIn (r .settings .capacity) (d .takes) mid ys → gave (d .answer) c zs ≡ timerCall b i ys
   told y r e k d f mid em rs es ed c zs et =
       let o = found-ok b r e ∙ k in
       subst (Says y d f mid em rs c zs o) (sym (found-is b r e o)) (base y d f mid em rs c zs o) es ed et

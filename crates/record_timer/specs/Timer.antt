@@ -20,5 +20,9 @@ gave r b buffer = record { answer = r; bytes = b; left = buffer }
 abbrev pub timerPacked : Timed → TimerCall
 timerPacked t = gave (t .gives .answer) (packed (t .gives .association)) (t .left)
 
+-- promise exports.3: Each call is the call by value on what the bytes hold, packed again. Bytes that are no record give 32 and stay. So a call on any bytes
+--     has its answer.
+--     edit: record_timer/the_state_stays_as_it_was, record_reply/cookies_of_every_reply_are_stored, record_accept/bytes_that_are_no_record_are_unreachable,
+--       record_new/a_new_association_reads_from_place_1, record_save/one_cookie_is_still_counted
 unfoldable pub timerCall : List ℕ → TimerInput → List ℕ → TimerCall
 timerCall b i buffer = cond (ok b) (timerPacked (timedOf (unpacked b) i buffer)) (gave NotWhole b buffer)

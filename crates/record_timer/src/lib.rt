@@ -1,5 +1,5 @@
 // The timer on a record in lent bytes.
-// Promises: what `timer` promises of the record that the bytes hold, every byte of record and buffer; bytes that are no record give 32 and stay.
+// Promises: what `timer` promises, for the record in the bytes and every byte of record and buffer; bytes that are no record give 32 and do not change.
 // Rule: RULES, part 10; definitions in specs/Timer.antt.
 use time_types::PollInterval;
 use timer_rules::TimerAnswer;
@@ -8,7 +8,8 @@ ghost use mathlib.Core.Path.{_≡_};
 ghost use Rattle.timer_rules.specs.Poll.{timerInput};
 ghost use Rattle.record_timer.specs.Timer.{gave, timerCall};
 
-// What changes of the record is stored where it lies. Copied are its settings, its state, and the bytes of a cookie that is handed out.
+// Stores in place what changes in the record. It copies only the settings, the state, and the bytes of a cookie that is handed out.
+// promise: exports.3
 pub fn timer(
     b: &mut [u8],
     time: u64,

@@ -1,4 +1,5 @@
--- What a reply leaves: on 1, 2, 4, 12, 13, 14, 32 and 33 the record; on 7 to 11 all but the version; on all but 0 the pending request and the fact beside it (No. 3), which 0 clears and makes yes, and the unanswered polls (No. 8), of which 0 leaves none, with reach and tries; always the settings.
+-- What a reply leaves: on 1, 2, 4, 12, 13, 14, 32 and 33 the record; on 7 to 11 all but the version; on all but 0 the pending request and the fact beside it
+-- (No. 3), which 0 clears and makes yes, and the unanswered polls (No. 8), of which 0 leaves none, with reach and tries; always the settings.
 -- And the poll values: the last one stays, and the remote minimum never falls; on all but 0 and 5 it stays too.
 -- Assumes nothing.
 use mathlib.Core.Path.{_≡_, refl, sym, ap, _∙_}
@@ -16,7 +17,25 @@ use Rattle.incoming.specs.declared.ReplyRead.{ReplyRead}
 use Rattle.reply_clauses.specs.After.{Arrival, stepped, afterRateKiss, afterDenial, afterMeasured}
 use Rattle.reply_clauses.proofs.Remote.{raised-keeps}
 use Rattle.reply.specs.declared.ReplyOut.{ReplyOut}
-use Rattle.reply.specs.Numbers.{Given, not-whole, undecodable, broken-list, unexpected-version, never-sent, already-measured, late, no-match, rate, denied, denied-nts, ntsn, other-kiss, bad-stratum, not-server, measured}
+use Rattle.reply.specs.Numbers.{
+  Given,
+  not-whole,
+  undecodable,
+  broken-list,
+  unexpected-version,
+  never-sent,
+  already-measured,
+  late,
+  no-match,
+  rate,
+  denied,
+  denied-nts,
+  ntsn,
+  other-kiss,
+  bad-stratum,
+  not-server,
+  measured,
+}
 
 -- what a reply that gives the number n leaves
 pub record Heard (a : Association) (n : ℕ) (o : ReplyOut) : Type 0 where
@@ -28,6 +47,10 @@ pub record Heard (a : Association) (n : ℕ) (o : ReplyOut) : Type 0 where
   pub version : T (leb 7 n && leb n 11) → o .association ≡ withState a (stepped (a .state))
 
 module _ (a : Association) (read : ReplyRead) (t : Arrival) where
+  -- promise 11.6: Kisses, 10 and 11 leave the request pending.
+  --     edit: reply_rules/a_kiss_clears_the_request
+  -- promise 11.9: The numbers 1, 2, 4, 12, 13, 14, 32 and 33 leave the record unchanged.
+  -- promise: 11.6 (its `request`, `settings`, `version`), 11.9 (its `same`), no8.4 (its `unanswered`), demand.1
   pub heard : {n : ℕ} {o : ReplyOut} → Given a read t n o → Heard a n o
   unfolding stepped afterRateKiss afterDenial afterMeasured
   heard (not-whole e) = record { settings = refl; request = refl; effort = λ _. refl; unanswered = refl; same = λ _. refl; version = absurd }
@@ -63,6 +86,7 @@ unmoved {a} e p =
     record { last = ap (λ (x : Polls). x .last) p; remote = λ _. same ∙ sym (unless _ _ e); least = rw same (≤ℤ-refl (a .state .polls .remote .0)) }
 
 module _ (a : Association) (read : ReplyRead) (t : Arrival) where
+  -- promise: 11.4 (its `remote`, `last`)
   pub paced : {n : ℕ} {o : ReplyOut} → Given a read t n o → Paced a n o
   unfolding stepped afterRateKiss afterDenial afterMeasured
   paced (not-whole e) = unmoved refl refl
@@ -73,7 +97,12 @@ module _ (a : Association) (read : ReplyRead) (t : Arrival) where
   paced (already-measured x e) = unmoved refl refl
   paced (late x e) = unmoved refl refl
   paced (no-match i e) = unmoved refl refl
-  paced (rate m e) = record { last = refl; remote = λ _. refl; least = rate-keeps (a .state .polls .remote .0) (a .settings .max .0) (a .state .polls .last .0) }
+  paced (rate m e) = record {
+    last = refl;
+    remote = λ _. refl;
+    least = rate-keeps (a .state .polls .remote .0) (a .settings .max .0)
+        (a .state .polls .last .0);
+  }
   paced (denied u e f) = unmoved refl refl
   paced (denied-nts u e f) = unmoved refl refl
   paced (ntsn v e) = unmoved refl refl

@@ -22,9 +22,11 @@ reply-decoded-post =
     PostOf reply-decoded.ended (λ w. reply-decoded.clauses (w .𝓤) (w .H) (w .𝓖 .A) (w .𝓜 .mem) (w .𝓡 .run)) (λ w κs a. tt)
     (λ κs a y e. all-models _ (λ w. r-last _) (λ w. refl) (λ w. refl) (λ w. refl))
 
+-- promise: 11.10
 pub reply-determined : DeterminedLent reply-post (λ κs e. now (e .0))
 reply-determined κs a y z e f p q = (p .0 ∙ sym (q .0), p .1 ∙ sym (q .1))
 
+-- promise: 11.10
 pub reply-decoded-determined : DeterminedLent reply-decoded-post (λ κs e. now (e .0))
 reply-decoded-determined κs a y z e f p q = (p .0 ∙ sym (q .0), p .1 ∙ sym (q .1))
 

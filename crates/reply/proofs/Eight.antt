@@ -21,6 +21,7 @@ judgedIn c a list v =
     told (v .answer) (cond (v .stores) (droppedOf c (a .stash) list) noneDropped)
     (record { settings = a .settings; stash = cond (v .stores) (storeListOf c (a .stash) list) (a .stash); state = v .state })
 
+-- promise: no12.4
 pub reply-8 : (a : Association) → a .settings .capacity ≡ 8 → (read : ReplyRead) (t : Arrival) →
     repliedOf a read t ≡ judgedIn 8 a (t .list) (verdictOf (a .settings) (a .state) (seenOf 8 (a .stash)) read t)
 unfolding repliedOf

@@ -22,7 +22,25 @@ use Rattle.incoming.specs.declared.ReplyRead.{ReplyRead}
 use Rattle.reply_clauses.specs.After.{Arrival, stepped, afterRateKiss, afterDenial, afterMeasured}
 use Rattle.reply.specs.declared.ReplyOut.{ReplyOut}
 use Rattle.reply.specs.Reply.{repliedOf}
-use Rattle.reply.specs.Numbers.{Given, not-whole, undecodable, broken-list, unexpected-version, never-sent, already-measured, late, no-match, rate, denied, denied-nts, ntsn, other-kiss, bad-stratum, not-server, measured}
+use Rattle.reply.specs.Numbers.{
+  Given,
+  not-whole,
+  undecodable,
+  broken-list,
+  unexpected-version,
+  never-sent,
+  already-measured,
+  late,
+  no-match,
+  rate,
+  denied,
+  denied-nts,
+  ntsn,
+  other-kiss,
+  bad-stratum,
+  not-server,
+  measured,
+}
 use Rattle.reply.proofs.Numbers.{given}
 
 -- with NTS the cookies are stored, and without it read and held stay zero
@@ -34,7 +52,8 @@ module _ (cap : ℕ) (s : CookieStash) (list : List ℕ) where
   stored-whole true w = store-list-whole cap s w list
   stored-whole false w = w
 
-  stored-idle : (nts : Bool) (uid : List ℕ) → idleValid nts (s .read) (s .held) uid ≡ true → idleValid nts (stored nts .read) (stored nts .held) (noPending true .uid) ≡ true
+  stored-idle : (nts : Bool) (uid : List ℕ) → idleValid nts (s .read) (s .held) uid ≡ true →
+      idleValid nts (stored nts .read) (stored nts .held) (noPending true .uid) ≡ true
   unfolding idleValid noPending
   stored-idle true uid e = refl
   stored-idle false uid e =
@@ -45,7 +64,8 @@ module _ (cap : ℕ) (s : CookieStash) (list : List ℕ) where
 module _ (a : Association) (read : ReplyRead) (t : Arrival) (w : Whole a) where
   -- the upgrade step leads to no retired kind
   stepped-on : versionsValid (a .settings .start) (steppedOf (a .state .version) false) ≡ true
-  stepped-on = versions-kept (a .settings .start) (a .state .version) (steppedOf (a .state .version) false) (stepped-stays (a .state .version .kind) false) (w .versions)
+  stepped-on = versions-kept (a .settings .start) (a .state .version) (steppedOf (a .state .version) false) (stepped-stays (a .state .version .kind) false)
+      (w .versions)
 
   given-whole : {n : ℕ} {o : ReplyOut} → Given a read t n o → Whole (o .association)
   unfolding stepped afterRateKiss afterDenial afterMeasured noPending pendingValid
@@ -57,13 +77,67 @@ module _ (a : Association) (read : ReplyRead) (t : Arrival) (w : Whole a) where
   given-whole (already-measured x e) = w
   given-whole (late x e) = w
   given-whole (no-match i e) = w
-  given-whole (rate m e) = record { settings = w .settings; stash = w .stash; counted = w .counted; versions = stepped-on; request = w .request; idle = w .idle }
-  given-whole (denied u e f) = record { settings = w .settings; stash = w .stash; counted = w .counted; versions = stepped-on; request = w .request; idle = w .idle }
-  given-whole (denied-nts u e f) = record { settings = w .settings; stash = w .stash; counted = w .counted; versions = stepped-on; request = w .request; idle = w .idle }
-  given-whole (ntsn v e) = record { settings = w .settings; stash = w .stash; counted = w .counted; versions = stepped-on; request = w .request; idle = w .idle }
-  given-whole (other-kiss k e) = record { settings = w .settings; stash = w .stash; counted = w .counted; versions = stepped-on; request = w .request; idle = w .idle }
-  given-whole (bad-stratum k e) = record { settings = w .settings; stash = w .stash; counted = w .counted; versions = stepped-on; request = w .request; idle = w .idle }
-  given-whole (not-server s e) = record { settings = w .settings; stash = w .stash; counted = w .counted; versions = stepped-on; request = w .request; idle = w .idle }
+  given-whole (rate m e) = record {
+    settings = w .settings;
+    stash = w .stash;
+    counted = w .counted;
+    versions = stepped-on;
+    request = w .request;
+    idle = w .idle;
+  }
+  given-whole (denied u e f) = record {
+    settings = w .settings;
+    stash = w .stash;
+    counted = w .counted;
+    versions = stepped-on;
+    request = w .request;
+    idle
+        = w .idle;
+  }
+  given-whole (denied-nts u e f) = record {
+    settings = w .settings;
+    stash = w .stash;
+    counted = w .counted;
+    versions = stepped-on;
+    request = w .request;
+    idle
+        = w .idle;
+  }
+  given-whole (ntsn v e) = record {
+    settings = w .settings;
+    stash = w .stash;
+    counted = w .counted;
+    versions = stepped-on;
+    request = w .request;
+    idle = w .idle;
+  }
+  given-whole (other-kiss k e) = record {
+    settings = w .settings;
+    stash = w .stash;
+    counted = w .counted;
+    versions = stepped-on;
+    request = w .request;
+    idle
+        = w .idle;
+  }
+  given-whole (bad-stratum k e) = record {
+    settings = w .settings;
+    stash = w .stash;
+    counted = w .counted;
+    versions = stepped-on;
+    request = w .request;
+    idle
+        = w .idle;
+  }
+  given-whole (not-server s e) = record {
+    settings = w .settings;
+    stash = w .stash;
+    counted = w .counted;
+    versions = stepped-on;
+    request = w .request;
+    idle
+        = w .idle;
+  }
   given-whole (measured s e) =
       record {
         settings = w .settings;
@@ -74,5 +148,6 @@ module _ (a : Association) (read : ReplyRead) (t : Arrival) (w : Whole a) where
         idle = stored-idle (a .settings .capacity) (a .stash) (t .list) (a .settings .nts) (a .state .request .uid) (w .idle);
       }
 
+  -- promise: whole.3, no8.1, no12.3
   pub reply-whole : Whole (repliedOf a read t .association)
   reply-whole = given-whole (given a read t)

@@ -17,7 +17,25 @@ use Rattle.reply_clauses.specs.After.{Arrival, stepped, raised, afterMeasured}
 use Rattle.reply_rules.specs.Answer.{numberOf}
 use Rattle.reply.specs.declared.ReplyOut.{ReplyOut}
 use Rattle.reply.specs.Reply.{repliedOf}
-use Rattle.reply.specs.Numbers.{Given, not-whole, undecodable, broken-list, unexpected-version, never-sent, already-measured, late, no-match, rate, denied, denied-nts, ntsn, other-kiss, bad-stratum, not-server, measured}
+use Rattle.reply.specs.Numbers.{
+  Given,
+  not-whole,
+  undecodable,
+  broken-list,
+  unexpected-version,
+  never-sent,
+  already-measured,
+  late,
+  no-match,
+  rate,
+  denied,
+  denied-nts,
+  ntsn,
+  other-kiss,
+  bad-stratum,
+  not-server,
+  measured,
+}
 use Rattle.reply.proofs.Numbers.{given}
 
 -- the larger of two: neither is above it, and it is one of them

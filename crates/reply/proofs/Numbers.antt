@@ -1,4 +1,5 @@
--- Each number is given exactly under its rule (specs/Numbers.antt), with that rule's answer and record. What is said is over what was read, and so holds of both forms.
+-- Each number is given exactly under its rule (specs/Numbers.antt), with that rule's answer and record. What is said is over what was read, and so holds of
+-- both forms.
 -- Assumes nothing.
 use mathlib.Core.Path.{_≡_, refl, ap, subst, _∙_}
 use mathlib.Core.Bool.{true, not, cond}
@@ -24,7 +25,24 @@ use Rattle.reply_rules.specs.Judge.{leaves, matchedOf, judgeOf, onRead, verdict
 use Rattle.reply.specs.declared.ReplyOut.{ReplyOut}
 use Rattle.reply.specs.Reply.{judged, repliedOf}
 use Rattle.reply.specs.Numbers as N
-use Rattle.reply.specs.Numbers.{not-whole, undecodable, broken-list, unexpected-version, never-sent, already-measured, late, no-match, rate, denied, denied-nts, ntsn, other-kiss, bad-stratum, not-server, measured}
+use Rattle.reply.specs.Numbers.{
+  not-whole,
+  undecodable,
+  broken-list,
+  unexpected-version,
+  never-sent,
+  already-measured,
+  late,
+  no-match,
+  rate,
+  denied,
+  denied-nts,
+  ntsn,
+  other-kiss,
+  bad-stratum,
+  not-server,
+  measured,
+}
 
 module _ (a : Association) (read : ReplyRead) (t : Arrival) where
   abbrev Given : ℕ → ReplyOut → Type 0
@@ -95,7 +113,8 @@ module _ (a : Association) (read : ReplyRead) (t : Arrival) where
   unfolding judgeOf
   to-expected x = let l = x .listed in to-read (l .read-as) ∙ unless _ _ (l .cookies) ∙ unless _ _ (ap not (x .version))
 
-  to-in-time : {r : Reply} → N.InTime a read t r → verdict ≡ cond (not (answers (a .settings .nts) (a .state .request .id) r)) (leaves NoMatch (a .state)) (matched r)
+  to-in-time : {r : Reply} → N.InTime a read t r →
+      verdict ≡ cond (not (answers (a .settings .nts) (a .state .request .id) r)) (leaves NoMatch (a .state)) (matched r)
   to-in-time i =
       let p = live-passed (a .state .request) (t .time) (i .pending) in
       to-expected (i .expected) ∙ unless _ _ (p .sent) ∙ unless _ _ (p .unmeasured) ∙ unless _ _ (p .in-time)
@@ -105,7 +124,8 @@ module _ (a : Association) (read : ReplyRead) (t : Arrival) where
 
   to-ranked : {r : Reply} → N.Ranked a read t r →
       let next = stepped (a .state) in
-      verdict ≡ cond (not (r .server)) (leaves NotServer next) (record { answer = Measured (measurementOf r (t .t1) (t .t4) (t .time)); state = afterMeasured next r; stores = a .settings .nts })
+      verdict ≡ cond (not (r .server)) (leaves NotServer next)
+      (record { answer = Measured (measurementOf r (t .t1) (t .t4) (t .time)); state = afterMeasured next r; stores = a .settings .nts })
   unfolding matchedOf
   to-ranked s =
       let k = s .unkissed in
@@ -142,23 +162,29 @@ module _ (a : Association) (read : ReplyRead) (t : Arrival) where
   ruled (bad-stratum k e) =
       let w = k .acknowledged in
       let v = w .undenied in
-      let u = v .unlimited in
-      (refl, ap (judged a (t .list)) (to-matched (u .matching) ∙ unless _ _ (u .rate) ∙ unless _ _ (v .denial) ∙ unless _ _ (w .ntsn) ∙ unless _ _ (k .kiss) ∙ when _ _ e))
+      let u = v .unlimited in (
+        refl,
+        ap (judged a (t .list)) (to-matched (u .matching) ∙ unless _ _ (u .rate) ∙ unless _ _ (v .denial) ∙ unless _ _ (w .ntsn) ∙ unless _ _ (k .kiss)
+            ∙ when _ _ e),
+      )
   ruled (not-server s e) = (refl, ap (judged a (t .list)) (to-ranked s ∙ when _ _ (ap not e)))
   ruled (measured s e) = (refl, ap (judged a (t .list)) (to-ranked s ∙ unless _ _ (ap not e)))
 
   -- ---- what is given, it is given under the rule of its number
 
+  -- promise: 11.1, no8.6 (at 32)
   pub given : Given (numberOf (repliedOf a read t .replied .answer)) (repliedOf a read t)
   unfolding repliedOf
   given = told
 
   -- where a number's rule holds, that rule's answer and record are given
+  -- promise: 11.1, no8.6 (at 32)
   pub only : {n : ℕ} {o : ReplyOut} → Given n o → repliedOf a read t ≡ o
   unfolding repliedOf
   only g = ruled g .1
 
   -- so a number is given if and only if its rule holds
+  -- promise: 11.1 (of both forms), 11.2 (at 12, 13 and 14), 11.7 (at 10)
   pub number : (n : ℕ) → (numberOf (repliedOf a read t .replied .answer) ≡ n) ↔ ((o : ReplyOut) × Given n o)
   number n = (
     λ e. (repliedOf a read t, subst (λ (k : ℕ). Given k (repliedOf a read t)) e given),

@@ -14,7 +14,27 @@ use Rattle.reply_clauses.specs.Why.{OnlyOne, first, second, third}
 use Rattle.reply_clauses.proofs.Why.{told-apart}
 use Rattle.reply.specs.declared.ReplyOut.{ReplyOut}
 use Rattle.reply.specs.Reply.{repliedOf}
-use Rattle.reply.specs.Numbers.{forThree, WasThree, Given, not-whole, undecodable, broken-list, unexpected-version, never-sent, already-measured, late, no-match, rate, denied, denied-nts, ntsn, other-kiss, bad-stratum, not-server, measured}
+use Rattle.reply.specs.Numbers.{
+  forThree,
+  WasThree,
+  Given,
+  not-whole,
+  undecodable,
+  broken-list,
+  unexpected-version,
+  never-sent,
+  already-measured,
+  late,
+  no-match,
+  rate,
+  denied,
+  denied-nts,
+  ntsn,
+  other-kiss,
+  bad-stratum,
+  not-server,
+  measured,
+}
 use Rattle.reply.proofs.Numbers.{given, only}
 
 module _ (a : Association) (read : ReplyRead) (t : Arrival) where
@@ -38,17 +58,20 @@ module _ (a : Association) (read : ReplyRead) (t : Arrival) where
   was-three (measured s e) w = absurd w
 
   -- each old 3 is one of the new
-  gives : {n : ℕ} {o : ReplyOut} → T (forThree (numberOf (o .replied .answer))) → Given a read t n o → T (forThree (numberOf (repliedOf a read t .replied .answer)))
+  gives : {n : ℕ} {o : ReplyOut} → T (forThree (numberOf (o .replied .answer))) → Given a read t n o →
+      T (forThree (numberOf (repliedOf a read t .replied .answer)))
   gives w g = subst (λ (o : ReplyOut). T (forThree (numberOf (o .replied .answer)))) (sym (only a read t g)) w
 
   now-one : {r : Reply} → WasThree a read t r → T (forThree (numberOf (repliedOf a read t .replied .answer)))
   now-one w = by (told-apart (a .state .request) (t .time) .exactly-one (w .no-live)) refl refl refl
     where
-      by : {n m l : Bool} → OnlyOne n m l → neverSent (a .state .request) ≡ n → alreadyMeasured (a .state .request) ≡ m → expired (a .state .request) (t .time) ≡ l →
+      by : {n m l : Bool} → OnlyOne n m l → neverSent (a .state .request) ≡ n → alreadyMeasured (a .state .request) ≡ m →
+          expired (a .state .request) (t .time) ≡ l →
           T (forThree (numberOf (repliedOf a read t .replied .answer)))
       by first e f g = gives tt (never-sent (w .expected) e)
       by second e f g = gives tt (already-measured (w .expected) f)
       by third e f g = gives tt (late (w .expected) g)
 
+  -- promise: no3.4 (both forms of the call)
   pub for-three : T (forThree (numberOf (repliedOf a read t .replied .answer))) ↔ ((r : Reply) × WasThree a read t r)
   for-three = (was-three (given a read t), λ (r, w). now-one w)

@@ -1,5 +1,5 @@
--- RULES, "The numbers": when a reply gives each number, and which answer and record come with it, in the order of the tests.
--- A reply of either form comes down to what is read of it.
+-- RULES, "The numbers": when a reply returns each number, and with which answer and record, in the order of the tests.
+-- Of a reply of either form, only what is read from it counts.
 -- Assumes nothing.
 use mathlib.Core.Path.{_≡_}
 use mathlib.Core.Bool.{Bool, true, false, _||_, cond}
@@ -13,13 +13,45 @@ use Rattle.association.specs.Record.{wholeOf, withState, withStash}
 use Rattle.incoming.specs.declared.Reply.{Reply}
 use Rattle.incoming.specs.declared.ReplyRead.{ReplyRead}
 use Rattle.incoming.specs.declared.ReplyRead.the-variants as R
-use Rattle.reply_rules.specs.declared.ReplyAnswer.the-variants.{Measured, Undecodable, UnexpectedVersion, NeverSent, AlreadyMeasured, Expired, NoMatch, Rate, Denied, DeniedNts, Ntsn, OtherKiss, BadStratum, NotServer, NotWhole, BrokenList}
+use Rattle.reply_rules.specs.declared.ReplyAnswer.the-variants.{
+  Measured,
+  Undecodable,
+  UnexpectedVersion,
+  NeverSent,
+  AlreadyMeasured,
+  Expired,
+  NoMatch,
+  Rate,
+  Denied,
+  DeniedNts,
+  Ntsn,
+  OtherKiss,
+  BadStratum,
+  NotServer,
+  NotWhole,
+  BrokenList,
+}
 use Rattle.reply.specs.declared.ReplyOut.{ReplyOut}
-use Rattle.reply_clauses.specs.After.{Arrival, live, noLive, neverSent, alreadyMeasured, expired, answers, denies, stepped, afterRateKiss, afterDenial, afterMeasured, measurementOf}
+use Rattle.reply_clauses.specs.After.{
+  Arrival,
+  live,
+  noLive,
+  neverSent,
+  alreadyMeasured,
+  expired,
+  answers,
+  denies,
+  stepped,
+  afterRateKiss,
+  afterDenial,
+  afterMeasured,
+  measurementOf,
+}
 use Rattle.cookielist.specs.List.{listBroken}
 use Rattle.reply.specs.Reply.{told, out}
 
 -- the three numbers in 3's place (RULES, No. 3)
+-- promise: no3.4
 abbrev pub forThree : ℕ → Bool
 forThree n = eqb n 12 || eqb n 13 || eqb n 14
 
@@ -41,7 +73,8 @@ module _ (a : Association) (read : ReplyRead) (t : Arrival) where
     pub listed : Listed r
     pub version : expectsOf (a .state .version) (r .version) ≡ true
 
-  -- there 3 was given before No. 3: no pending request, or its deadline < now
+  -- where 3 was returned before No. 3: no pending request, or its deadline < now
+  -- promise: no3.4
   pub record WasThree (r : Reply) : Type 0 where
     pub expected : Expected r
     pub no-live : noLive (a .state .request) (t .time) ≡ true
@@ -82,6 +115,7 @@ module _ (a : Association) (read : ReplyRead) (t : Arrival) where
     pub stratum : ltb 16 (r .stratum) ≡ false
 
   -- ---- the numbers, each with its answer and the record after it
+  -- promise: 11.1, no5.5
   pub data Given : ℕ → ReplyOut → Type 0 where
     not-whole : wholeOf a ≡ false → Given 32 (out NotWhole a)
     undecodable : wholeOf a ≡ true → read ≡ R.Undecodable → Given 1 (out Undecodable a)
@@ -100,6 +134,9 @@ module _ (a : Association) (read : ReplyRead) (t : Arrival) where
     other-kiss : {r : Reply} → Acknowledged r → r .kisses .any ≡ true → Given 9 (out OtherKiss (withState a (stepped (a .state))))
     bad-stratum : {r : Reply} → Unkissed r → ltb 16 (r .stratum) ≡ true → Given 10 (out BadStratum (withState a (stepped (a .state))))
     not-server : {r : Reply} → Ranked r → r .server ≡ false → Given 11 (out NotServer (withState a (stepped (a .state))))
-    -- with NTS the cookies are stored in order, and what fell out is told
+    -- with NTS the cookies are stored in order, and what fell out is reported
     measured : {r : Reply} → Ranked r → r .server ≡ true →
-        Given 0 (told (Measured (measurementOf r (t .t1) (t .t4) (t .time))) (cond (a .settings .nts) (droppedOf (a .settings .capacity) (a .stash) (t .list)) noneDropped) (withStash (withState a (afterMeasured (stepped (a .state)) r)) (cond (a .settings .nts) (storeListOf (a .settings .capacity) (a .stash) (t .list)) (a .stash))))
+        Given 0 (told (Measured (measurementOf r (t .t1) (t .t4) (t .time)))
+        (cond (a .settings .nts) (droppedOf (a .settings .capacity) (a .stash) (t .list)) noneDropped)
+        (withStash (withState a (afterMeasured (stepped (a .state)) r))
+        (cond (a .settings .nts) (storeListOf (a .settings .capacity) (a .stash) (t .list)) (a .stash))))

@@ -1,5 +1,5 @@
-// The reply, in both forms. The cores go over a record by value; above them thin calls update the record that the caller lends.
-// Promises: each number exactly under its rule, and the next record; a whole record stays whole, and a refusal leaves it as it was.
+// The reply, in both forms. The core functions take a record by value; thin calls above them update the record that the caller lends.
+// Promises: each number exactly when its rule says so, and the next record; a whole record stays whole, and a rejected reply does not change it.
 // Rule: RULES, part 11 and No. 5; definitions in specs/Reply.antt, number by number in specs/Numbers.antt.
 use association::Association;
 use cookiestash::Dropped;
@@ -11,19 +11,19 @@ ghost use mathlib.Core.Path.{_≡_};
 ghost use Rattle.reply_clauses.specs.After.{arrival};
 ghost use Rattle.reply.specs.Reply.{judged, replyOf, replyDecodedOf};
 
-// What a caller is told of a reply: its answer, and what fell out of the stash while the reply's cookies were stored.
+// What a caller gets from a reply: its answer, and what fell out of the stash while the reply's cookies were stored.
 pub struct Replied {
     pub answer: ReplyAnswer,
     pub dropped: Dropped,
 }
 
-// What the reply gives: what is told of it, and the next record.
+// What the reply returns: what the caller gets, and the next record.
 pub struct ReplyOut {
     pub replied: Replied,
     pub association: Association,
 }
 
-// What was judged is done: the next state is stored, and where cookies are stored those of the list go into the stash.
+// Carries out a verdict: stores the next state and, if the verdict says so, the cookies of the list.
 fn judged(a: Association, verdict: Verdict, list: &[u8]) -> ReplyOut
     ensures { λ r. ⌜ r ≡ judged a (now (list .entry)) verdict ⌝ }
 {
@@ -51,6 +51,7 @@ fn judged(a: Association, verdict: Verdict, list: &[u8]) -> ReplyOut
 }
 
 // The byte form (V3, V4), on a record by value.
+// promise: 11.1, no5.5
 pub fn reply_core(
     a: Association,
     packet: &[u8],
@@ -83,6 +84,7 @@ pub fn reply_core(
 }
 
 // The decoded form (V5 only), on a record by value.
+// promise: 11.1, no5.5
 pub fn reply_decoded_core(
     a: Association,
     d: DecodedReply,
@@ -101,7 +103,8 @@ pub fn reply_decoded_core(
     judged(a, verdict, list)
 }
 
-// The byte form: the association that the caller lends is updated.
+// The byte form. Updates the association that the caller lends.
+// promise: 11.1, 11.10, no5.5, no12.2
 pub fn reply(
     a: &mut Association,
     packet: &[u8],
@@ -112,7 +115,8 @@ pub fn reply(
     t4: NtpTimestamp,
     time: u64,
 ) -> Replied
-    ensures { λ r. ⌜ (r ≡ replyOf (now (a .entry)) (now (packet .entry)) end (now (decrypted .entry)) (arrival (now (list .entry)) t1 t4 time) .replied) × (now (a .exit) ≡ replyOf (now (a .entry)) (now (packet .entry)) end (now (decrypted .entry)) (arrival (now (list .entry)) t1 t4 time) .association) ⌝ }
+    ensures { λ r. ⌜ (r ≡ replyOf (now (a .entry)) (now (packet .entry)) end (now (decrypted .entry)) (arrival (now (list .entry)) t1 t4 time) .replied) ×
+        (now (a .exit) ≡ replyOf (now (a .entry)) (now (packet .entry)) end (now (decrypted .entry)) (arrival (now (list .entry)) t1 t4 time) .association) ⌝ }
 {
     let old = *a;
     let out = reply_core(old, packet, end, decrypted, list, t1, t4, time);
@@ -120,7 +124,8 @@ pub fn reply(
     out.replied
 }
 
-// The decoded form: the association that the caller lends is updated.
+// The decoded form. Updates the association that the caller lends.
+// promise: 11.1, 11.10, no5.5, no12.2
 pub fn reply_decoded(
     a: &mut Association,
     d: DecodedReply,
@@ -129,7 +134,8 @@ pub fn reply_decoded(
     t4: NtpTimestamp,
     time: u64,
 ) -> Replied
-    ensures { λ r. ⌜ (r ≡ replyDecodedOf (now (a .entry)) d (arrival (now (list .entry)) t1 t4 time) .replied) × (now (a .exit) ≡ replyDecodedOf (now (a .entry)) d (arrival (now (list .entry)) t1 t4 time) .association) ⌝ }
+    ensures { λ r. ⌜ (r ≡ replyDecodedOf (now (a .entry)) d (arrival (now (list .entry)) t1 t4 time) .replied) ×
+        (now (a .exit) ≡ replyDecodedOf (now (a .entry)) d (arrival (now (list .entry)) t1 t4 time) .association) ⌝ }
 {
     let old = *a;
     let out = reply_decoded_core(old, d, list, t1, t4, time);

@@ -24,6 +24,7 @@ was-late : (present late : Bool) → (present && late) ≡ true → (not present
 was-late true late e = e
 was-late false late e = refl
 
+-- promise: no3.4
 pub told-apart : (q : Pending) (time : ℕ) → ToldApart q time
 told-apart q time =
     record {
@@ -57,13 +58,15 @@ pub expired-only : (q : Pending) (time : ℕ) → expired q time ≡ true → (n
 expired-only q time e = expired-alone (q .present) (q .answered) (ltb (q .deadline) time) e
 
 -- what the three tests leave is a live request
-left-live : (present answered late : Bool) → (not present && not answered) ≡ false → (not present && answered) ≡ false → (present && late) ≡ false → (present && not late) ≡ true
+left-live : (present answered late : Bool) → (not present && not answered) ≡ false → (not present && answered) ≡ false → (present && late) ≡ false →
+    (present && not late) ≡ true
 left-live true answered late e f g = ap not g
 left-live false true late e f g = sym f
 left-live false false late e f g = sym e
 
 pub passed-live : (q : Pending) (time : ℕ) → neverSent q ≡ false → alreadyMeasured q ≡ false → expired q time ≡ false → live q time ≡ true
-passed-live q time e f g = ap (λ (b : Bool). q .present && b) (not-late (q .deadline) time) ∙ left-live (q .present) (q .answered) (ltb (q .deadline) time) e f g
+passed-live q time e f g =
+    ap (λ (b : Bool). q .present && b) (not-late (q .deadline) time) ∙ left-live (q .present) (q .answered) (ltb (q .deadline) time) e f g
 
 -- and where a request is live, each of them is passed
 pub record Passed (q : Pending) (time : ℕ) : Type 0 where
@@ -71,7 +74,8 @@ pub record Passed (q : Pending) (time : ℕ) : Type 0 where
   pub unmeasured : alreadyMeasured q ≡ false
   pub in-time : expired q time ≡ false
 
-live-left : (present answered late : Bool) → (present && not late) ≡ true → ((not present && not answered) ≡ false) × ((not present && answered) ≡ false) × ((present && late) ≡ false)
+live-left : (present answered late : Bool) → (present && not late) ≡ true → ((not present && not answered) ≡ false) × ((not present && answered) ≡ false) ×
+    ((present && late) ≡ false)
 live-left true answered true e = (refl, refl, sym e)
 live-left true answered false e = (refl, refl, refl)
 live-left false answered late e = absurd (false≢true e)

@@ -36,31 +36,42 @@ unexpired deadline time = leb time deadline
 abbrev pub live : Pending → ℕ → Bool
 live q time = q .present && unexpired (q .deadline) time
 
--- RULES, No. 3, tells apart what was 3: no pending request, or its deadline < now
+-- what was 3 before RULES, No. 3: no pending request, or its deadline < now
+-- promise no3.4: Each old 3 is exactly one of 12, 13 and 14, and each of these was a 3.
+-- promise: no3.4 (the old 3)
 abbrev pub noLive : Pending → ℕ → Bool
 noLive q time = not (q .present) || ltb (q .deadline) time
 
 -- 12: never sent: nothing is pending, and no reply has been measured since the last sent poll
+-- promise 11.2: Number 12: never sent. 13: already measured. 14: the deadline of the pending request < now.
+--     edit: reply_rules/expiry_clears_the_request, reply_clauses/an_expired_reply_is_believed, edge_cases/a_request_lives_a_moment_longer
 abbrev pub neverSent : Pending → Bool
 neverSent q = not (q .present) && not (q .answered)
 
 -- 13: already measured: nothing is pending, and a reply has been measured since the last sent poll
+-- promise: 11.2
 abbrev pub alreadyMeasured : Pending → Bool
 alreadyMeasured q = not (q .present) && q .answered
 
 -- 14: a request is pending, and its deadline < now
+-- promise: 11.2
 abbrev pub expired : Pending → ℕ → Bool
 expired q time = q .present && ltb (q .deadline) time
 
 -- 4: the 64 bits equal the pending ones; with NTS also the uid
+-- promise 11.3: Number 4: the identifiers do not match.
+--     edit: reply_clauses/untrusted_uid_for_the_encrypted
 abbrev pub answers : Bool → ℕ → Reply → Bool
 answers nts id r = eqb (r .origin) id && (not nts || uidMatches (r .authenticated) (r .encrypted) (r .untrusted) (r .kisses .ntsn))
 
 -- DENY or RSTR
+-- promise 11.5: Numbers 6 and 7: DENY or RSTR.
 abbrev pub denies : Reply → Bool
 denies r = r .kisses .deny || r .kisses .rstr
 
--- the upgrade step, on a matching reply, which steps as a plain one does (RULES, part 4 and No. 14)
+-- the upgrade step, on a matching reply; each steps as a plain one does (RULES, part 4 and No. 14)
+-- promise 4.3: A matching reply makes the step of a plain reply.
+--     edit: reply_clauses/a_reply_steps_as_an_upgrade
 unfoldable pub stepped : State → State
 stepped s =
     record {
@@ -72,6 +83,8 @@ stepped s =
     }
 
 -- 5: RATE: remote minimum becomes the largest of the old one, min(old + 1, max) and the last poll (RULES, No. 7)
+-- promise 11.4: Number 5: RATE.
+--     edit: time_types/rate_forgets_the_last_poll
 unfoldable pub afterRateKiss : Settings → State → State
 afterRateKiss g s =
     record {
@@ -83,6 +96,7 @@ afterRateKiss g s =
     }
 
 -- 6: denial noted
+-- promise: 11.5
 unfoldable pub afterDenial : State → State
 afterDenial s =
     record {
@@ -94,10 +108,17 @@ afterDenial s =
     }
 
 -- V5 raises the remote minimum to a larger poll, with no upper limit
+-- promise: 11.8
 abbrev pub raised : PollInterval → Reply → PollInterval
 raised remote r = cond (eqb (r .version) 5) (interval (larger (remote .0) (r .poll .0))) remote
 
--- 0: reach bit, no unanswered poll (No. 8), denial cleared, pending cleared, a reply measured since the last sent poll (No. 3), stratum and reference identifier taken
+-- 0: reach bit, no unanswered poll (No. 8), denial cleared, pending cleared, a reply measured since the last sent poll (No. 3), stratum and reference
+-- identifier taken
+-- promise 11.8: A measured reply sets the reach bit, makes the unanswered polls 0, clears denial and pending request, and takes stratum and reference
+--     identifier. V5 raises the remote minimum. The cookies are stored in order. The measurement is that of part 5.
+--     edit: reply/the_new_cookies_are_not_stored, reply_rules/cookies_are_stored_without_nts
+-- promise no8.4: A measured reply makes the unanswered polls 0. Any other reply leaves them.
+-- promise: no3.1
 unfoldable pub afterMeasured : State → Reply → State
 afterMeasured s r =
     record {
@@ -109,6 +130,7 @@ afterMeasured s r =
     }
 
 -- the measurement (RFC 5905, section 8); its monotonic time is the reply's now
+-- promise: 11.8
 unfoldable pub measurementOf : Reply → NtpTimestamp → NtpTimestamp → ℕ → Measurement
 measurementOf r t1 t4 time =
     record {

@@ -1,5 +1,5 @@
-// The clauses of a reply: when it answers what is pending, what each kind of it leaves of the state, and the measurement.
-// Promises: each function is one clause of the rule; what a clause does not name stays.
+// The clauses of a reply: when it answers what is pending, what each kind of reply does to the state, and the measurement.
+// Promises: each function is one clause of the rule; what a clause does not name does not change.
 // Rule: RULES, parts 8, 9 and 11; definitions in specs/After.antt.
 use association::Effort;
 use association::Pending;
@@ -16,9 +16,10 @@ use time_types::NtpTimestamp;
 use time_types::PollInterval;
 ghost use mathlib.Core.Path.{_≡_};
 ghost use mathlib.Core.Bool.{_||_};
-ghost use Rattle.reply_clauses.specs.After.{neverSent, alreadyMeasured, expired, answers, stepped, afterRateKiss, afterDenial, raised, afterMeasured, measurementOf};
+ghost use Rattle.reply_clauses.specs.After.{neverSent, alreadyMeasured, expired, answers, stepped, afterRateKiss};
+ghost use Rattle.reply_clauses.specs.After.{afterDenial, raised, afterMeasured, measurementOf};
 
-// What a measured reply says of the clocks.
+// What a measured reply says about the clocks.
 pub struct Measurement {
     pub delay: NtpDuration,
     pub offset: NtpDuration,
@@ -34,6 +35,7 @@ pub struct Measurement {
 }
 
 // Nothing is pending, and nothing was: no poll has been sent.
+// promise: 11.2
 pub fn never_sent(request: Pending) -> bool
     ensures { λ r. ⌜ r ≡ neverSent request ⌝ }
 {
@@ -45,6 +47,7 @@ pub fn never_sent(request: Pending) -> bool
 }
 
 // Nothing is pending any more: a reply to the last poll has been measured.
+// promise: 11.2
 pub fn already_measured(request: Pending) -> bool
     ensures { λ r. ⌜ r ≡ alreadyMeasured request ⌝ }
 {
@@ -55,7 +58,8 @@ pub fn already_measured(request: Pending) -> bool
     }
 }
 
-// A request is pending, and its deadline is passed.
+// A request is pending, and its deadline has passed.
+// promise: 11.2
 pub fn expired(request: Pending, time: u64) -> bool
     ensures { λ r. ⌜ r ≡ expired request time ⌝ }
 {
@@ -66,7 +70,8 @@ pub fn expired(request: Pending, time: u64) -> bool
     }
 }
 
-// Whether a reply answers the request of an identifier; with NTS also by its unique identifier. This is what keeps out replies that are old, doubled or forged.
+// Whether a reply answers the request with this identifier; with NTS also by its unique identifier. This keeps out old, repeated and forged replies.
+// promise: 11.3
 pub fn answers(nts: bool, id: u64, reply: Reply) -> bool
     ensures { λ r. ⌜ r ≡ answers nts id reply ⌝ }
 {
@@ -83,13 +88,15 @@ pub fn answers(nts: bool, id: u64, reply: Reply) -> bool
     uid_groups::uid_matches(authenticated, encrypted, untrusted, kisses.ntsn)
 }
 
+// promise: 11.5
 pub fn denies(kisses: Kisses) -> bool
     ensures { λ r. ⌜ r ≡ (kisses .deny || kisses .rstr) ⌝ }
 {
     if kisses.deny { true } else { kisses.rstr }
 }
 
-// The upgrade step, on a matching reply. Each steps as a plain one does: only the retired kind of version told two kinds of reply apart.
+// The upgrade step, on a matching reply. Every reply steps as a plain one does: only the retired kind of version distinguished two kinds of reply.
+// promise: 4.3
 pub fn stepped(s: State) -> State
     ensures { λ r. ⌜ r ≡ stepped s ⌝ }
 {
@@ -101,6 +108,7 @@ pub fn stepped(s: State) -> State
 }
 
 // A RATE kiss raises the remote minimum.
+// promise: 11.4
 pub fn after_rate_kiss(settings: Settings, s: State) -> State
     ensures { λ r. ⌜ r ≡ afterRateKiss settings s ⌝ }
 {
@@ -115,7 +123,8 @@ pub fn after_rate_kiss(settings: Settings, s: State) -> State
     next
 }
 
-// A denial is noted, until a reply is measured: when the timer gives up it then demobilizes instead of beginning again.
+// A denial is noted until a reply is measured. If the timer gives up meanwhile, it demobilizes instead of starting again.
+// promise: 11.5
 pub fn after_denial(s: State) -> State
     ensures { λ r. ⌜ r ≡ afterDenial s ⌝ }
 {
@@ -126,7 +135,7 @@ pub fn after_denial(s: State) -> State
     next
 }
 
-// A V5 reply says with its poll how seldom the server wants to be asked; it only ever raises the remote minimum.
+// The poll of a V5 reply says how rarely the server wants to be asked. It can only raise the remote minimum.
 fn raised(remote: PollInterval, reply: Reply) -> PollInterval
     ensures { λ r. ⌜ r ≡ raised remote reply ⌝ }
 {
@@ -138,7 +147,8 @@ fn raised(remote: PollInterval, reply: Reply) -> PollInterval
     }
 }
 
-// What a measured reply leaves.
+// The state after a measured reply.
+// promise: 11.8, no3.1, no8.4
 pub fn after_measured(s: State, reply: Reply) -> State
     ensures { λ r. ⌜ r ≡ afterMeasured s reply ⌝ }
 {
@@ -161,7 +171,7 @@ pub fn after_measured(s: State, reply: Reply) -> State
         refid,
         denial: false,
     };
-    // Nothing is pending any more, so that the same reply, come twice, is not measured twice.
+    // Nothing is pending any more, so that a reply that comes twice is not measured twice.
     let request = Pending::none(true);
     let version = s.version;
     State {
@@ -173,7 +183,8 @@ pub fn after_measured(s: State, reply: Reply) -> State
     }
 }
 
-// The measurement of a reply to a request that left at t1, and which came at t4.
+// The measurement of a reply that came at t4, to a request that left at t1.
+// promise: 11.8
 pub fn measured(reply: Reply, t1: NtpTimestamp, t4: NtpTimestamp, time: u64) -> Measurement
     ensures { λ r. ⌜ r ≡ measurementOf reply t1 t4 time ⌝ }
 {

@@ -9,8 +9,35 @@ use Rattle.association.specs.declared.Settings.{Settings}
 use Rattle.association.specs.declared.State.{State}
 use Rattle.incoming.specs.declared.Reply.{Reply}
 use Rattle.reply_clauses.specs.declared.Measurement.{Measurement}
-use Rattle.reply_clauses.specs.After.{Arrival, neverSent, alreadyMeasured, expired, answers, denies, stepped, afterRateKiss, afterDenial, afterMeasured, measurementOf}
-use Rattle.reply_rules.specs.declared.ReplyAnswer.the-variants.{Measured, UnexpectedVersion, NeverSent, AlreadyMeasured, Expired, NoMatch, Rate, Denied, DeniedNts, Ntsn, OtherKiss, BadStratum, NotServer, BrokenList}
+use Rattle.reply_clauses.specs.After.{
+  Arrival,
+  neverSent,
+  alreadyMeasured,
+  expired,
+  answers,
+  denies,
+  stepped,
+  afterRateKiss,
+  afterDenial,
+  afterMeasured,
+  measurementOf,
+}
+use Rattle.reply_rules.specs.declared.ReplyAnswer.the-variants.{
+  Measured,
+  UnexpectedVersion,
+  NeverSent,
+  AlreadyMeasured,
+  Expired,
+  NoMatch,
+  Rate,
+  Denied,
+  DeniedNts,
+  Ntsn,
+  OtherKiss,
+  BadStratum,
+  NotServer,
+  BrokenList,
+}
 use Rattle.reply_rules.specs.declared.Verdict.{Verdict}
 use Rattle.reply_rules.specs.Judge.{leaves, matchedOf, judgeOf}
 use Rattle.reply_rules.specs.Told.{afterOf, storesOf, toldOf}
@@ -27,7 +54,8 @@ module _ (g : Settings) (s : State) (r : Reply) where
       (cond other (leaves NotServer (stepped s))
       (record { answer = Measured m; state = afterMeasured (stepped s) r; stores = g .nts }))))))
 
-  match-told : (rate denied nts ntsn any high other : Bool) (m : Measurement) → let v = after-match rate denied nts ntsn any high other m in v ≡ toldOf g s r (v .answer)
+  match-told : (rate denied nts ntsn any high other : Bool) (m : Measurement) → let v = after-match rate denied nts ntsn any high other m in
+      v ≡ toldOf g s r (v .answer)
   unfolding toldOf afterOf storesOf
   match-told true b n c d e f m = refl
   match-told false true true c d e f m = refl
@@ -69,4 +97,5 @@ module _ (g : Settings) (s : State) (r : Reply) where
       (expired (s .request) (t .time))
       (not (answers (g .nts) (s .request .id) r))
       _
-      (match-told (r .kisses .rate) (denies r) (g .nts) (r .kisses .ntsn) (r .kisses .any) (ltb 16 (r .stratum)) (not (r .server)) (measurementOf r (t .t1) (t .t4) (t .time)))
+      (match-told (r .kisses .rate) (denies r) (g .nts) (r .kisses .ntsn) (r .kisses .any) (ltb 16 (r .stratum)) (not (r .server))
+      (measurementOf r (t .t1) (t .t4) (t .time)))

@@ -7,6 +7,7 @@ use Prim.Native.Nat.{ℕ}
 use Rattle.incoming.specs.Incoming.{readOf}
 use Rattle.incoming.proofs.WithoutNts.{without-nts}
 
-pub read-awaited : (nts : Bool) (uid other : List ℕ) (p : List ℕ) (end : ℕ) (decrypted : List ℕ) → readOf nts (cond nts uid other) p end decrypted ≡ readOf nts uid p end decrypted
+pub read-awaited : (nts : Bool) (uid other : List ℕ) (p : List ℕ) (end : ℕ) (decrypted : List ℕ) →
+    readOf nts (cond nts uid other) p end decrypted ≡ readOf nts uid p end decrypted
 read-awaited true uid other p end decrypted = refl
 read-awaited false uid other p end decrypted = without-nts other uid p end decrypted decrypted

@@ -10,6 +10,7 @@ use Rattle.reply_clauses.specs.After.{Arrival, afterMeasured, measurementOf}
 use Rattle.reply_clauses.proofs.Untrusted.{withUntrusted, answers-same}
 use Rattle.reply_rules.specs.Judge.{matchedOf, judgeOf}
 
-pub judged-same : (r : Reply) (u : Uid) → r .kisses .ntsn ≡ false → (g : Settings) (s : State) (t : Arrival) → judgeOf g s (withUntrusted r u) t ≡ judgeOf g s r t
+pub judged-same : (r : Reply) (u : Uid) → r .kisses .ntsn ≡ false → (g : Settings) (s : State) (t : Arrival) →
+    judgeOf g s (withUntrusted r u) t ≡ judgeOf g s r t
 unfolding judgeOf matchedOf afterMeasured measurementOf
 judged-same r u plain g s t = rw (answers-same r u plain (g .nts) (s .request .id))

@@ -7,7 +7,24 @@ use Prim.Native.Nat.{ℕ}
 use lib.Dec.{eqb}
 use Rattle.association.specs.Actions.{Action, updateSystem, demobilize}
 use Rattle.reply_rules.specs.declared.ReplyAnswer.{ReplyAnswer}
-use Rattle.reply_rules.specs.declared.ReplyAnswer.the-variants.{Measured, Undecodable, UnexpectedVersion, NeverSent, AlreadyMeasured, Expired, NoMatch, Rate, Denied, DeniedNts, Ntsn, OtherKiss, BadStratum, NotServer, NotWhole, BrokenList}
+use Rattle.reply_rules.specs.declared.ReplyAnswer.the-variants.{
+  Measured,
+  Undecodable,
+  UnexpectedVersion,
+  NeverSent,
+  AlreadyMeasured,
+  Expired,
+  NoMatch,
+  Rate,
+  Denied,
+  DeniedNts,
+  Ntsn,
+  OtherKiss,
+  BadStratum,
+  NotServer,
+  NotWhole,
+  BrokenList,
+}
 
 abbrev pub numberOf : ReplyAnswer → ℕ
 -- measured
@@ -40,6 +57,7 @@ numberOf NotWhole = 32
 numberOf BrokenList = 33
 
 -- actions follow from the number: 0 from a reply is one system update with the measurement; 7 demobilizes; others none
+-- promise actions.3: Actions of a reply, number by number; demand 3 cites them.
 abbrev pub actionsOf : ℕ → List Action
 actionsOf n = cond (eqb n 0) (updateSystem ∷ []) (cond (eqb n 7) (demobilize ∷ []) [])
 

@@ -1,4 +1,4 @@
--- The verdict that an answer comes to: the next state, and whether cookies are stored, follow from its number (RULES, part 11).
+-- The verdict for an answer: the next state, and whether cookies are stored, follow from its number (RULES, part 11).
 -- Assumes nothing.
 use mathlib.Core.Path.{_≡_}
 use mathlib.Core.Bool.{Bool, false, cond}

@@ -1,5 +1,5 @@
-// The rules of a reply, over the settings, the state and what is seen of the stash: one judge for both forms. `reply` makes the calls of them.
-// Promises: the verdict, with its answer and the next state, is the one of the rule, in its order, and actions follow from its number.
+// The rules of a reply, over the settings, the state and the summary of the stash: one judge for both forms. `reply` calls it.
+// Promises: the verdict, with its answer and the next state, is the rule's, in its order, and the actions follow from its number.
 // Rule: RULES, parts 8, 9 and 11; definitions in specs/Judge.antt and specs/Answer.antt.
 use association::Pending;
 use association::Settings;
@@ -25,7 +25,7 @@ pub enum ReplyAnswer {
     Measured(Measurement),
     Undecodable,
     UnexpectedVersion,
-    // No request is live: none was sent yet, a reply to it was measured, or its deadline is passed.
+    // No request is live: none was sent yet, a reply to it was measured, or its deadline has passed.
     NeverSent,
     AlreadyMeasured,
     Expired,
@@ -43,7 +43,7 @@ pub enum ReplyAnswer {
     BrokenList,
 }
 
-// What the tests come to: the answer, the next state, and whether the reply's cookies are stored.
+// The result of the tests: the answer, the next state, and whether the reply's cookies are stored.
 pub struct Verdict {
     pub answer: ReplyAnswer,
     pub state: State,
@@ -64,7 +64,7 @@ fn list_broken(nts: bool, list: &[u8]) -> bool
     }
 }
 
-// The answer to a matching reply: 5 to 11 in order, else 0.
+// The answer to a matching reply: 5 to 11 in order, otherwise 0.
 fn matched(
     settings: Settings,
     reply: Reply,
@@ -75,29 +75,29 @@ fn matched(
     ensures { λ r. ⌜ Matched settings reply t1 t4 time r ⌝ }
 {
     let kisses = reply.kisses;
-    // The timestamps of a kiss need not be right, so nothing is measured of it.
+    // The timestamps of a kiss need not be right, so a kiss is not measured.
     if kisses.rate {
         return ReplyAnswer::Rate;
     }
     if reply_clauses::denies(kisses) {
-        // With NTS a denial that matches is signed. Without, it is easily forged: it is noted, and counts once nothing else is heard.
+        // With NTS a denial that matches is signed. Without NTS it is easily forged: it is noted, and counts only if nothing else is heard.
         if settings.nts {
             return ReplyAnswer::DeniedNts;
         }
         return ReplyAnswer::Denied;
     }
-    // It comes without a signature and is easily forged, so a true reply is still awaited.
+    // It is not signed and easily forged, so a true reply is still awaited.
     if kisses.ntsn {
         return ReplyAnswer::Ntsn;
     }
-    // A kiss that is not understood asks for nothing.
+    // An unknown kiss asks for nothing.
     if kisses.any {
         return ReplyAnswer::OtherKiss;
     }
     if MAX_STRATUM < reply.stratum {
         return ReplyAnswer::BadStratum;
     }
-    // Only a server's answer is measured: no other mode is spoken here.
+    // Only a server's answer is measured: no other mode is used here.
     if !reply.server {
         return ReplyAnswer::NotServer;
     }
@@ -135,14 +135,14 @@ fn judge(
     if reply_clauses::expired(request, time) {
         return ReplyAnswer::Expired;
     }
-    // This comes before every kiss. A kiss that answers nothing is not believed: else anybody could stop an association by sending it one.
+    // This comes before every kiss. A kiss that answers nothing is not believed: otherwise anybody could stop an association by sending it one.
     if !reply_clauses::answers(settings.nts, request.id, reply) {
         return ReplyAnswer::NoMatch;
     }
     matched(settings, reply, t1, t4, time)
 }
 
-// The state that a reply leaves follows from the number of its answer: from 5 to 11 and at 0 the reply matched, and the upgrade step is made.
+// The state after a reply follows from the number of its answer: with 5 to 11 and with 0 the reply matched, and the upgrade step is made.
 fn after(settings: Settings, s: State, reply: Reply, number: u8) -> State
     ensures { λ r. ⌜ r ≡ afterOf settings s reply number ⌝ }
 {
@@ -173,7 +173,7 @@ fn stores(nts: bool, number: u8) -> bool
     if number == 0 { nts } else { false }
 }
 
-// The verdict that an answer comes to. Only here are answer and state put together: by value through each step they would be copied as often.
+// The verdict for an answer. Answer and state are put together only here: passed by value through each step, they would be copied each time.
 fn told(settings: Settings, s: State, reply: Reply, answer: ReplyAnswer) -> Verdict
     ensures { λ r. ⌜ r ≡ toldOf settings s reply answer ⌝ }
 {
@@ -187,7 +187,7 @@ fn told(settings: Settings, s: State, reply: Reply, answer: ReplyAnswer) -> Verd
     }
 }
 
-// The unique identifier that a reply is to have; without NTS none is looked for.
+// The unique identifier that a reply must have. Without NTS there is none.
 fn awaited(nts: bool, request: Pending) -> [u8; 32]
     ensures { λ r. ⌜ r ≡ cond nts (request .uid) (replicate 32 0) ⌝ }
 {
@@ -199,6 +199,7 @@ fn awaited(nts: bool, request: Pending) -> [u8; 32]
 }
 
 // The verdict on the byte form (V3, V4): 32, 1, and then the judge.
+// promise: 11.1, 11.7
 pub fn judge_packet(
     settings: Settings,
     s: State,
@@ -211,7 +212,8 @@ pub fn judge_packet(
     t4: NtpTimestamp,
     time: u64,
 ) -> Verdict
-    ensures { λ r. ⌜ r ≡ verdictOf settings s seen (readWith settings s (now (packet .entry)) end (now (decrypted .entry))) (arrival (now (list .entry)) t1 t4 time) ⌝ }
+    ensures { λ r. ⌜ r ≡ verdictOf settings s seen (readWith settings s (now (packet .entry)) end (now (decrypted .entry)))
+        (arrival (now (list .entry)) t1 t4 time) ⌝ }
 {
     if !association::whole_seen(settings, seen, s) {
         return Verdict {
@@ -235,6 +237,7 @@ pub fn judge_packet(
 }
 
 // The verdict on the decoded form (V5 only): 32, and then the judge.
+// promise: 11.1, 11.7
 pub fn judge_decoded(
     settings: Settings,
     s: State,

@@ -36,8 +36,10 @@ written-long false false false n m e = cc
 
 module _ (kind : SendKind) (poll : PollInterval) (id upgrademark : ℕ) (uid cookie : List ℕ) (asked : ℕ) (out : List ℕ) where
   -- where the answer is a length, so many bytes of the buffer are the packet, and those past them are untouched
+  -- promise: no1.4
   pub written-buffer : (n : ℕ) → requestOf kind poll id upgrademark uid cookie asked (length out) ≡ Written n
-      → (take n (bufferOf kind poll id upgrademark uid cookie asked out) ≡ packetOf kind poll id upgrademark uid cookie asked) × (drop n (bufferOf kind poll id upgrademark uid cookie asked out) ≡ drop n out)
+      → (take n (bufferOf kind poll id upgrademark uid cookie asked out) ≡ packetOf kind poll id upgrademark uid cookie asked) ×
+      (drop n (bufferOf kind poll id upgrademark uid cookie asked out) ≡ drop n out)
   unfolding bufferOf requestOf
   written-buffer n e =
       let p = packetOf kind poll id upgrademark uid cookie asked in
@@ -46,7 +48,9 @@ module _ (kind : SendKind) (poll : PollInterval) (id upgrademark : ℕ) (uid coo
       (rw b (take-at p (drop n out) n m), rw b (drop-at p (drop n out) n m))
 
   -- where it is refused, nothing is written
-  pub refused-buffer : (numberOf (requestOf kind poll id upgrademark uid cookie asked (length out)) ≡ 0 → ⊥) → bufferOf kind poll id upgrademark uid cookie asked out ≡ out
+  -- promise: no1.5, demand.1
+  pub refused-buffer : (numberOf (requestOf kind poll id upgrademark uid cookie asked (length out)) ≡ 0 → ⊥) →
+      bufferOf kind poll id upgrademark uid cookie asked out ≡ out
   unfolding bufferOf
   refused-buffer h = go (requestOf kind poll id upgrademark uid cookie asked (length out)) h
     where

@@ -23,9 +23,11 @@ module _ (kind : SendKind) (poll : PollInterval) (id upgrademark : ℕ) (uid coo
 
   pub length-nts : hasNts kind ≡ true → 1 ≤ asked → length (packetOf kind poll id upgrademark uid cookie asked) ≡ 84 + asked * fieldLength (length cookie)
   unfolding packetOf
-  length-nts n some = rw n (length-packet uid cookie asked size some (bytesOf (headerFor kind poll id upgrademark)) (length-header (headerFor kind poll id upgrademark)))
+  length-nts n some = rw n (length-packet uid cookie asked size some (bytesOf (headerFor kind poll id upgrademark))
+      (length-header (headerFor kind poll id upgrademark)))
 
-  pub at-most : (m : ℕ) → 48 ≤ m → (hasNts kind ≡ true → (1 ≤ asked) × (84 + asked * fieldLength (length cookie) ≤ m)) → length (packetOf kind poll id upgrademark uid cookie asked) ≤ m
+  pub at-most : (m : ℕ) → 48 ≤ m → (hasNts kind ≡ true → (1 ≤ asked) × (84 + asked * fieldLength (length cookie) ≤ m)) →
+      length (packetOf kind poll id upgrademark uid cookie asked) ≤ m
   at-most m h f = go (hasNts kind) refl
     where
       go : (t : Bool) → hasNts kind ≡ t → length (packetOf kind poll id upgrademark uid cookie asked) ≤ m
@@ -33,6 +35,7 @@ module _ (kind : SendKind) (poll : PollInterval) (id upgrademark : ℕ) (uid coo
       go false n = omega (arith, length-plain n)
 
   -- no request that is written is longer than 5,908 bytes
+  -- promise: no1.6 (5,908 bytes of any that is written)
   pub longest : askValid (length cookie) asked ≡ true → length (packetOf kind poll id upgrademark uid cookie asked) ≤ 5908
   longest e =
       let h = asks (length cookie) asked e in

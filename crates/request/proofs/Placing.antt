@@ -22,7 +22,8 @@ module _ (out xs : List ℕ) (at : ℕ) (fits : at + length xs ≤ length out) w
   pub placed-behind : (ys : List ℕ) → placed (placed out at xs) (at + length xs) ys ≡ placed out at (xs ++ ys)
   unfolding placed
   placed-behind ys =
-      let front : take (at + length xs) (placed out at xs) ≡ take at out ++ xs = take-paste out at xs (length xs) (omega arith) (omega arith) ∙ rw take-length in
+      let front : take (at + length xs) (placed out at xs) ≡ take at out ++ xs = take-paste out at xs (length xs) (omega arith) (omega arith)
+      ∙ rw take-length in
       let behind : drop (at + length xs) (placed out at xs) ≡ drop (at + length xs) out = drop-paste out at xs (length xs) (omega arith) (omega arith) in
       let past : drop (at + length xs + length ys) (placed out at xs) ≡ drop (at + length xs + length ys) out =
       sym (drop-drop (length ys) (at + length xs) (placed out at xs)) ∙ ap (drop (length ys)) behind ∙ drop-drop (length ys) (at + length xs) out in
@@ -67,11 +68,13 @@ filled-full n bytes h = let z : n - length bytes ≡ 0 = omega arith in rw z (ap
 
 pub length-extension : (kind len : ℕ) (body : List ℕ) → length body + 4 ≤ len → length (extensionBytes (extension kind len body)) ≡ len
 unfolding extensionBytes
-length-extension kind len body room = length-append (toBe 2 kind ++ toBe 2 len) (filled (len - 4) body) ∙ omega (arith, length-filled (len - 4) body (omega arith))
+length-extension kind len body room =
+    length-append (toBe 2 kind ++ toBe 2 len) (filled (len - 4) body) ∙ omega (arith, length-filled (len - 4) body (omega arith))
 
 -- put in three parts: its type, its length, its body
 module _ (out body : List ℕ) (at kind len : ℕ) (fits : at + len ≤ length out) (room : length body + 4 ≤ len) where
-  pub field-placed : (a b c : List ℕ) → a ≡ placed out at (filled 2 (toBe 2 kind)) → b ≡ placed a (at + 2) (filled 2 (toBe 2 len)) → c ≡ placed b (at + 4) (filled (len - 4) body)
+  pub field-placed : (a b c : List ℕ) → a ≡ placed out at (filled 2 (toBe 2 kind)) → b ≡ placed a (at + 2) (filled 2 (toBe 2 len)) →
+      c ≡ placed b (at + 4) (filled (len - 4) body)
       → c ≡ placed out at (extensionBytes (extension kind len body))
   unfolding extensionBytes
   field-placed a b c ea eb ec =
@@ -97,8 +100,16 @@ module _ (len : ℕ) (least : 4 ≤ len) where
       length-append (extensionBytes (placeholder len)) (allBytes (replicate n (placeholder len)))
       ∙ rw (suc-mul n len) (omega (arith, length-extension placeholderKind len [] least, length-placeholders n))
 
-  pub placeholders-placed : (out : List ℕ) (first i : ℕ) → first + i * len ≤ length out → (a b : List ℕ) → a ≡ placed out first (allBytes (replicate i (placeholder len)))
+  pub placeholders-placed : (out : List ℕ) (first i : ℕ) → first + i * len ≤ length out → (a b : List ℕ) →
+      a ≡ placed out first (allBytes (replicate i (placeholder len)))
       → b ≡ placed a (first + i * len) (extensionBytes (placeholder len)) → b ≡ placed out first (allBytes (replicate (i + 1) (placeholder len)))
   placeholders-placed out first i fits a b ea eb =
       let n = length-placeholders i in
-      eb ∙ rw (ea, ← n, placed-behind out (allBytes (replicate i (placeholder len))) first (omega (arith, n)) (extensionBytes (placeholder len)), add-one, alike-again i (placeholder len))
+      eb ∙ rw (
+        ea,
+        ← n,
+        placed-behind out (allBytes (replicate i (placeholder len))) first (omega (arith, n))
+            (extensionBytes (placeholder len)),
+        add-one,
+        alike-again i (placeholder len),
+      )

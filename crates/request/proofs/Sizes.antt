@@ -20,14 +20,17 @@ use Rattle.request.proofs.Placing.{placed-behind, placed-front, filled-
 
 -- ---- a field's length: it covers head and body, is at least 16 and a multiple of four
 
+-- promise: no1.3
 pub field-covers : (n : ℕ) → n + 4 ≤ fieldLength n
 unfolding fieldLength
 field-covers n = omega arith
 
+-- promise: no1.3
 pub field-least : (n : ℕ) → 16 ≤ fieldLength n
 unfolding fieldLength
 field-least n = omega arith
 
+-- promise: no1.3
 pub field-fours : (n : ℕ) → fieldLength n % 4 ≡ 0
 unfolding fieldLength
 field-fours n = omega arith
@@ -82,7 +85,14 @@ module _ (uid cookie : List ℕ) (asked : ℕ) (size : length uid ≡ 32) (some 
   unfolding fieldsFor others
   length-fields =
       length-append (extensionBytes (carrying uidKind uid)) (extensionBytes (carrying cookieKind cookie) ++ others)
-      ∙ omega (arith, uid-long, length-append (extensionBytes (carrying cookieKind cookie)) others, length-carrying cookieKind cookie, others-long, first-and-rest asked len some)
+      ∙ omega (
+        arith,
+        uid-long,
+        length-append (extensionBytes (carrying cookieKind cookie)) others,
+        length-carrying cookieKind cookie,
+        others-long,
+        first-and-rest asked len some,
+      )
 
   -- put one behind the other, where n is the cookie field's length
   abbrev FieldsPlaced : ℕ → Type 0
@@ -117,7 +127,8 @@ module _ (uid cookie : List ℕ) (asked : ℕ) (size : length uid ≡ 32) (some 
     length-packet = length-append front (allBytes (fieldsFor uid cookie asked)) ∙ omega (arith, length-fields)
 
     pub packet-placed : (n : ℕ) → n ≡ len → (out a b : List ℕ) → 84 + asked * n ≤ length out
-        → a ≡ placed out 0 (filled 48 front) → b ≡ placed a 48 (allBytes (fieldsFor uid cookie asked)) → b ≡ withFields front uid cookie asked ++ drop (84 + asked * n) out
+        → a ≡ placed out 0 (filled 48 front) → b ≡ placed a 48 (allBytes (fieldsFor uid cookie asked)) →
+        b ≡ withFields front uid cookie asked ++ drop (84 + asked * n) out
     unfolding withFields
     packet-placed n e out a b room ea eb =
         let fs = allBytes (fieldsFor uid cookie asked) in

@@ -1,4 +1,4 @@
--- When the request writer gives each number, and which answer comes with it, in the order of the tests: 50, 52, 51 (RULES, No. 1).
+-- When the request writer returns each number, and with which answer, in the order of the tests: 50, 52, 51 (RULES, No. 1).
 -- Assumes nothing.
 use mathlib.Core.Path.{_≡_}
 use mathlib.Core.Bool.{true, false, not, _&&_}

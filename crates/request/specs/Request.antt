@@ -37,12 +37,14 @@ hasNts NtsV4 = true
 hasNts NtsV5 = true
 
 -- a cookie of at most 724 bytes, and 1 to 8 asked for
+-- promise: no1.5
 abbrev pub askValid : ℕ → ℕ → Bool
 askValid len asked = leb len 724 && (leb 1 asked && leb asked 8)
 
 -- ---- the header
 
 -- the upgrade request has the mark as reference timestamp
+-- promise: no1.1
 abbrev pub reftimeOf : SendKind → ℕ → ℕ
 reftimeOf V4 upgrademark = 0
 reftimeOf V4Upgrade upgrademark = upgrademark
@@ -51,6 +53,8 @@ reftimeOf NtsV4 upgrademark = 0
 reftimeOf NtsV5 upgrademark = 0
 
 -- leap 0, version 4, mode 3, the last poll, the pending 64 bits as transmit timestamp; all else is zero
+-- promise no1.1: A request has leap 0, version 4, mode 3, the last poll and the pending 64 bits as transmit timestamp. The upgrade request has the mark as
+--     reference timestamp. All else is zero.
 unfoldable pub headerFor : SendKind → PollInterval → ℕ → ℕ → Header
 headerFor kind poll id upgrademark =
     record {
@@ -74,25 +78,31 @@ headerFor kind poll id upgrademark =
 abbrev pub placeholderKind : ℕ
 placeholderKind = 0x0304
 
--- the field of a body, as long as the body asks for
+-- the field of a body, as long as the body needs
+-- promise: no1.2
 abbrev pub carrying : ℕ → List ℕ → Extension
 carrying kind body = extension kind (fieldLength (length body)) body
 
 -- a placeholder of a length
+-- promise: no1.2
 abbrev pub placeholder : ℕ → Extension
 placeholder len = extension placeholderKind len []
 
 -- unique identifier; cookie; one placeholder of the cookie field's length for each new cookie beyond the first
+-- promise no1.2: With NTS a request has the unique identifier (0104), the cookie (0204), and for each new cookie beyond the first one placeholder (0304) of
+--     the cookie field's length.
+--     edit: request/a_placeholder_too_many
 unfoldable pub fieldsFor : List ℕ → List ℕ → ℕ → List Extension
 fieldsFor uid cookie asked = carrying uidKind uid ∷ carrying cookieKind cookie ∷ replicate (asked - 1) (placeholder (fieldLength (length cookie)))
 
 -- ---- the packet
 
--- the fields behind the bytes of a header; then comes the place where the caller's authenticator goes
+-- the fields after the bytes of a header; after them is the place for the caller's authenticator
 unfoldable pub withFields : List ℕ → List ℕ → List ℕ → ℕ → List ℕ
 withFields front uid cookie asked = front ++ allBytes (fieldsFor uid cookie asked)
 
 -- the header, and with NTS the fields
+-- promise no1.6: The longest request.
 unfoldable pub packetOf : SendKind → PollInterval → ℕ → ℕ → List ℕ → List ℕ → ℕ → List ℕ
 packetOf kind poll id upgrademark uid cookie asked =
     cond (hasNts kind)

@@ -1,5 +1,5 @@
-// The request writer: the packet of a poll, up to the place where the caller's authenticator goes.
-// Promises: the packet byte by byte, and that nothing else of the buffer is written; nothing at all after a refusal.
+// The request writer: the packet of a poll, up to where the caller's authenticator goes.
+// Promises: the packet byte by byte, and nothing else in the buffer changes; a rejected request writes nothing.
 // Rule: RULES, No. 1; definitions in specs/Request.antt, specs/Extension.antt and specs/Answer.antt.
 use collector::COOKIE_KIND;
 use cookielist::MAX_COOKIE;
@@ -25,18 +25,18 @@ ghost use Rattle.request.specs.Answer.{numberOf, answerFor, bufferFor, r
 // A field starts with its type and its length.
 const HEAD: usize = 4;
 
-// The type of a field that asks for one cookie more.
+// The type of a field that asks for one more cookie.
 const PLACEHOLDER_KIND: u16 = 0x0304;
 
-// How long the uid's field is, and all that stands in front of the cookie's.
+// The length of the uid's field, and of all that comes before the cookie's.
 const UID_FIELD: usize = 36;
 
 const IN_FRONT: usize = 84;
 
-// The most new cookies that a request asks for.
+// The most new cookies that a request may ask for.
 const MAX_ASKED: u8 = 8;
 
-// The packet's length where it is in the buffer, or why nothing was written.
+// The length of the packet that was written, or why nothing was written.
 pub enum Requested {
     Written(usize),
     VersionFive,
@@ -46,6 +46,7 @@ pub enum Requested {
 
 impl Requested {
     // The number of the answer, in RULES.
+    // promise: no1.5
     pub fn number(self) -> u8
         ensures { λ r. ⌜ r ≡ numberOf self ⌝ }
     {
@@ -82,7 +83,7 @@ fn has_nts(kind: SendKind) -> bool
     }
 }
 
-// The mark stands in an upgrade request, and nothing in any other.
+// The reference timestamp: the mark in an upgrade request, zero in any other.
 fn reftime(kind: SendKind, upgrademark: u64) -> u64
     ensures { λ r. ⌜ r ≡ reftimeOf kind upgrademark ⌝ }
 {
@@ -95,7 +96,7 @@ fn reftime(kind: SendKind, upgrademark: u64) -> u64
     }
 }
 
-// Whether a cookie of a length may be sent and so many new ones be asked for.
+// Whether a cookie of this length may be sent, and so many new ones may be asked for.
 fn ask_valid(len: usize, asked: u8) -> bool
     ensures { λ r. ⌜ r ≡ askValid len asked ⌝ }
 {
@@ -119,7 +120,7 @@ fn field_length(len: usize) -> usize
     if long < 16 { 16 } else { long }
 }
 
-// The header of a request. Its transmit timestamp is not the time but the random identifier: nobody can guess it, and a true reply brings it back.
+// The header of a request. Its transmit timestamp is not the time but the random identifier: nobody can guess it, and a true reply repeats it.
 fn request_header(kind: SendKind, poll: PollInterval, id: u64, upgrademark: u64) -> Header
     ensures { λ r. ⌜ r ≡ headerFor kind poll id upgrademark ⌝ }
 {
@@ -146,7 +147,7 @@ fn byte_or_zero(bytes: &[u8], i: usize) -> u8
     if i < bytes.len() { bytes[i] } else { 0 }
 }
 
-// Bytes, and zeros behind them, n in all, in place of the buffer's own from an offset on.
+// Writes bytes, then zeros, n bytes in all, from an offset on.
 fn put(out: &mut [u8], at: usize, bytes: &[u8], n: usize)
     requires { ⌜ (at + n ≤ length (now out)) × (length (now bytes) ≤ n) ⌝ }
     ensures { λ _. ⌜ now (out .exit) ≡ placed (now (out .entry)) at (filled n (now (bytes .entry))) ⌝ }
@@ -158,7 +159,7 @@ fn put(out: &mut [u8], at: usize, bytes: &[u8], n: usize)
     }
 }
 
-// A field of a length, head counted, whose body is filled with zeros; gives the offset behind it.
+// Writes a field of this length, head included, with its body filled up with zeros. Returns the offset after it.
 fn put_field(out: &mut [u8], at: usize, kind: u16, len: usize, body: &[u8]) -> usize
     requires { ⌜ (at + len ≤ length (now out)) × (length (now body) + 4 ≤ len) × (len < 65536) ⌝ }
     ensures { λ r. ⌜ (r ≡ at + len) × (now (out .exit) ≡ placed (now (out .entry)) at (extensionBytes (extension kind len (now (body .entry))))) ⌝ }
@@ -169,7 +170,7 @@ fn put_field(out: &mut [u8], at: usize, kind: u16, len: usize, body: &[u8]) -> u
     at + len
 }
 
-// So many placeholders of a length, one behind the other; gives the offset behind them.
+// Writes n placeholders of a length, one after another. Returns the offset after them.
 fn put_placeholders(out: &mut [u8], first: usize, len: usize, n: usize) -> usize
     requires { ⌜ (first + n * len ≤ length (now out)) × (4 ≤ len) × (len < 65536) ⌝ }
     ensures { λ r. ⌜ (r ≡ first + n * len) × (now (out .exit) ≡ placed (now (out .entry)) first (allBytes (replicate n (placeholder len)))) ⌝ }
@@ -183,14 +184,13 @@ fn put_placeholders(out: &mut [u8], first: usize, len: usize, n: usize) -> usize
     at
 }
 
-// The header's bytes.
 fn header_bytes(kind: SendKind, poll: PollInterval, id: u64, upgrademark: u64) -> [u8; 48]
     ensures { λ r. ⌜ r ≡ bytesOf (headerFor kind poll id upgrademark) ⌝ }
 {
     header::write_header(request_header(kind, poll, id, upgrademark))
 }
 
-// The fields behind the header, of which the cookie's has a length; gives the offset behind them.
+// Writes the fields after the header; `len` is the length of the cookie's field. Returns the offset after them.
 fn put_fields(out: &mut [u8], uid: [u8; 32], cookie: &[u8], len: usize, asked: usize) -> usize
     requires { ⌜ (84 + asked * len ≤ length (now out)) × (len ≡ fieldLength (length (now cookie))) × (length (now cookie) ≤ 724) × (1 ≤ asked) ⌝ }
     ensures { λ r. ⌜ (r ≡ 84 + asked * len) × (now (out .exit) ≡ placed (now (out .entry)) 48 (allBytes (fieldsFor uid (now (cookie .entry)) asked))) ⌝ }
@@ -200,7 +200,7 @@ fn put_fields(out: &mut [u8], uid: [u8; 32], cookie: &[u8], len: usize, asked: u
     put_placeholders(out, second, len, asked - 1)
 }
 
-// A packet that is a header alone.
+// Writes a packet that is only a header.
 fn write_plain(front: [u8; 48], out: &mut [u8]) -> Requested
     ensures { λ r. ⌜ (r ≡ answerFor front (now (out .entry))) × (now (out .exit) ≡ bufferFor front (now (out .entry))) ⌝ }
 {
@@ -211,10 +211,11 @@ fn write_plain(front: [u8; 48], out: &mut [u8]) -> Requested
     Requested::Written(HEADER_BYTES)
 }
 
-// A packet of a header and the fields of NTS.
+// Writes a packet of a header and the fields of NTS.
 fn write_nts(front: [u8; 48], uid: [u8; 32], cookie: &[u8], asked: u8, out: &mut [u8]) -> Requested
     requires { ⌜ askValid (length (now cookie)) asked ≡ true ⌝ }
-    ensures { λ r. ⌜ (r ≡ answerFor (withFields front uid (now (cookie .entry)) asked) (now (out .entry))) × (now (out .exit) ≡ bufferFor (withFields front uid (now (cookie .entry)) asked) (now (out .entry))) ⌝ }
+    ensures { λ r. ⌜ (r ≡ answerFor (withFields front uid (now (cookie .entry)) asked) (now (out .entry))) ×
+        (now (out .exit) ≡ bufferFor (withFields front uid (now (cookie .entry)) asked) (now (out .entry))) ⌝ }
 {
     let len = field_length(cookie.len());
     let new = asked as usize;
@@ -225,7 +226,8 @@ fn write_nts(front: [u8; 48], uid: [u8; 32], cookie: &[u8], asked: u8, out: &mut
     Requested::Written(put_fields(out, uid, cookie, len, new))
 }
 
-// Writes the request from the buffer's start on. In order: 50, with NTS 52, 51, the packet.
+// Writes the request to the start of the buffer. In order: 50, with NTS 52, 51, the packet.
+// promise: no1.1, no1.2, no1.3, no1.4, no1.5
 pub fn write_request(
     kind: SendKind,
     poll: PollInterval,
@@ -236,7 +238,8 @@ pub fn write_request(
     asked: u8,
     out: &mut [u8],
 ) -> Requested
-    ensures { λ r. ⌜ (r ≡ requestOf kind poll id upgrademark uid (now (cookie .entry)) asked (length (now (out .entry)))) × (now (out .exit) ≡ bufferOf kind poll id upgrademark uid (now (cookie .entry)) asked (now (out .entry))) ⌝ }
+    ensures { λ r. ⌜ (r ≡ requestOf kind poll id upgrademark uid (now (cookie .entry)) asked (length (now (out .entry)))) ×
+        (now (out .exit) ≡ bufferOf kind poll id upgrademark uid (now (cookie .entry)) asked (now (out .entry))) ⌝ }
 {
     if is_v5(kind) {
         return Requested::VersionFive;

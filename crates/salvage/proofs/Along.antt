@@ -19,7 +19,8 @@ use Rattle.salvage.proofs.Walks.{Kept, is-kept, walk-end, walk-kept, wa
 
 -- ---- bytes copied to an offset
 
-pub put-is : (out piece ys : List ℕ) (to : ℕ) → to + length piece ≤ length out → ys ≡ take (length piece) piece ++ drop (length piece) (take (length out - to) (drop to out))
+pub put-is : (out piece ys : List ℕ) (to : ℕ) → to + length piece ≤ length out →
+    ys ≡ take (length piece) piece ++ drop (length piece) (take (length out - to) (drop to out))
     → putMid to (length out - to) out ys ≡ take to out ++ piece ++ drop (to + length piece) out
 put-is out piece ys to h e =
     let k : drop (length out - to) (drop to out) ≡ [] = drop-of-length-le (drop to out) {i = length out - to} (simp length-drop (omega arith)) in
@@ -64,7 +65,8 @@ module _ (L R S : List ℕ) (to : ℕ) (h : to ≤ length L) (e : drop to L ≡ 
   more-is : take (to + length R) L ≡ take to L ++ R
   more-is = take-add to (length R) L ∙ rw e (ap (λ (r : List ℕ). take to L ++ r) (take-at R S (length R) refl))
 
-  buffer-is : (out₀ out : List ℕ) → out ≡ take to L ++ drop to out₀ → take to out ++ R ++ drop (to + length R) out ≡ take (to + length R) L ++ drop (to + length R) out₀
+  buffer-is : (out₀ out : List ℕ) → out ≡ take to L ++ drop to out₀ →
+      take to out ++ R ++ drop (to + length R) out ≡ take (to + length R) L ++ drop (to + length R) out₀
   buffer-is out₀ out q =
       let n : length (take to L) ≡ to = length-take-le to L h in
       let a : take to out ≡ take to L = rw q (take-at (take to L) (drop to out₀) to n) in
@@ -134,7 +136,8 @@ module _ (l out₀ out places : List ℕ) (at to kept skipped gaps : ℕ) (inGap
     ahead-long : to + length (part l at (end - at)) + length (recordsIn l (walkFrom l end)) ≡ length (cleanOf l)
     ahead-long = left-long (cleanOf l) (part l at (end - at)) (recordsIn l (walkFrom l end)) to (i .upto) ahead
 
-    pub keep : (out′ : List ℕ) (to′ : ℕ) → to′ ≡ to + (end - at) → out′ ≡ take to out ++ part l at (end - at) ++ drop (to + (end - at)) out → length out′ ≡ length out
+    pub keep : (out′ : List ℕ) (to′ : ℕ) → to′ ≡ to + (end - at) → out′ ≡ take to out ++ part l at (end - at) ++ drop (to + (end - at)) out →
+        length out′ ≡ length out
         → Along l out₀ out′ places end to′ (kept + 1) skipped gaps false
     keep out′ to′ et eo el =
         let R = part l at (end - at) in
@@ -201,7 +204,8 @@ module _ (l out₀ out places : List ℕ) (at to kept skipped gaps : ℕ) (inGap
       found-more = more-is (gapsIn (walkOf l)) (at ∷ []) (gapsFrom true (walkFrom l (at + 1))) gaps (i .gapsUpto) next
 
       -- a gap starts
-      begin : (places′ : List ℕ) → places′ ≡ noted 32 (replicate 32 0) (found ++ at ∷ []) → Along l out₀ out places′ (at + 1) to kept (skipped + 1) (gaps + 1) true
+      begin : (places′ : List ℕ) → places′ ≡ noted 32 (replicate 32 0) (found ++ at ∷ []) →
+          Along l out₀ out places′ (at + 1) to kept (skipped + 1) (gaps + 1) true
       begin places′ p =
           let G = gapsIn (walkOf l) in
           let T = gapsFrom true (walkFrom l (at + 1)) in

@@ -18,11 +18,13 @@ short : (l : List ℕ) (room : ℕ) (b : Bool) → ltb room (length l) ≡ b →
 short l room true e q = ltb-true room (length l) e
 short l room false e q = absurd (omega arith)
 
+-- promise: no9.7
 pub refused-exactly : (l : List ℕ) (room : ℕ) → (salvageOf l room .number ≡ 70) ↔ (room < length l)
 unfolding salvageOf
 refused-exactly l room = (short l room (ltb room (length l)) refl, λ h. rw (lt-ltb room (length l) h))
 
 -- where it is refused, nothing is written
+-- promise: no9.7, demand.1
 pub refused-buffer : (l out : List ℕ) → length out < length l → bufferOf l out ≡ out
 unfolding bufferOf
 refused-buffer l out h = rw (lt-ltb (length out) (length l) h)
@@ -33,16 +35,19 @@ module _ (l out : List ℕ) (h : length l ≤ length out) where
   is = rw (le-ltb (length out) (length l) h)
 
   -- else the report is the walk's
+  -- promise: no9.7
   pub done-report : salvageOf l (length out) ≡ reportOf l (walkOf l)
   unfolding salvageOf
   done-report = rw (le-ltb (length out) (length l) h)
 
   -- and as many bytes of the buffer as it says are the clean list
+  -- promise: no9.7
   pub done-list : take (salvageOf l (length out) .len) (bufferOf l out) ≡ cleanOf l
   unfolding cleanOf
   done-list = rw (done-report, is) (take-at (cleanOf l) (drop (length (cleanOf l)) out) (length (cleanOf l)) refl)
 
   -- with those past them untouched
+  -- promise: no9.7
   pub done-past : drop (salvageOf l (length out) .len) (bufferOf l out) ≡ drop (salvageOf l (length out) .len) out
   unfolding cleanOf
   done-past = rw (done-report, is) (drop-at (cleanOf l) (drop (length (cleanOf l)) out) (length (cleanOf l)) refl)

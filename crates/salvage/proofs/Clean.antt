@@ -56,6 +56,7 @@ written l bytes =
     })
     (λ at h e behind. record { same = behind .same; short = behind .short })
 
+-- promise: no9.3 (the list's own reader finds it whole, with the cookies of the records kept)
 pub clean-whole : (l : List ℕ) → Bytes l → cookiesIn (cleanOf l) ≡ whole (cookiesKept l (walkOf l))
 unfolding cleanOf
 clean-whole l bytes =

@@ -1,4 +1,5 @@
--- The gaps of a damaged list (RULES, No. 9): there is none exactly where no byte is skipped, a place is a gap's exactly if it is skipped and the byte before is not, and the places rise.
+-- The gaps of a damaged list (RULES, No. 9): there is none exactly where no byte is skipped, a place is a gap's exactly if it is skipped and the byte before
+-- is not, and the places rise.
 -- And a list is without damage exactly where no byte of it is skipped.
 -- Assumes nothing.
 use Prim.Native.Nat.{ℕ, suc, _+_, _≤_, _<_}
@@ -128,7 +129,12 @@ module _ (l : List ℕ) where
       })
       (λ at h e behind.
       let low = from-there (at + 1) (omega arith) in
-      record { into = skip-into at (walkFrom l (at + 1)) low behind; from = skip-from at (walkFrom l (at + 1)) low behind; rises = skip-rises at (walkFrom l (at + 1)) low behind })
+      record {
+        into = skip-into at (walkFrom l (at + 1)) low behind;
+        from = skip-from at (walkFrom l (at + 1)) low behind;
+        rises = skip-rises at
+            (walkFrom l (at + 1)) low behind;
+      })
     where
       apart : (at end p : ℕ) → at + 4 ≤ end → end ≤ p → p ≡ at → ⊥
       apart at end p h k f = omega arith

@@ -19,6 +19,7 @@ sums-from l =
     (λ at h e behind. omega arith)
 
 -- THE LAW of the sums
+-- promise: no9.5
 pub sums : (l : List ℕ) → lengthsIn (walkOf l) + skippedIn (walkOf l) ≡ length l
 sums l = omega (arith, sums-from l 0 (omega arith))
 
@@ -31,10 +32,12 @@ clean-long-from l =
     ∙ omega (arith, length-part l at (end - at) (omega (arith, k .headed, k .within))))
     (λ at h e behind. behind)
 
+-- promise: no9.5 (the clean list is as long as the lengths kept)
 pub clean-long : (l : List ℕ) → length (cleanOf l) ≡ lengthsIn (walkOf l)
 unfolding cleanOf
 clean-long l = clean-long-from l 0 (omega arith)
 
 -- so the clean list fits wherever the input does
+-- promise: no9.5
 pub clean-fits : (l : List ℕ) → length (cleanOf l) ≤ length l
 clean-fits l = omega (arith, clean-long l, sums l)

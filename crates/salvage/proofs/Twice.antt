@@ -25,9 +25,12 @@ module _ (l : List ℕ) (bytes : Bytes l) where
   all : isWhole (cookiesIn (cleanOf l)) ≡ true
   all = rw (clean-whole l bytes)
 
+  -- promise no9.6: Salvage twice equals salvage once.
+  -- promise: no9.6 (the same list)
   pub clean-twice : cleanOf (cleanOf l) ≡ cleanOf l
   clean-twice = undamaged (cleanOf l) all .0
 
+  -- promise: no9.6
   pub same-cookies : cookiesKept (cleanOf l) (walkOf (cleanOf l)) ≡ cookiesKept l (walkOf l)
   unfolding cookiesIn
   same-cookies = let s = same (cleanOf l) all in let a = s .cookies in let b = clean-whole l bytes in cc
@@ -45,6 +48,7 @@ module _ (l : List ℕ) (bytes : Bytes l) where
       λ j. record { number = 0; kept = kept-twice j; skipped = u .1 j; gaps = ap length (u .2) j; places = ap placesOf (u .2) j; len = ap length clean-twice j }
 
   -- THE LAW of the second run, in any buffer that is not shorter than the clean list
+  -- promise: no9.6 (the second report: as many kept, none skipped, no gap)
   pub salvage-twice : (room : ℕ) → length (cleanOf l) ≤ room → salvageOf (cleanOf l) room
       ≡ record { number = 0; kept = keptIn (walkOf l); skipped = 0; gaps = 0; places = replicate 32 0; len = length (cleanOf l) }
   unfolding salvageOf second

@@ -79,6 +79,7 @@ unfolding cookiesIn
 same l t = same-from l 0 (omega arith) t
 
 -- THE LAW of a list without damage
+-- promise: no9.4
 pub undamaged : (l : List ℕ) → isWhole (cookiesIn l) ≡ true → (cleanOf l ≡ l) × (skippedIn (walkOf l) ≡ 0) × (gapsIn (walkOf l) ≡ [])
 unfolding cleanOf
 undamaged l t = let s = same l t in (s .records, s .skips, s .gaps)

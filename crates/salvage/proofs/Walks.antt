@@ -74,12 +74,14 @@ unfolding walkFrom
 walk-end l at h = none-left (length l - at) l at h
 
 -- THE LAW of the walk: what stands at the offset, and then the walk from where it ends
+-- promise: no9.1 (the law by which the walk unfolds)
 pub walk-turn : (l : List ℕ) (at : ℕ) → at < length l → walkFrom l at ≡ onFound (walkFrom l) at (recordAt l at)
 unfolding walkFrom
 walk-turn l at h =
     enough (length l - at) (suc (length l - at)) l at (omega arith) (omega arith)
     ∙ rw (lt-ltb at (length l) h)
-    (after l at (walkN (length l - at) l) (λ to. walkN (length l - to) l to) h (λ to a b. enough (length l - at) (length l - to) l to (omega arith) (omega arith)) (recordAt l at) refl)
+    (after l at (walkN (length l - at) l) (λ to. walkN (length l - to) l to) h
+    (λ to a b. enough (length l - at) (length l - to) l to (omega arith) (omega arith)) (recordAt l at) refl)
 
 -- ---- the law, step by step
 
@@ -97,10 +99,12 @@ module _ (l : List ℕ) (P : ℕ → List Step → Type 0) (at-end : P (length l
   ended at e = rw (walk-end l at (omega arith), e) at-end
 
   by-found : (at : ℕ) → at < length l → ((to : ℕ) → at + 1 ≤ to → to ≤ length l → P to (walkFrom l to)) → (r : Found) → recordAt l at ≡ r → P at (walkFrom l at)
-  by-found at h later (Record end) e = let k = is-kept l at end e in rw (walk-kept l at end h e) (at-kept at end k (later end (omega (arith, k .headed)) (k .within)))
+  by-found at h later (Record end) e = let k = is-kept l at end e in
+      rw (walk-kept l at end h e) (at-kept at end k (later end (omega (arith, k .headed)) (k .within)))
   by-found at h later Nothing e = rw (walk-skipped l at h e) (at-skipped at h e (later (at + 1) (omega arith) (omega arith)))
 
-  by-test : (at : ℕ) → at ≤ length l → ((to : ℕ) → at + 1 ≤ to → to ≤ length l → P to (walkFrom l to)) → (b : Bool) → ltb at (length l) ≡ b → P at (walkFrom l at)
+  by-test : (at : ℕ) → at ≤ length l → ((to : ℕ) → at + 1 ≤ to → to ≤ length l → P to (walkFrom l to)) → (b : Bool) → ltb at (length l) ≡ b →
+      P at (walkFrom l at)
   by-test at h later true e = by-found at (ltb-true at (length l) e) later (recordAt l at) refl
   by-test at h later false e = ended at (omega (arith, ltb-false at (length l) e))
 

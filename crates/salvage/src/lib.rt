@@ -1,5 +1,5 @@
-// A damaged cookie list read, and a clean one written.
-// Promises: what is kept, skipped and written is what one walk over the input says; the clean list is whole, and stays as it is when salvaged again.
+// Reads a damaged cookie list and writes a clean one.
+// Promises: one walk over the input says what is kept, skipped and written; the clean list is whole, and does not change when it is salvaged again.
 // Rule: RULES, No. 9; definitions in specs/Walk.antt and specs/Salvage.antt.
 use cookielist::Entry;
 use cookielist::RECORD_MARK;
@@ -10,19 +10,18 @@ ghost use lib.ListN.{length, take, drop};
 ghost use Rattle.salvage.specs.Walk.{markAt, followed, recordAt};
 ghost use Rattle.salvage.specs.Salvage.{salvageOf, bufferOf, refusedOf};
 
-// The bytes of a mark.
 const MARK_BYTES: usize = 2;
 
-// How many gaps have their places told; further ones are only counted.
+// How many gaps have their places reported; further ones are only counted.
 pub const PLACES: usize = 32;
 
-// What stands at an offset of a damaged list: a record that is kept, which ends before end; or nothing, and one byte is skipped.
+// What is at an offset of a damaged list: a record that is kept and ends before `end`; or nothing, and one byte is skipped.
 enum Found {
     Record { end: usize },
     Nothing,
 }
 
-// What salvaging answers: its number (0, or 70 and all else zero), the records kept, the bytes skipped, the gaps, where the first 32 of them start, and how
+// What salvage answers: its number (0, or 70 with all else zero), the records kept, the bytes skipped, the gaps, where the first 32 of them start, and how
 // many bytes of the buffer are the clean list.
 pub struct Salvaged {
     pub number: u8,
@@ -33,7 +32,7 @@ pub struct Salvaged {
     pub len: usize,
 }
 
-// Whether a mark stands at an offset, with both of its bytes.
+// Whether both bytes of a mark are at an offset.
 fn mark_at(list: &[u8], at: usize) -> bool
     ensures { λ r. ⌜ r ≡ markAt (now (list .entry)) at ⌝ }
 {
@@ -60,6 +59,7 @@ fn followed(list: &[u8], end: usize) -> bool
 }
 
 // Tries an offset: the list's own reader says whether a record fits there.
+// promise: no9.1
 fn record_at(list: &[u8], at: usize) -> Found
     ensures { λ r. ⌜ r ≡ recordAt (now (list .entry)) at ⌝ }
 {
@@ -79,10 +79,11 @@ fn record_at(list: &[u8], at: usize) -> Found
     }
 }
 
-// Copies a record's bytes to an offset of the buffer, and gives the offset behind them.
+// Copies a record's bytes to an offset of the buffer, and returns the offset after them.
 fn put_bytes(out: &mut [u8], to: usize, piece: &[u8]) -> usize
     requires { ⌜ to + length (now piece) ≤ length (now out) ⌝ }
-    ensures { λ r. ⌜ (r ≡ to + length (now (piece .entry))) × (now (out .exit) ≡ take to (now (out .entry)) ++ now (piece .entry) ++ drop (to + length (now (piece .entry))) (now (out .entry))) ⌝ }
+    ensures { λ r. ⌜ (r ≡ to + length (now (piece .entry))) ×
+        (now (out .exit) ≡ take to (now (out .entry)) ++ now (piece .entry) ++ drop (to + length (now (piece .entry))) (now (out .entry))) ⌝ }
 {
     let n = piece.len();
     bytes::copy(piece, &mut out[to..]);
@@ -102,7 +103,8 @@ fn refused() -> Salvaged
     }
 }
 
-// Writes the records that are kept from the buffer's start on. Each place is tried once, and each record copied once, so that time grows with the length.
+// Writes the kept records to the start of the buffer. It tries each place once and copies each record once, so the time grows with the length.
+// promise: no9.1, no9.2, no9.3, no9.7
 pub fn salvage(list: &[u8], out: &mut [u8]) -> Salvaged
     ensures { λ r. ⌜ (r ≡ salvageOf (now (list .entry)) (length (now (out .entry)))) × (now (out .exit) ≡ bufferOf (now (list .entry)) (now (out .entry))) ⌝ }
 {

@@ -1,4 +1,5 @@
--- What RATE makes of the remote minimum: it is at least the old one and at least the last poll, and the crate's rule gives less exactly where the old one is above the limit and the last poll.
+-- What RATE makes of the remote minimum: it is at least the old one and at least the last poll, and the crate's rule gives less exactly where the old one is
+-- above the limit and the last poll.
 -- Assumes nothing.
 use mathlib.Core.Path.{_≡_, refl}
 use mathlib.Core.Bool.{Bool, true, false}
@@ -60,11 +61,11 @@ one-more a = up-le (omega (arith, sum-law a (pos 1)))
 -- ---- RATE
 
 module _ (remote limit last : ℤ) where
-  -- at least the old one
+  -- promise: no7.1 (at least the old one)
   pub rate-keeps : remote ≤ℤ afterRate remote limit last
   rate-keeps = ≤ℤ-trans (larger-left remote (smaller (remote +ℤ pos 1) limit)) (larger-left (larger remote (smaller (remote +ℤ pos 1) limit)) last)
 
-  -- and at least the last poll
+  -- promise: no7.1 (at least the last poll)
   pub rate-last : last ≤ℤ afterRate remote limit last
   rate-last = larger-right (larger remote (smaller (remote +ℤ pos 1) limit)) last
 
@@ -84,6 +85,7 @@ module _ (remote limit last : ℤ) where
       (λ t h. ≤ℤ-trans (smaller-least (remote +ℤ pos 1) limit (one-more remote) h) (larger-left (smaller (remote +ℤ pos 1) limit) last))
 
   -- the two agree where the old one is at most the limit or the last poll
+  -- promise: no7.4 (they agree where the old one is at most the limit or the last poll)
   pub rate-crate : remote ≤ℤ larger limit last → crateRate remote limit last ≡ afterRate remote limit last
   rate-crate h =
       let step = smaller (remote +ℤ pos 1) limit in
@@ -92,5 +94,6 @@ module _ (remote limit last : ℤ) where
       (larger-most (larger remote step) last (larger-most remote step (crate-keeps h) (larger-left step last)) (larger-right step last))
 
   -- and where it is above both the crate's falls
+  -- promise: no7.4 (above both the crate's falls)
   pub crate-falls : larger limit last <ℤ remote → crateRate remote limit last <ℤ remote
   crate-falls h = ltZ-yes (rw (to-lt (crateRate remote limit last) remote (omega (arith, le-up crate-most, lt-up h))) tt)

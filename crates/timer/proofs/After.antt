@@ -32,7 +32,8 @@ pub record Rang (a : Association) (i : TimerInput) (n : ℕ) (o : TimerOut) : Ty
   pub settings : o .association .settings ≡ a .settings
   pub source : o .association .state .source ≡ a .state .source
   pub request : o .association .state .request ≡ cond (eqb n 20) (pendingOf (a .settings .nts) (a .settings .window) i) (a .state .request)
-  pub polls : o .association .state .polls ≡ cond (eqb n 20) (record { last = pollOf (i .desired) (a .state .polls .remote); remote = a .state .polls .remote }) (a .state .polls)
+  pub polls : o .association .state .polls
+      ≡ cond (eqb n 20) (record { last = pollOf (i .desired) (a .state .polls .remote); remote = a .state .polls .remote }) (a .state .polls)
   pub unanswered : o .association .state .effort .unanswered ≡ cond (triesPoll n) (min (a .state .effort .unanswered + 1) 8) (a .state .effort .unanswered)
   pub version : o .association .state .version ≡ cond (triesPoll n) (fallenBackOf (a .state .version) (a .state .effort .unanswered)) (a .state .version)
   pub same : T (leaves n) → o .association ≡ a
@@ -41,19 +42,101 @@ pub record Rang (a : Association) (i : TimerInput) (n : ℕ) (o : TimerOut) : Ty
 module _ (a : Association) (i : TimerInput) (room : ℕ) where
   rung : {n : ℕ} {o : TimerOut} → Given a i room n o → Rang a i n o
   unfolding triedOf polled sentOf
-  rung (not-whole w) = record { settings = refl; source = refl; request = refl; polls = refl; unanswered = refl; version = refl; same = λ _. refl; nothing = λ _. refl }
-  rung (short-buffer w s) = record { settings = refl; source = refl; request = refl; polls = refl; unanswered = refl; version = refl; same = λ _. refl; nothing = λ _. refl }
-  rung (demobilize c o d) = record { settings = refl; source = refl; request = refl; polls = refl; unanswered = refl; version = refl; same = λ _. refl; nothing = λ _. refl }
-  rung (reset c o d) = record { settings = refl; source = refl; request = refl; polls = refl; unanswered = refl; version = refl; same = λ _. refl; nothing = λ _. refl }
-  rung (no-cookie t n h) = record { settings = refl; source = refl; request = refl; polls = refl; unanswered = refl; version = refl; same = absurd; nothing = λ _. refl }
-  rung (too-large k z) = record { settings = refl; source = refl; request = refl; polls = refl; unanswered = refl; version = refl; same = absurd; nothing = λ _. refl }
-  rung (sent t n) = record { settings = refl; source = refl; request = refl; polls = refl; unanswered = refl; version = refl; same = absurd; nothing = λ u. absurd (u refl) }
-  rung (sent-nts k z) = record { settings = refl; source = refl; request = refl; polls = refl; unanswered = refl; version = refl; same = absurd; nothing = λ u. absurd (u refl) }
+  rung (not-whole w) = record {
+    settings = refl;
+    source = refl;
+    request = refl;
+    polls = refl;
+    unanswered = refl;
+    version = refl;
+    same = λ _. refl;
+    nothing
+        = λ _. refl;
+  }
+  rung (short-buffer w s) = record {
+    settings = refl;
+    source = refl;
+    request = refl;
+    polls = refl;
+    unanswered = refl;
+    version = refl;
+    same = λ _. refl;
+    nothing
+        = λ _. refl;
+  }
+  rung (demobilize c o d) = record {
+    settings = refl;
+    source = refl;
+    request = refl;
+    polls = refl;
+    unanswered = refl;
+    version = refl;
+    same = λ _. refl;
+    nothing
+        = λ _. refl;
+  }
+  rung (reset c o d) = record {
+    settings = refl;
+    source = refl;
+    request = refl;
+    polls = refl;
+    unanswered = refl;
+    version = refl;
+    same = λ _. refl;
+    nothing
+        = λ _. refl;
+  }
+  rung (no-cookie t n h) = record {
+    settings = refl;
+    source = refl;
+    request = refl;
+    polls = refl;
+    unanswered = refl;
+    version = refl;
+    same = absurd;
+    nothing
+        = λ _. refl;
+  }
+  rung (too-large k z) = record {
+    settings = refl;
+    source = refl;
+    request = refl;
+    polls = refl;
+    unanswered = refl;
+    version = refl;
+    same = absurd;
+    nothing
+        = λ _. refl;
+  }
+  rung (sent t n) = record {
+    settings = refl;
+    source = refl;
+    request = refl;
+    polls = refl;
+    unanswered = refl;
+    version = refl;
+    same = absurd;
+    nothing = λ u.
+        absurd (u refl);
+  }
+  rung (sent-nts k z) = record {
+    settings = refl;
+    source = refl;
+    request = refl;
+    polls = refl;
+    unanswered = refl;
+    version = refl;
+    same = absurd;
+    nothing = λ u.
+        absurd (u refl);
+  }
 
+  -- promise: no8.3 (its `unanswered`)
   pub rang : Rang a i (numberOf (timerOf a i room .answer)) (timerOf a i room)
   rang = rung (given a i room)
 
   -- the fallback answers what it answered while the trailing zeros were counted at each timer
+  -- promise: no8.7
   pub fallback-as-before : Whole a → timerOf a i room .association .state .version ≡
       cond (triesPoll (numberOf (timerOf a i room .answer))) (fallenBackOf (a .state .version) (unansweredOf (a .state .effort .reach))) (a .state .version)
   fallback-as-before w =
@@ -78,12 +161,14 @@ pub record Asks (a next : Association) (i : TimerInput) : Type 0 where
   pub remote : next .state .polls .remote ≡ a .state .polls .remote
 
 module _ (a : Association) (i : TimerInput) (buffer : List ℕ) where
+  -- promise demand.1: Every call ends with a defined answer; bad input is rejected with its number and changes nothing.
   pub record-left : T (leaves (numberOf (timerOf a i (length buffer) .answer))) → timerOf a i (length buffer) .association ≡ a
   record-left t = rang a i (length buffer) .same t
 
   pub settings-left : Stays a (timerOf a i (length buffer) .association)
   settings-left = let r = rang a i (length buffer) in record { settings = r .settings; source = r .source }
 
+  -- promise: 10.5, 10.8 (its `untouched`), no3.2
   pub pending-left : (numberOf (timerOf a i (length buffer) .answer) ≡ 20 → ⊥) → Waits a (timerOf a i (length buffer) .association) buffer (bufferOf a i buffer)
   unfolding bufferOf
   pending-left u =
@@ -91,6 +176,7 @@ module _ (a : Association) (i : TimerInput) (buffer : List ℕ) where
       let e = ne-eqb _ _ u in
       record { request = r .request ∙ unless _ _ e; polls = r .polls ∙ unless _ _ e; untouched = rw (r .nothing u) }
 
+  -- promise: 10.6
   pub asked-anew : numberOf (timerOf a i (length buffer) .answer) ≡ 20 → Asks a (timerOf a i (length buffer) .association) i
   asked-anew n =
       let r = rang a i (length buffer) in

@@ -46,7 +46,8 @@ module _ (a : Association) (i : TimerInput) (ys : List ℕ) where
   too-large : seen .found ≡ true → askedWith seen ≡ 0 → handedOf (oldest a) ys ≡ ys
   too-large f z =
       elim (decLe (seen .len) 724) [
-        | yes l ↦ absurd (not-both (askedWith seen) z (asked-some (min (seen .gap) 8) (seen .len) (omega (arith, found-gap (a .settings .capacity) (a .stash) f)) l))
+        | yes l ↦ absurd (not-both (askedWith seen) z
+            (asked-some (min (seen .gap) 8) (seen .len) (omega (arith, found-gap (a .settings .capacity) (a .stash) f)) l))
         | no n ↦ handed-none (oldest a) ys (none (seen .len) (omega arith))
       ]
 

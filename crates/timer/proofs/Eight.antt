@@ -20,6 +20,7 @@ abbrev pub decided8 : Association → Decision → TimerOut
 decided8 a d = out (d .answer) (record { settings = a .settings; stash = cond (d .takes) (getOf 8 (a .stash) .stash) (a .stash); state = d .state })
 
 module _ (a : Association) (e : a .settings .capacity ≡ 8) (i : TimerInput) where
+  -- promise: no12.4
   pub timer-8 : (room : ℕ) → timerOf a i room ≡ decided8 a (decideOf (a .settings) (a .state) (seenOf 8 (a .stash)) i room)
   unfolding timerOf
   timer-8 room =
@@ -27,6 +28,7 @@ module _ (a : Association) (e : a .settings .capacity ≡ 8) (i : TimerInput) wh
       ∙ (let d = decideOf (a .settings) (a .state) (seenOf 8 (a .stash)) i room in
       ap (λ (c : ℕ). out (d .answer) (record { settings = a .settings; stash = cond (d .takes) (getOf c (a .stash) .stash) (a .stash); state = d .state })) e)
 
+  -- promise: no12.4
   pub buffer-8 : (buffer : List ℕ) → bufferOf a i buffer ≡ wrote (getOf 8 (a .stash) .slot .bytes) (handed (timerOf a i (length buffer) .answer)) buffer
   unfolding bufferOf
   buffer-8 buffer = ap (λ (c : ℕ). wrote (getOf c (a .stash) .slot .bytes) (handed (timerOf a i (length buffer) .answer)) buffer) e

@@ -44,14 +44,24 @@ unfolding idleValid
 busy nts read held uid e = rw e
 
 taken-whole : (a : Association) → Whole a → a .settings .nts ≡ true → Whole (withStash a (getOf (a .settings .capacity) (a .stash) .stash))
-taken-whole a w n = record { settings = w .settings; stash = get-whole (a .settings .capacity) (a .stash) (w .stash); counted = w .counted; versions = w .versions; request = w .request; idle = busy _ _ _ _ n }
+taken-whole a w n =
+    record {
+      settings = w .settings;
+      stash = get-whole (a .settings .capacity) (a .stash)
+          (w .stash);
+      counted = w .counted;
+      versions = w .versions;
+      request = w .request;
+      idle = busy _ _ _ _ n;
+    }
 
 no-uid : zeros (replicate 32 0) ≡ true
 unfolding zeros
 no-uid = refl
 
 -- without NTS the request has no uid
-idle-kept : (nts : Bool) (read held : ℕ) (old uid : List ℕ) → idleValid nts read held old ≡ true → idleValid nts read held (cond nts uid (replicate 32 0)) ≡ true
+idle-kept : (nts : Bool) (read held : ℕ) (old uid : List ℕ) → idleValid nts read held old ≡ true →
+    idleValid nts read held (cond nts uid (replicate 32 0)) ≡ true
 unfolding idleValid
 idle-kept true read held old uid e = refl
 idle-kept false read held old uid e =
@@ -61,7 +71,16 @@ idle-kept false read held old uid e =
 
 sent-whole : (a : Association) → Whole a → (i : TimerInput) → Whole (withState a (sentOf (a .settings) (a .state) i))
 unfolding sentOf pendingOf pendingValid
-sent-whole a w i = record { settings = w .settings; stash = w .stash; counted = w .counted; versions = w .versions; request = refl; idle = idle-kept (a .settings .nts) _ _ (a .state .request .uid) (i .uid) (w .idle) }
+sent-whole a w i =
+    record {
+      settings = w .settings;
+      stash = w .stash;
+      counted = w .counted;
+      versions = w .versions;
+      request = refl;
+      idle = idle-kept (a .settings .nts) _ _
+          (a .state .request .uid) (i .uid) (w .idle);
+    }
 
 module _ (a : Association) (w : Whole a) (i : TimerInput) (room : ℕ) where
   -- the tried record, without its oldest cookie
@@ -78,5 +97,7 @@ module _ (a : Association) (w : Whole a) (i : TimerInput) (room : ℕ) where
   kept (sent t n) = sent-whole (withState a (triedOf (a .state))) (tried-whole a w) i
   kept (sent-nts k z) = sent-whole (withStash (withState a (triedOf (a .state))) (getOf (a .settings .capacity) (a .stash) .stash)) (left-whole (k .nts)) i
 
+  -- promise whole.3: Every call on a whole record leaves a whole record.
+  -- promise: no8.1, no12.3
   pub timer-whole : Whole (timerOf a i room .association)
   timer-whole = kept (given a i room)

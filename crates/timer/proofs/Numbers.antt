@@ -53,15 +53,18 @@ module _ (a : Association) (i : TimerInput) (room : ℕ) where
   abbrev Told : Decision → Type 0
   Told d = Given a i room (numberOf (d .answer)) (decided a d)
 
-  nts-told : N.Tried a i room → a .settings .nts ≡ true → Told (decideNts (a .settings) (triedOf (a .state)) (stash.seenOf (a .settings .capacity) (a .stash)) i)
+  nts-told : N.Tried a i room → a .settings .nts ≡ true →
+      Told (decideNts (a .settings) (triedOf (a .state)) (stash.seenOf (a .settings .capacity) (a .stash)) i)
   unfolding decideNts
   nts-told t n =
       let f = found-is a (t .accepted .whole) in
       either Told (getOf (a .settings .capacity) (a .stash) .found)
       (λ e. let k : N.Taken a i room = record { tried = t; nts = n; some = ltb-true _ _ (sym f ∙ e) } in
-      either Told (eqb (askedWith (stash.seenOf (a .settings .capacity) (a .stash))) 0) (λ z. too-large k (eqb-true _ _ z)) (λ z. sent-nts k (positive _ (eqb-false _ _ z))))
+      either Told (eqb (askedWith (stash.seenOf (a .settings .capacity) (a .stash))) 0) (λ z. too-large k (eqb-true _ _ z))
+      (λ z. sent-nts k (positive _ (eqb-false _ _ z))))
       (λ e. let l : a .stash .held ≤ 0 = ltb-false _ _ (sym f ∙ e) in no-cookie t n (omega arith))
 
+  -- promise: 10.1, no8.6 (at 32)
   pub given : Given a i room (numberOf (timerOf a i room .answer)) (timerOf a i room)
   unfolding timerOf decideOf wholeOf
   given =
@@ -75,6 +78,7 @@ module _ (a : Association) (i : TimerInput) (room : ℕ) where
       not-whole
 
   -- and no other is given
+  -- promise: 10.1, no8.6 (at 32)
   pub only : {n : ℕ} {o : TimerOut} → Given a i room n o → timerOf a i room ≡ o
   unfolding timerOf decideOf decideNts wholeOf
   only (not-whole w) = rw w
@@ -106,6 +110,9 @@ module _ (a : Association) (i : TimerInput) (room : ℕ) where
   numbered (sent t n) = refl
   numbered (sent-nts k z) = refl
 
+  -- promise: 10.1, 10.2 (at 21 and 22), 10.4 (at 23 and 24)
   pub number : (n : ℕ) → (numberOf (timerOf a i room .answer) ≡ n) ↔ ((o : TimerOut) × Given a i room n o)
-  number n =
-      ((λ e. (timerOf a i room, subst (λ (k : ℕ). Given a i room k (timerOf a i room)) e given)), (λ (o, g). ap (λ (x : TimerOut). numberOf (x .answer)) (only g) ∙ numbered g))
+  number n = (
+    (λ e. (timerOf a i room, subst (λ (k : ℕ). Given a i room k (timerOf a i room)) e given)),
+    (λ (o, g). ap (λ (x : TimerOut). numberOf (x .answer)) (only g) ∙ numbered g),
+  )

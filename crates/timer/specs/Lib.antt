@@ -1,3 +1,3 @@
--- The definitions that the contracts of `timer` cite, and the statements that its laws are of.
+-- The definitions that the contracts of `timer` cite, and the statements that its laws prove.
 pub mod Timer
 pub mod Numbers

@@ -1,4 +1,4 @@
--- RULES, "The numbers": when the timer gives each number, and which answer and record come with it, in the order of the tests.
+-- RULES, "The numbers": when the timer returns each number, and with which answer and record, in the order of the tests.
 -- Assumes nothing.
 use mathlib.Core.Path.{_≡_}
 use mathlib.Core.Bool.{Bool, true, false, _||_}
@@ -15,7 +15,8 @@ use Rattle.timer_rules.specs.Decide.{sendOf, askedWith}
 use Rattle.timer.specs.declared.TimerOut.{TimerOut}
 use Rattle.timer.specs.Timer.{out, decided}
 
--- the numbers of a timer that tries a poll, whether it is sent or not: to each the unanswered polls grow by one (RULES, No. 8)
+-- the numbers of a timer that tries a poll, whether it is sent or not: with each of them the unanswered polls grow by one (RULES, No. 8)
+-- promise: no8.3
 abbrev pub triesPoll : ℕ → Bool
 triesPoll n = eqb n 20 || eqb n 23 || eqb n 24
 
@@ -39,6 +40,7 @@ module _ (a : Association) (i : TimerInput) (room : ℕ) where
     pub some : 0 < a .stash .held
 
   -- ---- the numbers, each with its answer and the record after it
+  -- promise: 10.1
   pub data Given : ℕ → TimerOut → Type 0 where
     not-whole : wholeOf a ≡ false → Given 32 (out NotWhole a)
     short-buffer : wholeOf a ≡ true → shortBuffer (a .settings) room ≡ true → Given 31 (out ShortBuffer a)
@@ -49,4 +51,5 @@ module _ (a : Association) (i : TimerInput) (room : ℕ) where
         Given 24 (out CookieTooLarge (withStash (withState a (triedOf (a .state))) (getOf (a .settings .capacity) (a .stash) .stash)))
     sent : Tried → a .settings .nts ≡ false → Given 20 (decided a (sendOf (a .settings) (triedOf (a .state)) i 0 0 false))
     sent-nts : Taken → 0 < askedWith (seenOf (a .settings .capacity) (a .stash)) →
-        Given 20 (decided a (sendOf (a .settings) (triedOf (a .state)) i (getOf (a .settings .capacity) (a .stash) .slot .len) (askedWith (seenOf (a .settings .capacity) (a .stash))) true))
+        Given 20 (decided a (sendOf (a .settings) (triedOf (a .state)) i (getOf (a .settings .capacity) (a .stash) .slot .len)
+        (askedWith (seenOf (a .settings .capacity) (a .stash))) true))

@@ -1,5 +1,5 @@
-// The timer: a poll is sent, or the association gives up. The core goes over a record by value; above it a thin call updates the record that the caller lends.
-// Promises: each number exactly under its rule, the next record and every byte of the buffer; a whole record stays whole.
+// The timer: sends a poll, or gives up. The core function takes a record by value; a thin call above it updates the record that the caller lends.
+// Promises: each number exactly when its rule says so, the next record and every byte of the buffer; a whole record stays whole.
 // Rule: RULES, part 10; definitions in specs/Timer.antt, number by number in specs/Numbers.antt.
 use association::Association;
 use cookiestash::Slot;
@@ -14,7 +14,7 @@ ghost use Rattle.cookiestash.specs.Handed.{handedOf};
 ghost use Rattle.timer_rules.specs.Poll.{timerInput};
 ghost use Rattle.timer.specs.Timer.{out, oldest, decided, timed, timedOf};
 
-// What the timer gives: its answer, and the next record.
+// What the timer returns: its answer, and the next record.
 pub struct TimerOut {
     pub answer: TimerAnswer,
     pub association: Association,
@@ -26,7 +26,7 @@ fn least(a: usize, b: usize) -> usize
     if a <= b { a } else { b }
 }
 
-// The stored bytes of a cookie go to the start of the buffer, as many as it has room for.
+// Copies the stored bytes of a cookie to the start of the buffer, as many as fit.
 fn hand_out(slot: Slot, buffer: &mut [u8])
     ensures { λ _. ⌜ now (buffer .exit) ≡ handedOf slot (now (buffer .entry)) ⌝ }
 {
@@ -35,9 +35,10 @@ fn hand_out(slot: Slot, buffer: &mut [u8])
     bytes::copy(&cookie[0..n], buffer);
 }
 
-// What was decided is done: the next state is stored, and where a cookie is taken the oldest goes to the buffer.
+// Carries out a decision: stores the next state and, if the decision takes a cookie, moves the oldest to the buffer.
 fn decided(a: Association, decision: Decision, buffer: &mut [u8]) -> TimerOut
-    ensures { λ r. ⌜ (r ≡ decided a decision) × (now (buffer .exit) ≡ cond (decision .takes) (handedOf (oldest a) (now (buffer .entry))) (now (buffer .entry))) ⌝ }
+    ensures { λ r. ⌜ (r ≡ decided a decision) ×
+        (now (buffer .exit) ≡ cond (decision .takes) (handedOf (oldest a) (now (buffer .entry))) (now (buffer .entry))) ⌝ }
 {
     let answer = decision.answer;
     let state = decision.state;
@@ -63,6 +64,7 @@ fn decided(a: Association, decision: Decision, buffer: &mut [u8]) -> TimerOut
 }
 
 // The timer, on a record by value.
+// promise: 3.11, 10.1, 10.8
 pub fn timer_core(
     a: Association,
     time: u64,
@@ -87,7 +89,8 @@ pub fn timer_core(
     decided(a, decision, buffer)
 }
 
-// The timer: the association that the caller lends is updated.
+// The timer. Updates the association that the caller lends.
+// promise: 10.1, 10.8, 10.9 (proved by a walk, over `timer_core`), no12.2
 pub fn timer(
     a: &mut Association,
     time: u64,

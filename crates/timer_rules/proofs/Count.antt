@@ -28,19 +28,23 @@ fits-few n k p u =
     ]
 
 -- the number asked for is the formula for every length and every gap from 0 to 8
+-- promise: no4.1
 pub asked-formula : (v : Seen) → v .gap ≤ 8 → askedWith v ≡ askedOf (v .gap) (v .len)
 asked-formula v h = omega arith
 
 -- for a larger gap it is what it is for 8
+-- promise: no4.2
 pub asked-larger : (v : Seen) → 8 ≤ v .gap → askedWith v ≡ askedOf 8 (v .len)
 asked-larger v h = omega arith
 
 -- so of every stash, whatever its capacity, it is the formula, of the gap after the take and the length of the oldest
+-- promise: no4.1 (so it is for every stash)
 pub asked-seen : (cap : ℕ) (s : CookieStash) → cap ≤ 8 → askedWith (seenOf cap s) ≡ askedOf (gapOf cap (getOf cap s .stash)) (getOf cap s .slot .len)
 unfolding gapOf
 asked-seen cap s h = asked-formula (seenOf cap s) (omega arith)
 
 -- and never more than the capacity (RULES, No. 12)
+-- promise: no12.2
 pub asked-capacity : (cap : ℕ) (s : CookieStash) → askedWith (seenOf cap s) ≤ cap
 unfolding gapOf
 asked-capacity cap s = omega arith
@@ -59,6 +63,7 @@ asked-short gap len h =
     ]
 
 -- what makes a number 24: of a whole stash that holds a cookie nothing is asked for exactly where that cookie is longer than 724 bytes
+-- promise: 10.4
 pub asked-zero : (cap : ℕ) (s : CookieStash) → Whole cap s → 0 < s .held → (askedWith (seenOf cap s) ≡ 0) ↔ (724 < getOf cap s .slot .len)
 asked-zero cap s w h =
     let gap = gapOf cap (getOf cap s .stash) in

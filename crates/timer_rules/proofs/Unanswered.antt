@@ -7,6 +7,7 @@ use Rattle.reach.proofs.Unanswered.{polled-unanswered}
 use Rattle.association.specs.declared.Effort.{Effort}
 use Rattle.timer_rules.specs.Poll.{polled}
 
+-- promise: no8.3
 pub polled-counted : (e : Effort) → e .unanswered ≡ unansweredOf (e .reach) → polled e .unanswered ≡ unansweredOf (polled e .reach)
 unfolding polled
 polled-counted e h = ap (λ (n : ℕ). min (n + 1) 8) h ∙ sym (polled-unanswered (e .reach))

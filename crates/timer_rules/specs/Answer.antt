@@ -19,7 +19,8 @@ numberOf CookieTooLarge = 24
 numberOf ShortBuffer = 31
 numberOf NotWhole = 32
 
--- 20 is send, system update, timer, by the last poll; 22 demobilize; 21, 23 and 24 reset; others none
+-- 20 is send, system update, and a timer set by the last poll; 22 demobilize; 21, 23 and 24 reset; others none
+-- promise actions.2: Actions of the timer, number by number.
 abbrev pub actionsOf : ℕ → List Action
 actionsOf n =
     cond (eqb n 20) (send ∷ updateSystem ∷ setTimer lastPoll ∷ [])

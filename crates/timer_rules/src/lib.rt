@@ -1,5 +1,5 @@
-// The rules of the timer, over the settings, the state and what is seen of the stash. `timer` makes the call of them.
-// Promises: the decision, with its answer and the next state, is the one of the rule, and actions follow from its number.
+// The rules of the timer, over the settings, the state and the summary of the stash. `timer` calls them.
+// Promises: the decision, with its answer and the next state, is the rule's, and the actions follow from its number.
 // Rule: RULES, part 10; definitions in specs/Decide.antt, clause by clause in specs/Poll.antt.
 use association::Effort;
 use association::Pending;
@@ -32,7 +32,7 @@ pub enum TimerAnswer {
     NotWhole,
 }
 
-// What the caller gives for a poll: the time, the poll exponent that is desired, and the identifiers.
+// What the caller passes for a poll: the time, the desired poll exponent, and the identifiers.
 pub struct TimerInput {
     pub time: u64,
     pub desired: PollInterval,
@@ -60,7 +60,7 @@ fn startup_over(settings: Settings, s: State) -> bool
     }
 }
 
-// With NTS a buffer has room for the longest cookie.
+// Whether a buffer is too short for the longest cookie. This matters with NTS only.
 fn short_buffer(settings: Settings, room: usize) -> bool
     ensures { λ r. ⌜ r ≡ shortBuffer settings room ⌝ }
 {
@@ -71,14 +71,14 @@ fn short_buffer(settings: Settings, room: usize) -> bool
     }
 }
 
-// One more, held at the most that there may be.
+// One more, but at most `most`.
 fn one_more(n: u8, most: u8) -> u8
     ensures { λ r. ⌜ r ≡ min (n + 1) most ⌝ }
 {
     if n < most { n + 1 } else { most }
 }
 
-// One poll more: the register shifts, tries grow by one, held at 255, and so do the unanswered polls, held at 8.
+// Counts one more poll: the register shifts; tries grow by one, up to 255, and the unanswered polls by one, up to 8.
 fn polled(effort: Effort) -> Effort
     ensures { λ r. ⌜ r ≡ polled effort ⌝ }
 {
@@ -93,7 +93,7 @@ fn polled(effort: Effort) -> Effort
     }
 }
 
-// Once a poll is tried. Where two polls of V5 came to nothing, V5 does not come through, although both ends can do it: the version falls back.
+// The state once a poll is tried. If two V5 polls got no answer, V5 does not get through although both ends support it: the version falls back.
 fn tried(s: State) -> State
     ensures { λ r. ⌜ r ≡ triedOf s ⌝ }
 {
@@ -107,7 +107,10 @@ fn tried(s: State) -> State
     next
 }
 
-// How many cookies of a length fit into 724 bytes, eight at most: by four comparisons, since the small board has no divider.
+// How many cookies of a length fit into 724 bytes, at most eight. It takes four comparisons, since the small board has no divider.
+// promise no4.3: At most eight comparisons, read off the source, and no division: tested, not proved, by `tests/opcodes`, which reads the library's object
+//     code.
+// promise: no4.1, no4.3 (at most four comparisons of the length)
 fn fit(len: u16) -> u8
     ensures { λ r. ⌜ r ≡ min (724 / max len 1) 8 ⌝ }
 {
@@ -138,7 +141,8 @@ fn fit(len: u16) -> u8
     0
 }
 
-// How many new cookies are asked for: no more than there is room for in the stash, and than fit into a packet whose placeholders are each as long as the cookie.
+// How many new cookies to ask for: as many as the stash has room for, but no more than fit into a packet whose placeholders are each as long as the cookie.
+// promise: no4.1, no4.2, no4.3 (one with the gap)
 fn asked(gap: u8, len: u16) -> u8
     ensures { λ r. ⌜ r ≡ askedOf (min gap 8) len ⌝ }
 {
@@ -146,7 +150,7 @@ fn asked(gap: u8, len: u16) -> u8
     if gap <= most { gap } else { most }
 }
 
-// Until when a reply is awaited; the last moment that there is, where the sum passes it.
+// Until when a reply is awaited: the sum, or the last possible moment if the sum overflows.
 fn deadline(time: u64, window: u64) -> u64
     ensures { λ r. ⌜ r ≡ deadlineOf time window ⌝ }
 {
@@ -182,7 +186,7 @@ fn pending(nts: bool, window: u64, input: TimerInput) -> Pending
     }
 }
 
-// The poll is sent, with a cookie of a length, which is taken or is none, and so many asked for.
+// Sends the poll. The cookie's length is `len`, 0 without a cookie, and `asked` new ones are asked for; `takes` says whether the oldest cookie is taken.
 fn send(
     settings: Settings,
     s: State,
@@ -216,7 +220,7 @@ fn send(
     }
 }
 
-// With NTS, of the tried state: a cookie is taken, and as many new ones are asked for as there is room for then.
+// With NTS, for the tried state: takes a cookie, and asks for as many new ones as there is room for after that.
 fn decide_nts(settings: Settings, s: State, seen: Seen, input: TimerInput) -> Decision
     ensures { λ r. ⌜ r ≡ decideNts settings s seen input ⌝ }
 {
@@ -228,7 +232,7 @@ fn decide_nts(settings: Settings, s: State, seen: Seen, input: TimerInput) -> De
         };
     }
     let count = asked(seen.gap, seen.len);
-    // A poll that brings no new cookie would only use the stash up: keys are to be exchanged again.
+    // A poll that brings no new cookie would only use up the stash: the keys have to be exchanged again.
     if count == 0 {
         return Decision {
             answer: TimerAnswer::CookieTooLarge,
@@ -240,6 +244,7 @@ fn decide_nts(settings: Settings, s: State, seen: Seen, input: TimerInput) -> De
 }
 
 // What the timer decides. In order: 32, 31, 22 and 21, the poll.
+// promise: 10.1, 10.2, 10.3, 10.4, 10.5, 10.6, no3.1, no4.2, no8.3, no8.7
 pub fn decide(settings: Settings, s: State, seen: Seen, input: TimerInput, room: usize) -> Decision
     ensures { λ r. ⌜ r ≡ decideOf settings s seen input room ⌝ }
 {
@@ -258,7 +263,7 @@ pub fn decide(settings: Settings, s: State, seen: Seen, input: TimerInput, room:
         };
     }
     if startup_over(settings, s) {
-        // A server that denied us is not asked without end; one that is silent may have moved, so it is looked up again.
+        // A server that denied us is not asked forever. A silent one may have moved, so it is looked up again.
         let source = s.source;
         if source.denial {
             return Decision {

@@ -76,6 +76,7 @@ module _ (u : List ℕ) where
   present true e = let z : _≡_ {A = ℕ} 0 1 = cc in omega arith
   present false e = let z : _≡_ {A = ℕ} 0 1 = cc in omega arith
 
+  -- promise: 8.1
   pub agree-iff : (bs : List (List ℕ)) → (uidOf u bs ≡ Agree) ↔ ((0 < length bs) × Each (Begins u) bs)
   agree-iff [] = (λ e. (let z : _≡_ {A = ℕ} 0 1 = cc in absurd (omega arith)), λ q. absurd (omega (arith, q .0)))
   agree-iff (b ∷ bs) = (
@@ -83,10 +84,12 @@ module _ (u : List ℕ) where
     λ q. ap (λ t. cond t Agree Disagree) (all-start (b ∷ bs) (q .1)),
   )
 
+  -- promise: 8.1
   pub absent-iff : (bs : List (List ℕ)) → (uidOf u bs ≡ Absent) ↔ (bs ≡ [])
   absent-iff [] = (λ e. refl, λ q. refl)
   absent-iff (b ∷ bs) = (λ e. absurd (present (allStartWith (b ∷ bs) u) e), λ q. absurd (omega (arith, ap length q)))
 
+  -- promise: 8.1
   pub disagree-iff : (bs : List (List ℕ)) → (uidOf u bs ≡ Disagree) ↔ One (λ b. Begins u b → ⊥) bs
   disagree-iff [] = (λ e. (let z : _≡_ {A = ℕ} 0 1 = cc in absurd (omega arith)), λ q. absurd q)
   disagree-iff (b ∷ bs) = (

@@ -1,4 +1,4 @@
--- What groups of fields say of the unique identifier, and when a reply's groups match (RULES, part 8; RFC 8915, section 5.3).
+-- What groups of fields say about the unique identifier, and when a reply's groups match (RULES, part 8; RFC 8915, section 5.3).
 -- Assumes nothing.
 use Prim.Native.Nat.{ℕ}
 use mathlib.Core.Path.{_≡_}
@@ -13,14 +13,14 @@ use Rattle.uid_groups.specs.declared.Uid.the-variants.{Absent, Agree, Di
 abbrev pub uidKind : ℕ
 uidKind = 0x0104
 
--- the least length of a field and the longest tail: of decrypted fields, or else of a V4 packet (`decryptedStep`, `packetStep`)
+-- the least length of a field and the longest tail: of decrypted fields, or otherwise of a V4 packet (`decryptedStep`, `packetStep`)
 abbrev pub leastOf : Bool → ℕ
 leastOf decrypted = cond decrypted 4 16
 
 abbrev pub tailOf : Bool → ℕ
 tailOf decrypted = cond decrypted 0 24
 
--- whether the bytes u stand at the front of the bytes b
+-- whether the bytes b start with the bytes u
 abbrev pub startsWith : List ℕ → List ℕ → Bool
 startsWith b [] = true
 startsWith [] (x ∷ u) = false
@@ -30,16 +30,22 @@ abbrev pub allStartWith : List (List ℕ) → List ℕ → Bool
 allStartWith [] u = true
 allStartWith (b ∷ bs) u = startsWith b u && allStartWith bs u
 
--- of the bodies of a group's uid fields: absent; agree, where each starts with u; or disagree
+-- from the bodies of a group's uid fields: absent; agree, if each starts with u; or disagree
+-- promise 8.1: Each group is absent, agrees (every field of type 0104 starts with the 32 bytes) or disagrees.
+--     edit: uid_groups/uid_not_noted
 abbrev pub uidOf : List ℕ → List (List ℕ) → Uid
 uidOf u [] = Absent
 uidOf u (b ∷ bs) = cond (allStartWith (b ∷ bs) u) Agree Disagree
 
 -- the packet's fields that start at `from` or later and before `to`
+-- promise 7.8: Fields before the authenticated end are authenticated, fields after it untrusted.
+--     edit: incoming/untrusted_taken_as_authenticated
+-- promise: 8.1
 unfoldable pub packetUid : List ℕ → ℕ → ℕ → List ℕ → Uid
 packetUid p from to u = uidOf u (bodiesOf uidKind p (between from to (fieldsOf (packetWalk p))))
 
 -- all decrypted fields
+-- promise: 8.1
 unfoldable pub decryptedUid : List ℕ → List ℕ → Uid
 decryptedUid p u = uidOf u (bodiesOf uidKind p (fieldsOf (decryptedWalk p)))
 
@@ -61,11 +67,13 @@ abbrev pub oneAgrees : List Uid → Bool
 oneAgrees [] = false
 oneAgrees (g ∷ gs) = agrees g || oneAgrees gs
 
--- groups must not disagree, and one must agree
+-- no group may disagree, and one must agree
 abbrev pub groupsMatch : List Uid → Bool
 groupsMatch gs = noneDisagrees gs && oneAgrees gs
 
--- part 8: the authenticated and the encrypted group; the untrusted one joins for an NTSN kiss only, and else is as good as absent
+-- part 8: the authenticated and the encrypted group; the untrusted one counts for an NTSN kiss only, and otherwise counts as absent
+-- promise 8.2: The authenticated and the encrypted group must not disagree, and one must agree. The untrusted group counts only for NTSN.
+--     edit: uid_groups/untrusted_believed
 unfoldable pub uidMatches : Uid → Uid → Uid → Bool → Bool
 uidMatches authenticated encrypted untrusted ntsn = groupsMatch (authenticated ∷ encrypted ∷ cond ntsn untrusted Absent ∷ [])
 

@@ -1,5 +1,5 @@
-// What groups of fields say of the unique identifier, and when they match.
-// Promises: a group agrees, disagrees or is absent exactly as its fields do; an untrusted group never counts but for NTSN.
+// What groups of fields say about the unique identifier, and when they match.
+// Promises: a group agrees, disagrees or is absent exactly as its fields do; an untrusted group counts only for NTSN.
 // Rule: RULES, part 8; definitions in specs/Matching.antt.
 use fields::Step;
 use header::HEADER_BYTES;
@@ -13,7 +13,7 @@ ghost use Rattle.uid_groups.specs.Matching.{leastOf, tailOf, uidKind, st
 // The type of a field that carries the unique identifier.
 pub const UID_KIND: u16 = 0x0104;
 
-// A group of fields has no identifier, only ones that agree with the one asked for, or one that does not.
+// A group of fields has no identifier, only identifiers that agree with the expected one, or one that does not.
 pub enum Uid {
     Absent,
     Agree,
@@ -49,7 +49,7 @@ fn counts(kind: u16, at: usize, from: usize, to: usize) -> bool
     kind == UID_KIND
 }
 
-// What stands at an offset of decrypted fields, or else of a V4 packet.
+// What is at an offset of decrypted fields, or otherwise of a V4 packet.
 fn field_at(p: &[u8], at: usize, decrypted: bool) -> Step
     ensures { λ r. ⌜ r ≡ stepAt (now (p .entry)) at (leastOf decrypted) (tailOf decrypted) ⌝ }
 {
@@ -60,9 +60,10 @@ fn field_at(p: &[u8], at: usize, decrypted: bool) -> Step
     }
 }
 
-// What the uid fields that start at `from` or later and before `to` say, of the walk from `first` on over decrypted fields, or else over a V4 packet.
+// What the uid fields that start at `from` or later and before `to` say. The walk starts at `first`, over decrypted fields or otherwise over a V4 packet.
 fn uid_among(p: &[u8], decrypted: bool, first: usize, from: usize, to: usize, uid: [u8; 32]) -> Uid
-    ensures { λ r. ⌜ r ≡ uidOf uid (bodiesOf uidKind (now (p .entry)) (between from to (fieldsOf (walkOf (now (p .entry)) first (leastOf decrypted) (tailOf decrypted))))) ⌝ }
+    ensures { λ r. ⌜ r ≡ uidOf uid (bodiesOf uidKind (now (p .entry))
+        (between from to (fieldsOf (walkOf (now (p .entry)) first (leastOf decrypted) (tailOf decrypted))))) ⌝ }
 {
     let mut seen = Uid::Absent;
     let mut at = first;
@@ -87,14 +88,16 @@ fn uid_among(p: &[u8], decrypted: bool, first: usize, from: usize, to: usize, ui
     }
 }
 
-// What the packet's fields say that start at `from` or later and before `to`.
+// What the packet's fields that start at `from` or later and before `to` say.
+// promise: 7.8, 8.1
 pub fn packet_uid(p: &[u8], from: usize, to: usize, uid: [u8; 32]) -> Uid
     ensures { λ r. ⌜ r ≡ packetUid (now (p .entry)) from to uid ⌝ }
 {
     uid_among(p, false, HEADER_BYTES, from, to, uid)
 }
 
-// What decrypted fields say, all of them.
+// What all decrypted fields say.
+// promise: 8.1
 pub fn decrypted_uid(p: &[u8], uid: [u8; 32]) -> Uid
     ensures { λ r. ⌜ r ≡ decryptedUid (now (p .entry)) uid ⌝ }
 {
@@ -126,7 +129,7 @@ fn joined(a: Uid, b: Uid) -> Uid
     }
 }
 
-// The untrusted group is looked at for an NTSN kiss only: a server that cannot read our cookie has no key to authenticate its answer with.
+// The untrusted group counts for an NTSN kiss only: a server that cannot read our cookie has no key to authenticate its answer.
 fn looked_at(untrusted: Uid, ntsn: bool) -> Uid
     ensures { λ r. ⌜ r ≡ cond ntsn untrusted Uid.Absent ⌝ }
 {
@@ -134,6 +137,7 @@ fn looked_at(untrusted: Uid, ntsn: bool) -> Uid
 }
 
 // Whether the groups of a reply match: none disagrees, and one agrees.
+// promise: 8.2
 pub fn uid_matches(authenticated: Uid, encrypted: Uid, untrusted: Uid, ntsn: bool) -> bool
     ensures { λ r. ⌜ r ≡ uidMatches authenticated encrypted untrusted ntsn ⌝ }
 {

@@ -6,6 +6,7 @@ use Rattle.version.specs.declared.ProtocolVersion.the-variants.{V4, Upgr
 use Rattle.version.specs.declared.SendKind.{SendKind}
 use Rattle.version.specs.declared.SendKind.the-variants as send
 
+-- promise 10.7: There are five kinds of send. Run: `drills/upgrade-falls-back.drill`.
 abbrev pub kindOf : ProtocolVersion → Bool → SendKind
 kindOf V4 nts = cond nts send.NtsV4 send.V4
 kindOf (Upgrading tries) nts = cond nts send.NtsV5 send.V4Upgrade

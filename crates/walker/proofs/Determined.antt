@@ -1,4 +1,5 @@
--- Each public function's contract determines its result: any two that it allows are equal, and so are the place in memory and the contents of a slice that is handed back.
+-- Each public function's contract determines its result: any two that it allows are equal, and so are the place in memory and the contents of a slice that is
+-- handed back.
 -- Assumes nothing.
 use mathlib.Core.Path.{_≡_, refl, sym, ap₂, _∙_}
 use mathlib.Core.List.{List}

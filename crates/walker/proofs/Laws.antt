@@ -1,4 +1,5 @@
--- A field that is found has the body that its step names: exactly that part of the packet, also where it ends at the packet's last byte; and bytes past the end have none.
+-- A field that is found has the body that its step names: exactly that part of the packet, also where it ends at the packet's last byte; and bytes past the
+-- end have none.
 -- Assumes nothing.
 use mathlib.Core.Path.{_≡_, refl, _∙_, ap}
 use mathlib.Core.Bool.{Bool, true, false}
@@ -35,10 +36,12 @@ module _ (p : List ℕ) (start len : ℕ) where
   unfolding bodyOf bodyFrom
   body-within h = (when _ _ (within-fits h), when _ _ (within-fits h))
 
+  -- promise: 7.10 (past the end there is none)
   pub body-past : length p < start + len → bodyOf p start len ≡ []
   unfolding bodyOf
   body-past h = unless _ _ (past-unfit h)
 
+-- promise: 7.10 (the body of a found field is exactly that part)
 pub body-found : (p : List ℕ) (at kind start len next : ℕ) → packetStep p at ≡ Field kind start len next → Body p at start len next
 body-found p at kind start len next e =
     let w = placed p at 16 24 (lit≤ tt) kind start len next e in

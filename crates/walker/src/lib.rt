@@ -7,7 +7,8 @@ ghost use mathlib.Core.Path.{_≡_};
 ghost use Rattle.fields.specs.Field.{packetStep};
 ghost use Rattle.walker.specs.Walker.{walkerAt, IsBody};
 
-// The `len` bytes from `start` on, as that part of the packet itself, or none where they run past the end.
+// The `len` bytes from `start` on, as that part of the packet itself, or none if they run past the end.
+// promise: 7.10
 pub fn body_at(p: &[u8], start: usize, len: usize) -> &[u8]
     ensures { λ r. ⌜ IsBody (p .entry) start len r ⌝ }
 {
@@ -28,13 +29,15 @@ pub struct Walker<'a> {
 }
 
 impl<'a> Walker<'a> {
+    // promise: 7.10
     pub fn new(packet: &'a [u8], at: usize) -> Walker<'a>
         ensures { λ r. ⌜ r ≡ walkerAt (packet .entry) at ⌝ }
     {
         Walker { packet, at }
     }
 
-    // What stands at the walker's offset; the walker stays where it is.
+    // What is at the walker's offset; the walker does not move.
+    // promise: 7.10
     pub fn step(self) -> Step
         ensures { λ r. ⌜ r ≡ packetStep (now (self .entry .packet)) (self .entry .at) ⌝ }
     {
@@ -42,6 +45,7 @@ impl<'a> Walker<'a> {
     }
 
     // The body of a field, by the start and the length that its step names.
+    // promise: 7.10
     pub fn body(self, start: usize, len: usize) -> &'a [u8]
         ensures { λ r. ⌜ IsBody (self .entry .packet) start len r ⌝ }
     {
@@ -50,6 +54,7 @@ impl<'a> Walker<'a> {
 }
 
 // What a walker finds first in a packet; it takes plain bytes, so that its callers hold no walker.
+// promise: 7.10
 pub fn first(p: &[u8]) -> Step
     ensures { λ r. ⌜ r ≡ packetStep (now (p .entry)) 48 ⌝ }
 {

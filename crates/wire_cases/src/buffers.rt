@@ -12,7 +12,7 @@ use request::Requested;
 use time_types::PollInterval;
 use version::SendKind;
 
-// What a buffer holds before it is lent, so that a byte which is written can be told from one which is not.
+// What a buffer holds before it is lent, so that one can tell written bytes from others.
 const FILLER: u8 = 0xee;
 
 fn show(label: &[u8], number: u8, len: usize, buffer: &[u8]) {

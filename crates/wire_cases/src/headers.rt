@@ -60,7 +60,7 @@ fn show_kisses(k: Kisses) {
     say::flag(b" any=", k.any);
 }
 
-// 1 is the number of bytes that are not decodable; 0 stands here for a header that is read.
+// 1 is the number for bytes that cannot be decoded; here 0 means that a header was read.
 pub fn answer(packet: &[u8]) {
     let HeaderRead::Decoded(h) = header::read_header(packet) else {
         say::text(b"header 1");

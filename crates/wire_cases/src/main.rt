@@ -1,4 +1,4 @@
-// A program that answers cases of the wire, a line for each line of its standard input; tools/wire_cases.py writes the cases and the answers.
+// A program that answers cases of the wire format, one line for each line of its standard input; tools/wire_cases.py writes the cases and the answers.
 // Promises: it ends and stays in its bounds. What it prints is tested, not proved (docs/EXCEPTIONS.md).
 // Rule: RULES, parts 6 to 9 and No. 1.
 mod buffers;
@@ -15,19 +15,19 @@ use drill_text::value::MAX_BYTES;
 use drill_text::value::UID_BYTES;
 use libc::STDIN_FILENO;
 
-// All lines together have to be fewer bytes than these.
+// All lines together must have fewer bytes than this.
 const INPUT_ROOM: usize = 131072;
 
-// How many bytes a refusal may have.
+// How many bytes an error may have.
 const REFUSAL_ROOM: usize = 256;
 
 // The commands, by their places in their table, and what they answer:
 //   header     the number; every field, the kisses, and the header written again
-//   walk       of a packet: what stands at an offset, how the walk ends, whether the offset is a place
-//   decrypted  of decrypted fields: what stands at an offset, how the walk ends
+//   walk       of a packet: what is at an offset, how the walk ends, whether the offset is a place
+//   decrypted  of decrypted fields: what is at an offset, how the walk ends
 //   walker     the part of a packet at an offset; what the walker finds first, and the body of that field
-//   uid        what a packet's groups before and after an end say of the identifier
-//   encrypted  what decrypted fields say of it
+//   uid        what a packet's groups before and after an end say about the identifier
+//   encrypted  what decrypted fields say about it
 //   match      whether the groups match
 //   collect    the buffer before, the number, the list's length, the buffer after
 //   request    the number, the packet's length, the buffer after
@@ -53,7 +53,7 @@ mod command {
     pub const UNKNOWN: usize = 9;
 }
 
-// The keys, by their places in their table, which is one for all commands: a command leaves out those that it does not need.
+// The keys, by their places in the one table for all commands: a command ignores those that it does not need.
 mod key {
     pub const BYTES: usize = 0;
 
@@ -86,7 +86,7 @@ mod key {
     pub const ASKED: usize = 14;
 }
 
-// Which command a line's word is.
+// The command that a line's word names.
 fn command_of(line: &[u8]) -> usize {
     match text::index_of(
         b"header walk decrypted walker uid encrypted match collect request",
@@ -97,7 +97,7 @@ fn command_of(line: &[u8]) -> usize {
     }
 }
 
-// The bytes are a packet, decrypted fields or a cookie; the offset is an authenticated end too, or where a part starts.
+// The bytes are a packet, decrypted fields or a cookie. The offset is also an authenticated end, or where a part starts.
 fn ask(line: &[u8], number: u64, v: Values, bytes: &[u8], uid: [u8; UID_BYTES]) {
     let at = v.number(key::AT) as usize;
     match command_of(line) {
@@ -117,7 +117,7 @@ fn ask(line: &[u8], number: u64, v: Values, bytes: &[u8], uid: [u8; UID_BYTES]) 
     }
 }
 
-// The values of a line's keys; where they cannot be read the refusal is the answer.
+// The values of a line's keys. If they cannot be read the error is the answer.
 fn read(line: &[u8], number: u64) -> Values {
     let mut out = [0u8; REFUSAL_ROOM];
     let v = keys::read(
@@ -147,7 +147,7 @@ fn answer(line: &[u8], number: u64) {
     );
 }
 
-// A comment is repeated, so that each answer stands in the line of its case.
+// A comment is repeated, so that each answer is in the line of its case.
 fn answer_line(line: &[u8], number: u64) {
     if text::byte_at(line, 0) == b'#' {
         say::text(line);

@@ -1,10 +1,10 @@
-// What an answer is made of, on standard output. A label has the space before it and the '=' behind it.
+// The parts of an answer, on standard output. A label has the space before it and the '=' after it.
 use drill_text::print;
 use drill_text::text;
 use drill_text::value::REQUEST_ROOM;
 use libc::STDOUT_FILENO;
 
-// A label and a signed number of 8 bits are no longer.
+// A label and a signed 8-bit number are no longer than this.
 const SMALL_ROOM: usize = 32;
 
 // The digits of the longest buffer that is lent.

@@ -1,4 +1,4 @@
-// The unique identifier (RFC 8915 section 5.3): what each group of fields says of it, and when the groups match.
+// The unique identifier (RFC 8915 section 5.3): what each group of fields says about it, and when the groups match.
 use crate::key;
 use crate::say;
 use drill_text::keys::Values;

@@ -1,4 +1,4 @@
-// Extension fields: what stands at an offset, how the walk ends, whether the offset is a place, and the bodies (RFC 7822 section 3).
+// Extension fields: what is at an offset, how the walk ends, whether the offset is a place, and the bodies (RFC 7822 section 3).
 use crate::say;
 use fields::Step;
 use fields::Walked;
@@ -41,7 +41,7 @@ pub fn decrypted(fields: &[u8], at: usize) {
     show_walk(fields::decrypted_walk(fields));
 }
 
-// The part of the packet at a place that no field has to name; what the walker finds first, and the body of that field.
+// The part of the packet at any place, with or without a field; what the walker finds first, and the body of that field.
 pub fn walker(packet: &[u8], at: usize, len: usize) {
     say::bytes(b"walker part=", walker::body_at(packet, at, len));
     let step = walker::first(packet);

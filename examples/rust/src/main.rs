@@ -1,4 +1,4 @@
-//! One poll, measured: examples/c/measure.c in Rust. The server's reply is made here, so that nothing is sent; `rust/examples/connector.rs` is a whole client.
+//! One poll, measured: examples/c/measure.c in Rust. The server's reply is made here, so nothing is sent; `rust/examples/connector.rs` is a whole client.
 use reckonstile::{Association, NtpInstant, NtpTimestamp, Opened, PollInterval, Settings, Times, REQUEST_BYTES};
 
 const SECOND: u64 = 1 << 32; // of a timestamp, in its units of 2^-32 s
@@ -6,7 +6,7 @@ const SECOND: u64 = 1 << 32; // of a timestamp, in its units of 2^-32 s
 fn main() -> Result<(), Box<dyn std::error::Error>> {
     let (mut association, _) = Association::<1>::new(&Settings::default(), &[])?;
 
-    // It is time to poll. The id has to be 64 random bits, drawn anew for each poll; here the reply has to be made for it.
+    // It is time to poll. The id must be 64 random bits, drawn anew for each poll; here it is fixed, since the reply is made for it.
     let (id, uid, nanos) = (0x0123456789ABCDEF, [0; 32], 1_000_000_000);
     let poll = association.timer(NtpInstant::from_nanos(nanos), PollInterval::new(6), id, uid, &mut [])?;
     let mut request = [0; REQUEST_BYTES];

@@ -1,5 +1,6 @@
 //! The drill's language: commands, the answers to them, and a log of both.
 use crate::both::{Both, Step};
+use crate::exec::BROKEN_LIST;
 use crate::random::HELD;
 use crate::rules;
 use crate::state::*;
@@ -39,12 +40,16 @@ pub fn commands(op: &Op, step: &Step) -> Vec<String> {
             let d = step.drawn.as_ref().unwrap();
             match &d.v5 {
                 None => format!(
-                    "reply now={now} t1={t1} t4={t4} packet={} auth={} plain={} list=collect",
+                    "reply now={now} t1={t1} t4={t4} packet={} auth={} plain={} list={}",
                     held(packet),
                     d.auth,
-                    held(&d.plain)
+                    held(&d.plain),
+                    if d.broken_list { bytes(&BROKEN_LIST) } else { "collect".into() }
                 ),
-                Some(v) => reply5(*now, *t1, *t4, v, &d.cookies),
+                Some(v) => {
+                    let list = if d.broken_list { BROKEN_LIST.to_vec() } else { list(&d.cookies) };
+                    reply5(*now, *t1, *t4, v, &list)
+                }
             }
         }
         Op::Accept { stratum, local, bloom } => {
@@ -77,7 +82,7 @@ pub fn uid_text(uid: &[u8; 32]) -> String {
     if *uid == [0; 32] { "-".into() } else { hex(uid) }
 }
 
-fn reply5(now: u64, t1: u64, t4: u64, v: &Decoded, cookies: &[Vec<u8>]) -> String {
+fn reply5(now: u64, t1: u64, t4: u64, v: &Decoded, list: &[u8]) -> String {
     let kiss: Vec<&str> =
         ["rate", "deny", "rstr", "ntsn", "any"].into_iter().zip(v.kiss).filter(|k| k.1).map(|k| k.0).collect();
     let group = |g: Option<bool>| match g {
@@ -101,7 +106,7 @@ fn reply5(now: u64, t1: u64, t4: u64, v: &Decoded, cookies: &[Vec<u8>]) -> Strin
         group(v.uid[0]),
         group(v.uid[1]),
         group(v.uid[2]),
-        held(&list(cookies))
+        held(list)
     )
 }
 

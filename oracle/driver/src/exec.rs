@@ -51,7 +51,12 @@ pub struct Drawn {
     pub v5: Option<Decoded>,
     /// Type and body of each field of a V4 packet that the crate could decode, but for the 0404 fields.
     pub fields: Option<Vec<(u16, Vec<u8>)>>,
+    /// Without NTS no rule reads the cookie list; then every other reply hands over one that is broken.
+    pub broken_list: bool,
 }
+
+/// A list that is broken: its only head is cut off.
+pub const BROKEN_LIST: [u8; 3] = [0xC0, 0x0E, 0];
 
 fn leap_code(l: NtpLeapIndicator) -> u8 {
     match l {
@@ -211,7 +216,8 @@ impl Exec {
             Op::Reply { now, t1, t4, packet, fail } => {
                 set_now(*now);
                 FakeCipher::force_fail(*fail);
-                let drawn = catch_unwind(AssertUnwindSafe(|| self.draw(packet))).unwrap_or_default();
+                let mut drawn = catch_unwind(AssertUnwindSafe(|| self.draw(packet))).unwrap_or_default();
+                drawn.broken_list = !self.nts && t4 % 2 == 1;
                 let before = self.held();
                 let mut answer = self.reply(*now, *t1, *t4, packet);
                 if answer.number == 0 {

@@ -3,7 +3,7 @@ use crate::ffi::{self, Association, Decoded, Field, Loaded, Made, Replied, Setti
 use crate::identifiers::ReferenceId;
 use crate::wrong::Wrong;
 use driver::both::Step;
-use driver::exec::Drawn;
+use driver::exec::{Drawn, BROKEN_LIST};
 use driver::requests::Request;
 use driver::rules::Rules;
 use driver::state::*;
@@ -169,12 +169,14 @@ impl Library {
                     // It has no decoded form, so there is nothing to hand over.
                     None if step.left_out => step.of_rules.0.clone(),
                     None => {
-                        let list = self.collect(d)?;
+                        let collected = self.collect(d)?;
+                        let list = if d.broken_list { BROKEN_LIST.to_vec() } else { collected };
                         let said = ffi::reply(self.record(), packet, d.auth, &d.plain, &list, *t1, *t4, *now);
                         replied(said)?
                     }
                     Some(v5) => {
-                        let said = ffi::reply_decoded(self.record(), decoded(v5), &list(&d.cookies), *t1, *t4, *now);
+                        let list = if d.broken_list { BROKEN_LIST.to_vec() } else { list(&d.cookies) };
+                        let said = ffi::reply_decoded(self.record(), decoded(v5), &list, *t1, *t4, *now);
                         replied(said)?
                     }
                 }

@@ -1,4 +1,4 @@
-//! MD5 (RFC 1321), of which a connector needs one use: the identifier of an IPv6 address. It is no protection, and nothing here relies on it as one.
+//! MD5 (RFC 1321), which a connector needs for one thing: the identifier of an IPv6 address. It is not secure, and nothing here needs it to be.
 use reckonstile::ReferenceId;
 use std::net::IpAddr;
 
@@ -39,7 +39,7 @@ fn digest(text: &[u8]) -> [u8; 16] {
     out
 }
 
-/// The identifier of an address: of IPv4 its four bytes, of IPv6 the first four bytes of its MD5 (RFC 5905, section 7.3). 2001:db8::1 is 39ab9b37.
+/// The identifier of an address: for IPv4 its four bytes, for IPv6 the first four bytes of its MD5 (RFC 5905, section 7.3). 2001:db8::1 is 39ab9b37.
 pub fn identifier(address: IpAddr) -> ReferenceId {
     match address {
         IpAddr::V4(address) => ReferenceId::from(address),

@@ -1,5 +1,5 @@
-//! What a connector with NTS does beside the association (RFC 8915): it keeps the keys and cookies of a key exchange, puts the authenticator (the 0404 field) behind a
-//! request, and opens those of a reply. The cipher, AES-SIV-CMAC-256, is nettle's; with the feature `nettle` off there is none.
+//! What a connector with NTS does besides calling the association (RFC 8915): it keeps the keys and cookies of a key exchange, appends the authenticator (the
+//! 0404 field) to a request, and opens those of a reply. The cipher, AES-SIV-CMAC-256, is nettle's; without the feature `nettle` there is none.
 use reckonstile::{Opened, ShortScratch};
 use std::error::Error;
 
@@ -87,7 +87,7 @@ mod cipher {
     pub enum Sealed {
         /// It is shorter than a tag.
         Short,
-        /// Its tag is another.
+        /// Its tag is wrong.
         Tag,
     }
 
@@ -119,7 +119,7 @@ mod cipher {
     }
 }
 
-/// The keys and first cookies that a key exchange gave.
+/// The keys and first cookies of a key exchange.
 pub struct Nts {
     to_server: cipher::Siv,
     to_client: cipher::Siv,
@@ -157,7 +157,7 @@ impl Nts {
         out
     }
 
-    /// Puts the authenticator behind a request, over all of it.
+    /// Appends the authenticator to a request, over all of it.
     pub fn seal(&self, packet: &mut Vec<u8>, nonce: [u8; 16]) -> Result<(), Box<dyn Error>> {
         let sealed = self.to_server.seal(packet, &nonce, &[]);
         let length = 4 + 4 + nonce.len() + sealed.len();

@@ -16,7 +16,9 @@ accept-seen-requires c κs = search needs
 
 returns : tie.Need-returns
 returns c =
-    let a = c .before .before .before .before .before .before .args in
+    let c3 = c .before .before .before in
+    let c6 = c3 .before .before .before in
+    let a = c6 .args in
     c .accept-seen .ensures ∙ ap (λ (v : Seen). acceptSeen (a .a .settings) (a .a .state) v (a .stratum) (now (a .local)) (a .bloom)) (c .before .seen .ensures)
 
 pub accept-spec : {M : Type 1} → statement M

@@ -30,7 +30,8 @@ is-loop-requires c κs = search needs
 returns-3 : tie.Need-returns-3
 unfolding acceptSeen
 returns-3 c =
-    let s = c .before .before .before .before in
+    let c3 = c .before .before .before in
+    let s = c3 .before in
     rw (whole (s .before .before .before), lt-leb _ _ (s .if2 .left), sym (c .before .is-loop .ensures) ∙ c .if3 .taken)
 
 is-reachable-requires : tie.Need-is-reachable-requires
@@ -39,16 +40,32 @@ is-reachable-requires c κs = search needs
 returns-4 : tie.Need-returns-4
 unfolding acceptSeen
 returns-4 c =
-    let l = c .before .before .before .before in
-    let s = l .before .before .before .before in
-    rw (whole (s .before .before .before), lt-leb _ _ (s .if2 .left), sym (l .before .is-loop .ensures) ∙ l .if3 .left, sym (c .before .is-reachable .ensures) ∙ not-true _ (c .if4 .taken))
+    let c3 = c .before .before .before in
+    let l = c3 .before in
+    let l3 = l .before .before .before in
+    let s = l3 .before in
+    rw (
+      whole (s .before .before .before),
+      lt-leb _ _ (s .if2 .left),
+      sym (l .before .is-loop .ensures) ∙ l .if3 .left,
+      sym (c .before .is-reachable .ensures)
+          ∙ not-true _ (c .if4 .taken),
+    )
 
 returns-5 : tie.Need-returns-5
 unfolding acceptSeen
 returns-5 c =
-    let l = c .before .before .before .before in
-    let s = l .before .before .before .before in
-    rw (whole (s .before .before .before), lt-leb _ _ (s .if2 .left), sym (l .before .is-loop .ensures) ∙ l .if3 .left, sym (c .before .is-reachable .ensures) ∙ not-false _ (c .if4 .left))
+    let c3 = c .before .before .before in
+    let l = c3 .before in
+    let l3 = l .before .before .before in
+    let s = l3 .before in
+    rw (
+      whole (s .before .before .before),
+      lt-leb _ _ (s .if2 .left),
+      sym (l .before .is-loop .ensures) ∙ l .if3 .left,
+      sym (c .before .is-reachable .ensures)
+          ∙ not-false _ (c .if4 .left),
+    )
 
 pub accept-seen-spec : {M : Type 1} → statement M
 accept-seen-spec =

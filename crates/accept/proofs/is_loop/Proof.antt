@@ -16,7 +16,9 @@ served-by-us-requires : tie.Need-served-by-us-requires
 served-by-us-requires c κs = search needs
 
 returns-2 : tie.Need-returns-2
-returns-2 c = sym (or-true _ (or-false _ (sym (c .before .before .before .is-ours .ensures) ∙ c .before .before .if1 .left) ∙ sym (c .before .served-by-us .ensures) ∙ c .if2 .taken))
+returns-2 c =
+    sym (or-true _ (or-false _ (sym (c .before .before .before .is-ours .ensures) ∙ c .before .before .if1 .left) ∙ sym (c .before .served-by-us .ensures)
+    ∙ c .if2 .taken))
 
 is-present-requires : tie.Need-is-present-requires
 is-present-requires c κs = search needs
@@ -24,7 +26,8 @@ is-present-requires c κs = search needs
 returns-3 : tie.Need-returns-3
 returns-3 c =
     let s = c .before .before in
-    sym (or-false _ (or-false _ (sym (s .before .before .is-ours .ensures) ∙ s .before .if1 .left) ∙ sym (s .served-by-us .ensures) ∙ c .before .if2 .left) ∙ sym (c .is-present .ensures))
+    sym (or-false _ (or-false _ (sym (s .before .before .is-ours .ensures) ∙ s .before .if1 .left) ∙ sym (s .served-by-us .ensures) ∙ c .before .if2 .left)
+    ∙ sym (c .is-present .ensures))
 
 pub is-loop-spec : {M : Type 1} → statement M
 is-loop-spec = tie.close (tie.spec is-ours-requires returns served-by-us-requires returns-2 is-present-requires returns-3)

@@ -13,13 +13,14 @@ use Rattle.association.proofs.whole_seen.Tie as tie
 settled : (c : tie.Else1) → settingsValid (c .before .before .args .settings) ≡ true
 settled c = sym (c .before .valid .ensures) ∙ not-false _ (c .if1 .left)
 
-seen-whole : (c : tie.Else2) → c .before .before .before .before .args .seen .whole ≡ true
+seen-whole : (c : tie.Else2) → let c3 = c .before .before .before in c3 .before .args .seen .whole ≡ true
 seen-whole c = not-false _ (c .if2 .left)
 
-counted : (c : tie.Else3) → effortValid (c .before .before .before .before .before .before .before .args .state .effort) ≡ true
+counted : (c : tie.Else3) → let c3 = c .before .before .before in let c6 = c3 .before .before .before in effortValid (c6 .before .args .state .effort) ≡ true
 counted c = sym (c .before .valid2 .ensures) ∙ not-false _ (c .if3 .left)
 
-spoken : (c : tie.Else4) → let a = c .before .before .before .before .before .before .before .before .before .args in versionsValid (a .settings .start) (a .state .version) ≡ true
+spoken : (c : tie.Else4) → let c3 = c .before .before .before in let c6 = c3 .before .before .before in let c9 = c6 .before .before .before in
+    let a = c9 .args in versionsValid (a .settings .start) (a .state .version) ≡ true
 spoken c = sym (c .before .versions-valid .ensures) ∙ not-false _ (c .if4 .left)
 
 valid-requires : tie.Need-valid-requires
@@ -31,7 +32,9 @@ returns c = rw (sym (c .before .valid .ensures) ∙ not-true _ (c .if1 .taken))
 
 returns-2 : tie.Need-returns-2
 unfolding wholeSeen
-returns-2 c = rw (settled (c .before .before), not-true (c .before .before .before .before .args .seen .whole) (c .if2 .taken))
+returns-2 c =
+    let c3 = c .before .before .before in
+    rw (settled (c .before .before), not-true (c3 .before .args .seen .whole) (c .if2 .taken))
 
 valid-requires-2 : tie.Need-valid-requires-2
 valid-requires-2 c κs = search needs
@@ -61,7 +64,8 @@ pending-valid-requires c κs = c .zero-uid .ensures
 returns-5 : tie.Need-returns-5
 unfolding wholeSeen
 returns-5 c =
-    let v = c .before .before .before .before .before in
+    let c3 = c .before .before .before in
+    let v = c3 .before .before in
     let e = v .before .before in
     let k = e .before .before .before in
     rw (settled (k .before .before), seen-whole k, counted e, spoken v, sym (c .before .pending-valid .ensures) ∙ not-true _ (c .if5 .taken))
@@ -73,7 +77,8 @@ returns-6 : tie.Need-returns-6
 unfolding wholeSeen idleValid
 returns-6 c =
     let r = c .before in
-    let v = r .before .before .before .before .before in
+    let r3 = r .before .before .before in
+    let v = r3 .before .before in
     let e = v .before .before in
     let k = e .before .before .before in
     rw (

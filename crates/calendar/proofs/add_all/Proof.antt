@@ -25,8 +25,10 @@ number-at-requires-2 c κs = search needs
 
 add-requires : tie.Need-add-requires Inv-loop μ-loop
 add-requires c κs =
-    let p = c .before .before .before .before .before .before .before .before .pre in
-    let l = c .before .before .before .before .loop in
+    let c3 = c .before .before .before in
+    let c6 = c3 .before .before .before in
+    let p = c6 .before .before .pre in
+    let l = c3 .before .loop in
     let in-range = c .before .before .before .loop-test .taken in
     let s = c .before .number-at .ensures in
     let r = c .number-at2 .ensures in
@@ -40,11 +42,18 @@ loop-less c = omega arith
 
 loop-again : tie.Need-loop-again Inv-loop μ-loop
 loop-again c =
-    let l = c .before .before .before .before .before .before .before .loop in
-    (omega arith, of-more _ _ _ _ (l .inv .1) _ _ (c .before .before .before .before .number-at .ensures) (c .before .before .before .number-at2 .ensures) _ (c .before .before .add .kept .0) (c .before .before .add .ensures))
+    let c3 = c .before .before .before in
+    let c6 = c3 .before .before .before in
+    let l = c6 .before .loop in (
+      omega arith,
+      of-more _ _ _ _ (l .inv .1) _ _ (c3 .before .number-at .ensures) (c .before .before .before .number-at2 .ensures) _
+          (c .before .before .add .kept .0) (c .before .before .add .ensures),
+    )
 
 same-length : tie.Need-same-length Inv-loop μ-loop
-same-length c = c .before .loop .inv .1 .long ∙ sym (c .before .before .before .before .before .pre .0)
+same-length c =
+    let c3 = c .before .before .before in
+    c .before .loop .inv .1 .long ∙ sym (c3 .before .before .pre .0)
 
 returns : tie.Need-returns Inv-loop μ-loop
 returns c = of-all _ _ _ _ (c .before .loop .inv .1) _ (c .before .loop .inv .0) (c .loop-test .left)

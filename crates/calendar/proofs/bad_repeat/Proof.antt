@@ -29,7 +29,8 @@ divides-day-requires c κs = search needs
 
 returns : tie.Need-returns Inv-loop μ-loop
 returns c =
-    let l = c .before .before .before .before .loop in
+    let c3 = c .before .before .before in
+    let l = c3 .before .loop in
     let e = c .before .divides-day .ensures ∙ ap dividesDay (c .before .before .number-at .ensures) in
     sym (is _ _ (At (l .k)) (record { below = c .before .before .before .loop-test .taken; passes = ap not (sym e) ∙ c .if1 .taken; first = l .inv }))
 
@@ -41,8 +42,9 @@ loop-less c = omega arith
 
 loop-again : tie.Need-loop-again Inv-loop μ-loop
 loop-again c =
+    let c3 = c .before .before .before in
     let e = c .before .divides-day .ensures ∙ ap dividesDay (c .before .before .number-at .ensures) in
-    none-more _ _ (c .before .before .before .before .loop .inv) (ap not (sym e) ∙ c .if1 .left)
+    none-more _ _ (c3 .before .loop .inv) (ap not (sym e) ∙ c .if1 .left)
 
 returns-2 : tie.Need-returns-2 Inv-loop μ-loop
 returns-2 c = sym (is _ _ Nothing (λ j h. c .before .loop .inv j (omega arith)))

@@ -22,7 +22,10 @@ enum-known-k : tie.Need-enum-known-k
 enum-known-k c = search needs
 
 returns-2 : tie.Need-returns-2
-returns-2 c = sym (is-bad-repeat _ _ _ _ (c .before .before .before .before .before .entries .ensures) (c .before .before .before .before .if1 .left) _ (sym (c .before .before .before .bad-repeat .ensures) ∙ c .before .k .given .1))
+returns-2 c =
+    let c3 = c .before .before .before in
+    sym (is-bad-repeat _ _ _ _ (c3 .before .before .entries .ensures) (c3 .before .if1 .left) _
+    (sym (c .before .before .before .bad-repeat .ensures) ∙ c .before .k .given .1))
 
 enum-told : tie.Need-enum-told
 enum-told c = search needs
@@ -34,7 +37,11 @@ enum-known-k-2 : tie.Need-enum-known-k-2
 enum-known-k-2 c = search needs
 
 returns-3 : tie.Need-returns-3
-returns-3 c = sym (is-late-start _ _ _ _ (c .before .before .before .before .before .before .before .before .entries .ensures) (c .before .before .before .before .before .before .before .if1 .left) (sym (c .before .before .before .before .before .before .bad-repeat .ensures) ∙ c .before .before .before .before .enum-told .given .1) _ (sym (c .before .before .before .late-start .ensures) ∙ c .before .k2 .given .1))
+returns-3 c =
+    let c3 = c .before .before .before in
+    let c6 = c3 .before .before .before in
+    sym (is-late-start _ _ _ _ (c6 .before .before .entries .ensures) (c6 .before .if1 .left)
+    (sym (c6 .bad-repeat .ensures) ∙ c3 .before .enum-told .given .1) _ (sym (c .before .before .before .late-start .ensures) ∙ c .before .k2 .given .1))
 
 enum-told-2 : tie.Need-enum-told-2
 enum-told-2 c = search needs
@@ -44,9 +51,11 @@ slice-aggregate-add-all c = search needs
 
 add-all-requires : tie.Need-add-all-requires
 add-all-requires c κs =
-    let bad = nothing _ _ (sym (c .before .before .before .before .before .before .bad-repeat .ensures) ∙ c .before .before .before .before .enum-told .given .1) in
+    let c3 = c .before .before .before in
+    let c6 = c3 .before .before .before in
+    let bad = nothing _ _ (sym (c6 .bad-repeat .ensures) ∙ c3 .before .enum-told .given .1) in
     let late = nothing _ _ (sym (c .before .before .before .late-start .ensures) ∙ c .before .enum-told2 .given .1) in
-    (refl, c .before .before .before .before .before .before .before .if1 .left, zero-at 1440, λ k l. leb-false _ _ (late k l), λ k l. good _ (bad k l) .1)
+    (refl, c6 .before .if1 .left, zero-at 1440, λ k l. leb-false _ _ (late k l), λ k l. good _ (bad k l) .1)
 
 slice-aggregate-over-cap : tie.Need-slice-aggregate-over-cap
 slice-aggregate-over-cap c = search needs
@@ -61,10 +70,26 @@ enum-told-3 : tie.Need-enum-told-3
 enum-told-3 c = search needs
 
 returns-4 : tie.Need-returns-4
-returns-4 c = sym (is-over-cap _ _ _ _ (c .before .before .before .before .before .before .before .before .before .before .before .before .before .before .before .entries .ensures) (c .before .before .before .before .before .before .before .before .before .before .before .before .before .before .if1 .left) (sym (c .before .before .before .before .before .before .before .before .before .before .before .before .before .bad-repeat .ensures) ∙ c .before .before .before .before .before .before .before .before .before .before .before .enum-told .given .1) (sym (c .before .before .before .before .before .before .before .before .before .before .late-start .ensures) ∙ c .before .before .before .before .before .before .before .before .enum-told2 .given .1) (c .before .before .before .before .before .before .add-all .last .0) (c .before .before .before .before .before .before .add-all .ensures) _ (sym (c .before .before .before .over-cap .ensures) ∙ c .before .m .given .1))
+returns-4 c =
+    let c3 = c .before .before .before in
+    let c6 = c3 .before .before .before in
+    let c9 = c6 .before .before .before in
+    let c12 = c9 .before .before .before in
+    let c15 = c12 .before .before .before in
+    sym (is-over-cap _ _ _ _ (c15 .entries .ensures) (c12 .before .before .if1 .left)
+    (sym (c12 .before .bad-repeat .ensures) ∙ c9 .before .before .enum-told .given .1)
+    (sym (c9 .before .late-start .ensures) ∙ c6 .before .before .enum-told2 .given .1) (c6 .add-all .last .0) (c6 .add-all .ensures) _
+    (sym (c .before .before .before .over-cap .ensures) ∙ c .before .m .given .1))
 
 returns-5 : tie.Need-returns-5
-returns-5 c = sym (is-accepted _ _ _ _ (c .before .before .before .before .before .before .before .before .before .before .before .before .before .before .entries .ensures) (c .before .before .before .before .before .before .before .before .before .before .before .before .before .if1 .left) (sym (c .before .before .before .before .before .before .before .before .before .before .before .before .bad-repeat .ensures) ∙ c .before .before .before .before .before .before .before .before .before .before .enum-told .given .1) (sym (c .before .before .before .before .before .before .before .before .before .late-start .ensures) ∙ c .before .before .before .before .before .before .before .enum-told2 .given .1) (c .before .before .before .before .before .add-all .last .0) (c .before .before .before .before .before .add-all .ensures) (sym (c .before .before .over-cap .ensures) ∙ c .enum-told3 .given .1))
+returns-5 c =
+    let c3 = c .before .before .before in
+    let c6 = c3 .before .before .before in
+    let c9 = c6 .before .before .before in
+    let c12 = c9 .before .before .before in
+    sym (is-accepted _ _ _ _ (c12 .before .before .entries .ensures) (c12 .before .if1 .left)
+    (sym (c12 .bad-repeat .ensures) ∙ c9 .before .enum-told .given .1) (sym (c9 .late-start .ensures) ∙ c6 .before .enum-told2 .given .1)
+    (c3 .before .before .add-all .last .0) (c3 .before .before .add-all .ensures) (sym (c .before .before .over-cap .ensures) ∙ c .enum-told3 .given .1))
 
 pub check-spec : {M : Type 1} → statement M
 check-spec =

@@ -37,7 +37,8 @@ loop-less : tie.Need-loop-less Inv-loop μ-loop
 loop-less c = omega arith
 
 loop-again : tie.Need-loop-again Inv-loop μ-loop
-loop-again c = step _ _ _ (c .before .before .before .pre .0) (c .before .before .before .pre .1) _ _ (c .before .before .loop .inv) (c .before .loop-test .taken)
+loop-again c =
+    step _ _ _ (c .before .before .before .pre .0) (c .before .before .before .pre .1) _ _ (c .before .before .loop .inv) (c .before .loop-test .taken)
 
 same-length : tie.Need-same-length Inv-loop μ-loop
 same-length c = c .before .loop .inv .long

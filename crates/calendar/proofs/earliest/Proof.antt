@@ -26,7 +26,12 @@ fits-requires c κs = search needs
 returns : tie.Need-returns Inv-loop μ-loop
 returns c =
     let l = c .before .before .before .loop in
-    sym (is _ _ (At (l .start)) (record { below = c .before .before .loop-test .taken; passes = sym (c .before .fits2 .ensures) ∙ c .if1 .taken; first = l .inv }))
+    sym (is _ _ (At (l .start)) (record {
+      below = c .before .before .loop-test .taken;
+      passes = sym (c .before .fits2 .ensures)
+          ∙ c .if1 .taken;
+      first = l .inv;
+    }))
 
 add-start : tie.Need-add-start Inv-loop μ-loop
 add-start c = omega arith

@@ -20,7 +20,9 @@ shared-slice-read-if1 : tie.Need-shared-slice-read-if1 Inv-loop μ-loop
 shared-slice-read-if1 c = omega arith
 
 returns : tie.Need-returns Inv-loop μ-loop
-returns c = sym (is-taken _ _ _ _ (c .before .before .before .before .pre .1) _ (c .before .before .before .loop .inv) (c .if1 .taken) (c .before .before .loop-test .taken))
+returns c =
+    let c3 = c .before .before .before in
+    sym (is-taken _ _ _ _ (c3 .before .pre .1) _ (c .before .before .before .loop .inv) (c .if1 .taken) (c .before .before .loop-test .taken))
 
 add-m : tie.Need-add-m Inv-loop μ-loop
 add-m c = omega arith
@@ -29,7 +31,9 @@ loop-less : tie.Need-loop-less Inv-loop μ-loop
 loop-less c = omega arith
 
 loop-again : tie.Need-loop-again Inv-loop μ-loop
-loop-again c = step _ _ _ _ (c .before .before .before .before .pre .1) _ (c .before .before .before .loop .inv) (c .if1 .left)
+loop-again c =
+    let c3 = c .before .before .before in
+    step _ _ _ _ (c3 .before .pre .1) _ (c .before .before .before .loop .inv) (c .if1 .left)
 
 returns-2 : tie.Need-returns-2 Inv-loop μ-loop
 returns-2 c = sym (is-free _ _ _ _ (c .before .before .pre .1) _ (c .before .loop .inv) (c .loop-test .left))

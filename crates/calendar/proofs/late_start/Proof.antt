@@ -37,8 +37,14 @@ number-at-requires-2 c κs = search needs
 
 returns : tie.Need-returns Inv-loop μ-loop
 returns c =
-    let l = c .before .before .before .before .loop in
-    sym (is _ _ (At (l .k)) (record { below = c .before .before .before .loop-test .taken; passes = late _ _ _ _ (c .before .before .number-at .ensures) (c .before .number-at2 .ensures) (c .if1 .taken); first = l .inv }))
+    let c3 = c .before .before .before in
+    let l = c3 .before .loop in
+    sym (is _ _ (At (l .k)) (record {
+      below = c .before .before .before .loop-test .taken;
+      passes = late _ _ _ _ (c .before .before .number-at .ensures)
+          (c .before .number-at2 .ensures) (c .if1 .taken);
+      first = l .inv;
+    }))
 
 add-k : tie.Need-add-k Inv-loop μ-loop
 add-k c = omega arith
@@ -47,7 +53,9 @@ loop-less : tie.Need-loop-less Inv-loop μ-loop
 loop-less c = omega arith
 
 loop-again : tie.Need-loop-again Inv-loop μ-loop
-loop-again c = none-more _ _ (c .before .before .before .before .loop .inv) (early _ _ _ _ (c .before .before .number-at .ensures) (c .before .number-at2 .ensures) (c .if1 .left))
+loop-again c =
+    let c3 = c .before .before .before in
+    none-more _ _ (c3 .before .loop .inv) (early _ _ _ _ (c .before .before .number-at .ensures) (c .before .number-at2 .ensures) (c .if1 .left))
 
 returns-2 : tie.Need-returns-2 Inv-loop μ-loop
 returns-2 c = sym (is _ _ Nothing (λ j h. c .before .loop .inv j (omega arith)))

@@ -19,7 +19,8 @@ wide-requires c κs = search needs
 
 returns : tie.Need-returns
 returns c =
-    let a = c .before .before .before .before .args in
+    let c3 = c .before .before .before in
+    let a = c3 .before .args in
     c .wide .ensures ∙ there (now (a .list)) (a .k) 0 (a .missing) (c .before .before .if1 .taken)
 
 returns-2 : tie.Need-returns-2

@@ -31,8 +31,10 @@ wide-requires c κs = search needs
 
 earliest-requires : tie.Need-earliest-requires Inv-loop μ-loop
 earliest-requires c κs =
-    let l = c .before .before .before .before .loop in
-    (l .inv .1 .loaded .long, omega (arith, c .before .wide .ensures, c .before .before .before .before .before .before .before .before .pre .4 (l .k) (c .before .before .before .loop-test .taken)))
+    let c3 = c .before .before .before in
+    let c6 = c3 .before .before .before in
+    let l = c3 .before .loop in
+    (l .inv .1 .loaded .long, omega (arith, c .before .wide .ensures, c6 .before .before .pre .4 (l .k) (c .before .before .before .loop-test .taken)))
 
 enum-known-start : tie.Need-enum-known-start Inv-loop μ-loop
 enum-known-start c = search needs
@@ -41,36 +43,60 @@ enum-told : tie.Need-enum-told Inv-loop μ-loop
 enum-told c = search needs
 
 same-length : tie.Need-same-length Inv-loop μ-loop
-same-length c = c .before .before .before .before .before .before .before .loop .inv .1 .loaded .long ∙ sym (c .before .before .before .before .before .before .before .before .before .before .before .pre .0)
+same-length c =
+    let c3 = c .before .before .before in
+    let c6 = c3 .before .before .before in
+    let c9 = c6 .before .before .before in
+    c6 .before .loop .inv .1 .loaded .long ∙ sym (c9 .before .before .pre .0)
 
 same-length-2 : tie.Need-same-length-2 Inv-loop μ-loop
-same-length-2 c = c .before .before .before .before .before .before .before .loop .inv .0
+same-length-2 c =
+    let c3 = c .before .before .before in
+    let c6 = c3 .before .before .before in
+    c6 .before .loop .inv .0
 
 returns : tie.Need-returns Inv-loop μ-loop
 returns c =
-    let l = c .before .before .before .before .before .before .before .loop in
-    let inside = c .before .before .before .before .before .before .loop-test .taken in
-    stops _ _ _ _ _ (l .inv .1) (omega (arith, l .inv .0, c .before .before .before .before .before .before .before .before .before .before .before .pre .2)) _ (c .before .before .before .before .wide .ensures) inside (sym (c .before .before .earliest .ensures) ∙ c .enum-told .given .1)
+    let c3 = c .before .before .before in
+    let c6 = c3 .before .before .before in
+    let c9 = c6 .before .before .before in
+    let l = c6 .before .loop in
+    let inside = c6 .loop-test .taken in
+    stops _ _ _ _ _ (l .inv .1) (omega (arith, l .inv .0, c9 .before .before .pre .2)) _ (c3 .before .wide .ensures) inside
+    (sym (c .before .before .earliest .ensures) ∙ c .enum-told .given .1)
 
 cast-placed : tie.Need-cast-placed Inv-loop μ-loop
 cast-placed c =
-    let l = c .before .before .before .before .before .before .before .before .loop in
+    let c3 = c .before .before .before in
+    let c6 = c3 .before .before .before in
+    let c9 = c6 .before .before .before in
+    let c12 = c9 .before .before .before in
+    let l = c6 .before .before .loop in
     let f = found _ _ _ (sym (c .before .before .before .earliest .ensures) ∙ c .before .start .given .1) in
-    record { fits = omega (arith, f .below, c .before .before .before .before .before .wide .ensures, c .before .before .before .before .before .before .before .before .before .before .before .before .pre .4 (l .k) (c .before .before .before .before .before .before .before .loop-test .taken)) }
+    record { fits = omega (arith, f .below, c3 .before .before .wide .ensures, c12 .pre .4 (l .k) (c6 .before .loop-test .taken)) }
 
 mul-placed : tie.Need-mul-placed Inv-loop μ-loop
 mul-placed c = omega arith
 
 slice-write-placed : tie.Need-slice-write-placed Inv-loop μ-loop
-slice-write-placed c = omega (arith, c .before .before .before .before .before .before .before .before .loop .inv .0, c .before .before .before .before .before .before .before .before .before .before .before .before .pre .2, c .before .before .before .before .before .before .before .loop-test .taken)
+slice-write-placed c =
+    let c3 = c .before .before .before in
+    let c6 = c3 .before .before .before in
+    let c9 = c6 .before .before .before in
+    let c12 = c9 .before .before .before in
+    omega (arith, c6 .before .before .loop .inv .0, c12 .pre .2, c6 .before .loop-test .taken)
 
 add-requires : tie.Need-add-requires Inv-loop μ-loop
 add-requires c κs =
-    let l = c .before .before .before .before .before .before .before .before .before .loop in
-    let p = c .before .before .before .before .before .before .before .before .before .before .before .before .before .pre in
-    let inside = c .before .before .before .before .before .before .before .before .loop-test .taken in
-    let f = found _ _ _ (sym (c .before .before .before .before .earliest .ensures) ∙ c .before .before .start .given .1) in
-    (l .inv .1 .loaded .long, f .below, omega (arith, c .before .before .before .before .before .before .wide .ensures, p .4 (l .k) inside), small _ _ _ _ (l .inv .1 .loaded) (omega (arith, p .1, inside)))
+    let c3 = c .before .before .before in
+    let c6 = c3 .before .before .before in
+    let c9 = c6 .before .before .before in
+    let c12 = c9 .before .before .before in
+    let l = c9 .loop in
+    let p = c12 .before .pre in
+    let inside = c6 .before .before .loop-test .taken in
+    let f = found _ _ _ (sym (c3 .before .earliest .ensures) ∙ c .before .before .start .given .1) in
+    (l .inv .1 .loaded .long, f .below, omega (arith, c6 .wide .ensures, p .4 (l .k) inside), small _ _ _ _ (l .inv .1 .loaded) (omega (arith, p .1, inside)))
 
 add-k : tie.Need-add-k Inv-loop μ-loop
 add-k c = omega arith
@@ -80,16 +106,23 @@ loop-less c = omega arith
 
 loop-again : tie.Need-loop-again Inv-loop μ-loop
 loop-again c =
-    let l = c .before .before .before .before .before .before .before .before .before .before .before .before .loop in
-    let inside = c .before .before .before .before .before .before .before .before .before .before .before .loop-test .taken in
+    let c3 = c .before .before .before in
+    let c6 = c3 .before .before .before in
+    let c9 = c6 .before .before .before in
+    let c12 = c9 .before .before .before in
+    let c15 = c12 .before .before .before in
+    let l = c12 .loop in
+    let inside = c9 .before .before .loop-test .taken in
     let added = c .before .before .add in (
       simp length-set (l .inv .0),
-      step _ _ _ _ _ (l .inv .1) (omega (arith, l .inv .0, c .before .before .before .before .before .before .before .before .before .before .before .before .before .before .before .before .pre .2)) _ (c .before .before .before .before .before .before .before .before .before .wide .ensures) inside _
-          (sym (c .before .before .before .before .before .before .before .earliest .ensures) ∙ c .before .before .before .before .before .start .given .1) _ (added .kept .0) (added .ensures),
+      step _ _ _ _ _ (l .inv .1) (omega (arith, l .inv .0, c15 .before .pre .2)) _ (c9 .wide .ensures) inside _
+          (sym (c6 .before .earliest .ensures) ∙ c3 .before .before .start .given .1) _ (added .kept .0) (added .ensures),
     )
 
 same-length-3 : tie.Need-same-length-3 Inv-loop μ-loop
-same-length-3 c = c .before .loop .inv .1 .loaded .long ∙ sym (c .before .before .before .before .before .pre .0)
+same-length-3 c =
+    let c3 = c .before .before .before in
+    c .before .loop .inv .1 .loaded .long ∙ sym (c3 .before .before .pre .0)
 
 same-length-4 : tie.Need-same-length-4 Inv-loop μ-loop
 same-length-4 c = c .before .loop .inv .0

@@ -30,13 +30,23 @@ abbrev μ-loop : tie.MeasureT-loop
 
 -- what was passed before the loop: the two slices, that the walk ends, and that the list fits
 abbrev decrypted : tie.At-loop Inv-loop μ-loop → List ℕ
-decrypted l = now (l .before .before .before .before .before .before .before .before .args .decrypted)
+decrypted l =
+    let l3 = l .before .before .before in
+    let l6 = l3 .before .before .before in
+    now (l6 .before .before .args .decrypted)
 
 abbrev lent : tie.At-loop Inv-loop μ-loop → List ℕ
-lent l = now (l .before .before .before .before .before .before .before .before .args .out)
+lent l =
+    let l3 = l .before .before .before in
+    let l6 = l3 .before .before .before in
+    now (l6 .before .before .args .out)
 
-ended : (b : tie.After-enum-told Inv-loop μ-loop) → whole (decryptedWalk (now (b .before .before .before .before .before .args .decrypted))) ≡ true
-ended b = whole-of (decryptedWalk (now (b .before .before .before .before .before .args .decrypted))) (b .enum-told .given .0 .0) (sym (b .before .before .decrypted-walk .ensures) ∙ b .enum-told .given .1)
+ended : (b : tie.After-enum-told Inv-loop μ-loop) → let b3 = b .before .before .before in
+    whole (decryptedWalk (now (b3 .before .before .args .decrypted))) ≡ true
+ended b =
+    let b3 = b .before .before .before in
+    whole-of (decryptedWalk (now (b3 .before .before .args .decrypted))) (b .enum-told .given .0 .0)
+    (sym (b .before .before .decrypted-walk .ensures) ∙ b .enum-told .given .1)
 
 room : (l : tie.At-loop Inv-loop μ-loop) → length (listIn (decrypted l)) ≤ length (lent l)
 room l = omega (arith, l .before .if1 .left, l .before .before .list-length .ensures)
@@ -65,7 +75,9 @@ body-is k = rw add-sub-cancel-left
 small : (k : tie.After-kind Inv-loop μ-loop) → k .kind .given .0 .1 .1 .0 < 65536
 small k =
     let l = k .before .before .before in
-    let known = l .before .before .before .before .before .before .before .shared-slice-known in
+    let l3 = l .before .before .before in
+    let l6 = l3 .before .before .before in
+    let known = l6 .before .shared-slice-known in
     body-short (decrypted l) (λ i. omega (arith, known .given i)) _ _ _ _ _ (at-field k)
 
 decrypted-walk-requires : tie.Need-decrypted-walk-requires Inv-loop μ-loop
@@ -80,7 +92,9 @@ enum-told-2 c = search needs
 returns : tie.Need-returns Inv-loop μ-loop
 unfolding collectOf bufferOf
 returns c =
-    let o = not-whole (decryptedWalk (now (c .before .before .before .before .before .args .decrypted))) (sym (c .before .before .decrypted-walk .ensures) ∙ c .enum-told2 .given .1) in
+    let c3 = c .before .before .before in
+    let o = not-whole (decryptedWalk (now (c3 .before .before .args .decrypted)))
+    (sym (c .before .before .decrypted-walk .ensures) ∙ c .enum-told2 .given .1) in
     (rw o, rw o)
 
 list-length-requires : tie.Need-list-length-requires Inv-loop μ-loop
@@ -89,17 +103,22 @@ list-length-requires c κs = search needs
 returns-2 : tie.Need-returns-2 Inv-loop μ-loop
 unfolding collectOf bufferOf
 returns-2 c =
-    let a = c .before .before .before .before .before .before .before .args in
+    let c3 = c .before .before .before in
+    let c6 = c3 .before .before .before in
+    let a = c6 .before .args in
     let l = lt-leb (length (listIn (now (a .decrypted)))) (length (now (a .out))) (omega arith) in
     (rw (ended (c .before .before), l), rw (ended (c .before .before), l))
 
 loop-holds : tie.Need-loop-holds Inv-loop μ-loop
-loop-holds c = record {
-  upto = omega arith;
-  left = sym (list-from-start (now (c .before .before .before .before .before .before .before .args .decrypted)));
-  buffer = refl;
-  long = refl;
-}
+loop-holds c =
+    let c3 = c .before .before .before in
+    let c6 = c3 .before .before .before in
+    record {
+      upto = omega arith;
+      left = sym (list-from-start (now (c6 .before .args .decrypted)));
+      buffer = refl;
+      long = refl;
+    }
 
 decrypted-field-at-requires : tie.Need-decrypted-field-at-requires Inv-loop μ-loop
 decrypted-field-at-requires c κs = search needs
@@ -136,19 +155,25 @@ part-put-record-end c = let w = at-field (c .before .before .before) in omega ar
 
 put-record-requires : tie.Need-put-record-requires Inv-loop μ-loop
 put-record-requires c κs =
-    let k = c .before .before .before .before in
+    let c3 = c .before .before .before in
+    let k = c3 .before in
     let l = k .before .before .before in
     rw (body-is k, length-body _ _ _ _ _ _ (step k)) (fits _ _ _ _ _ _ _ _ _ (l .loop .inv) (step k) (c .before .before .if2 .taken) (room l), small k)
 
 loop-less : tie.Need-loop-less Inv-loop μ-loop
-loop-less c = let w = at-field (c .before .before .before .before .before .before .before) in omega arith
+loop-less c =
+    let c3 = c .before .before .before in
+    let c6 = c3 .before .before .before in
+    let w = at-field (c6 .before) in omega arith
 
 loop-again : tie.Need-loop-again Inv-loop μ-loop
 loop-again c =
-    let k = c .before .before .before .before .before .before .before in
+    let c3 = c .before .before .before in
+    let c6 = c3 .before .before .before in
+    let k = c6 .before in
     let r = c .before .before .put-record in
     let z = length-body _ _ _ _ _ _ (step k) in
-    advance _ _ _ _ _ _ _ _ _ (k .before .before .before .loop .inv) (step k) (c .before .before .before .before .before .if2 .taken) (r .last .0) (r .result)
+    advance _ _ _ _ _ _ _ _ _ (k .before .before .before .loop .inv) (step k) (c3 .before .before .if2 .taken) (r .last .0) (r .result)
     (rw (body-is k, z) at (r .ensures .0))
     (rw (body-is k, z) at (r .ensures .1))
     (r .kept .0)

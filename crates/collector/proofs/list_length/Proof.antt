@@ -22,13 +22,15 @@ abbrev μ-loop : tie.MeasureT-loop
 
 -- what stands at the turn's offset is the field that the pattern bound
 step : (k : tie.After-kind Inv-loop μ-loop) →
+    let k3 = k .before .before .before in
     let g = k .kind .given .0 in
-    decryptedStep (now (k .before .before .before .before .before .args .decrypted)) (k .before .before .before .loop .at) ≡ Field (g .0) (g .1 .0) (g .1 .1 .0) (g .1 .1 .1 .0)
+    decryptedStep (now (k3 .before .before .args .decrypted)) (k .before .before .before .loop .at) ≡ Field (g .0) (g .1 .0) (g .1 .1 .0) (g .1 .1 .1 .0)
 step k = sym (k .before .before .decrypted-field-at .ensures) ∙ k .kind .given .1
 
 at-field : (k : tie.After-kind Inv-loop μ-loop) →
+    let k3 = k .before .before .before in
     let g = k .kind .given .0 in
-    Placed (now (k .before .before .before .before .before .args .decrypted)) (k .before .before .before .loop .at) 4 (g .1 .0) (g .1 .1 .0) (g .1 .1 .1 .0)
+    Placed (now (k3 .before .before .args .decrypted)) (k .before .before .before .loop .at) 4 (g .1 .0) (g .1 .1 .0) (g .1 .1 .1 .0)
 at-field k = here _ _ _ _ _ _ (step k)
 
 loop-holds : tie.Need-loop-holds Inv-loop μ-loop
@@ -42,16 +44,21 @@ enum-known-kind c = search needs
 
 returns : tie.Need-returns Inv-loop μ-loop
 returns c =
+    let c3 = c .before .before .before in
     let l = c .before .before .loop in
-    let p = now (c .before .before .before .before .args .decrypted) in
+    let p = now (c3 .before .args .decrypted) in
     let z = stop-turn p (l .at) (c .before .decrypted-field-at .result) (sym (c .before .decrypted-field-at .ensures)) (c .match .keys2) in
     omega (arith, ap length z, l .inv .1)
 
 add-n : tie.Need-add-n Inv-loop μ-loop
-add-n c = let w = at-field (c .before .before) in omega (arith, c .before .before .before .before .before .loop .inv .0)
+add-n c =
+    let c3 = c .before .before .before in
+    let w = at-field (c .before .before) in omega (arith, c3 .before .before .loop .inv .0)
 
 add-n-2 : tie.Need-add-n-2 Inv-loop μ-loop
-add-n-2 c = let w = at-field (c .before .before) in omega (arith, c .before .before .before .before .before .loop .inv .0)
+add-n-2 c =
+    let c3 = c .before .before .before in
+    let w = at-field (c .before .before) in omega (arith, c3 .before .before .loop .inv .0)
 
 loop-less : tie.Need-loop-less Inv-loop μ-loop
 loop-less c = let w = at-field (c .before .before) in omega arith
@@ -59,8 +66,9 @@ loop-less c = let w = at-field (c .before .before) in omega arith
 loop-again : tie.Need-loop-again Inv-loop μ-loop
 loop-again c =
     let k = c .before .before in
+    let k3 = k .before .before .before in
     let g = k .kind .given .0 in
-    let p = now (k .before .before .before .before .before .args .decrypted) in
+    let p = now (k3 .before .before .args .decrypted) in
     let l = k .before .before .before .loop in
     let w = at-field k in
     let t = cookie-turn p (l .at) (g .0) (g .1 .0) (g .1 .1 .0) (g .1 .1 .1 .0) (step k) (c .if1 .taken) in

@@ -71,20 +71,28 @@ add-result c = search needs
 
 same-length : tie.Need-same-length
 same-length c =
-    let a = c .before .before .before .before .before .before .before .before .args in
-    let mark = c .before .before .before .before .before .be16-bytes in
-    let size = c .before .before .before .before .be16-bytes2 in
+    let c3 = c .before .before .before in
+    let c6 = c3 .before .before .before in
+    let a = c6 .before .before .args in
+    let mark = c3 .before .before .be16-bytes in
+    let size = c3 .before .be16-bytes2 in
     let copy = c .before .before .copy in
-    ap length (put-is (now (a .out)) (now (a .body)) (mark .result) (size .result) (a .to) (omega arith) (mark .ensures) (size .ensures) (copy .last .1 .0) (copy .ensures .1))
+    ap length (put-is (now (a .out)) (now (a .body)) (mark .result) (size .result) (a .to) (omega arith) (mark .ensures) (size .ensures) (copy .last .1 .0)
+    (copy .ensures .1))
     ∙ put-long (now (a .out)) (now (a .body)) (a .to) (omega arith)
 
 returns : tie.Need-returns
 returns c =
-    let a = c .before .before .before .before .before .before .before .before .args in
-    let mark = c .before .before .before .before .before .be16-bytes in
-    let size = c .before .before .before .before .be16-bytes2 in
-    let copy = c .before .before .copy in
-    (omega arith, put-is (now (a .out)) (now (a .body)) (mark .result) (size .result) (a .to) (omega arith) (mark .ensures) (size .ensures) (copy .last .1 .0) (copy .ensures .1))
+    let c3 = c .before .before .before in
+    let c6 = c3 .before .before .before in
+    let a = c6 .before .before .args in
+    let mark = c3 .before .before .be16-bytes in
+    let size = c3 .before .be16-bytes2 in
+    let copy = c .before .before .copy in (
+      omega arith,
+      put-is (now (a .out)) (now (a .body)) (mark .result) (size .result) (a .to) (omega arith) (mark .ensures) (size .ensures) (copy .last .1 .0)
+          (copy .ensures .1),
+    )
 
 pub put-record-spec : {M : Type 1} → statement M
 put-record-spec =

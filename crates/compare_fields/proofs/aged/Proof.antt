@@ -31,16 +31,26 @@ cast-t10 : tie.Need-cast-t10 Inv-loop μ-loop
 cast-t10 c = search needs
 
 returns : tie.Need-returns Inv-loop μ-loop
-returns c = kept-here (c .before .before .before .before .before .before .before .args .body .now) (c .before .before .before .before .before .before .before .args .age) (c .before .before .before .before .before .loop .at) (c .before .before .before .before .before .loop .left) _ _ _ (c .before .before .before .before .before .loop .inv) (c .if1 .taken) (sym (c .before .before .before .before .held-at .ensures) ∙ c .before .before .len .given .1) (omega arith)
+returns c =
+    let c3 = c .before .before .before in
+    let c6 = c3 .before .before .before in
+    kept-here (c6 .before .args .body .now) (c6 .before .args .age) (c3 .before .before .loop .at) (c3 .before .before .loop .left) _ _ _
+    (c3 .before .before .loop .inv) (c .if1 .taken) (sym (c3 .before .held-at .ensures) ∙ c .before .before .len .given .1) (omega arith)
 
 sub-left : tie.Need-sub-left Inv-loop μ-loop
 sub-left c = search needs
 
 loop-less : tie.Need-loop-less Inv-loop μ-loop
-loop-less c = let w = one-within _ _ _ _ _ (sym (c .before .before .before .before .held-at .ensures) ∙ c .before .before .len .given .1) in omega arith
+loop-less c =
+    let c3 = c .before .before .before in
+    let w = one-within _ _ _ _ _ (sym (c3 .before .held-at .ensures) ∙ c .before .before .len .given .1) in omega arith
 
 loop-again : tie.Need-loop-again Inv-loop μ-loop
-loop-again c = sym (further (c .before .before .before .before .before .before .before .args .body .now) (c .before .before .before .before .before .loop .at) (c .before .before .before .before .before .loop .left) _ _ _ (c .if1 .left) (sym (c .before .before .before .before .held-at .ensures) ∙ c .before .before .len .given .1)) ∙ c .before .before .before .before .before .loop .inv
+loop-again c =
+    let c3 = c .before .before .before in
+    let c6 = c3 .before .before .before in
+    sym (further (c6 .before .args .body .now) (c3 .before .before .loop .at) (c3 .before .before .loop .left) _ _ _ (c .if1 .left)
+    (sym (c3 .before .held-at .ensures) ∙ c .before .before .len .given .1)) ∙ c3 .before .before .loop .inv
 
 enum-told : tie.Need-enum-told Inv-loop μ-loop
 enum-told c = search needs
@@ -49,7 +59,11 @@ no-cookie-requires : tie.Need-no-cookie-requires Inv-loop μ-loop
 no-cookie-requires c κs = search needs
 
 returns-2 : tie.Need-returns-2 Inv-loop μ-loop
-returns-2 c = kept-none (c .before .before .before .before .before .before .args .body .now) (c .before .before .before .before .before .before .args .age) (c .before .before .before .before .loop .at) (c .before .before .before .before .loop .left) (c .before .before .before .before .loop .inv) (inl (sym (c .before .before .before .held-at .ensures) ∙ c .before .enum-told .given .1)) _ (c .no-cookie .ensures)
+returns-2 c =
+    let c3 = c .before .before .before in
+    let c6 = c3 .before .before .before in
+    kept-none (c6 .args .body .now) (c6 .args .age) (c3 .before .loop .at) (c3 .before .loop .left) (c3 .before .loop .inv)
+    (inl (sym (c .before .before .before .held-at .ensures) ∙ c .before .enum-told .given .1)) _ (c .no-cookie .ensures)
 
 enum-told-2 : tie.Need-enum-told-2 Inv-loop μ-loop
 enum-told-2 c = search needs
@@ -58,7 +72,11 @@ no-cookie-requires-2 : tie.Need-no-cookie-requires-2 Inv-loop μ-loop
 no-cookie-requires-2 c κs = search needs
 
 returns-3 : tie.Need-returns-3 Inv-loop μ-loop
-returns-3 c = kept-none (c .before .before .before .before .before .before .args .body .now) (c .before .before .before .before .before .before .args .age) (c .before .before .before .before .loop .at) (c .before .before .before .before .loop .left) (c .before .before .before .before .loop .inv) (inr (sym (c .before .before .before .held-at .ensures) ∙ c .before .enum-told2 .given .1)) _ (c .no-cookie2 .ensures)
+returns-3 c =
+    let c3 = c .before .before .before in
+    let c6 = c3 .before .before .before in
+    kept-none (c6 .args .body .now) (c6 .args .age) (c3 .before .loop .at) (c3 .before .loop .left) (c3 .before .loop .inv)
+    (inr (sym (c .before .before .before .held-at .ensures) ∙ c .before .enum-told2 .given .1)) _ (c .no-cookie2 .ensures)
 
 pub aged-spec : {M : Type 1} → statement M
 aged-spec =

@@ -19,10 +19,14 @@ add-result : tie.Need-add-result
 add-result c = search needs
 
 returns : tie.Need-returns
-returns c = let d = c .before .before .before in low-bits (d .args .d) (d .fits .d) _ (c .before .wide .ensures .0 ∙ c .before .before .i8-as-u8 .ensures ∙ ap (unsigned (2 ^ 7)) (toZ-ofZ (d .fits .d))) (c .if1 .taken)
+returns c =
+    let d = c .before .before .before in low-bits (d .args .d) (d .fits .d) _
+    (c .before .wide .ensures .0 ∙ c .before .before .i8-as-u8 .ensures ∙ ap (unsigned (2 ^ 7)) (toZ-ofZ (d .fits .d))) (c .if1 .taken)
 
 returns-2 : tie.Need-returns-2
-returns-2 c = let d = c .before .before .before in sign-bits (d .args .d) (d .fits .d) _ (c .before .wide .ensures .0 ∙ c .before .before .i8-as-u8 .ensures ∙ ap (unsigned (2 ^ 7)) (toZ-ofZ (d .fits .d))) (c .if1 .left)
+returns-2 c =
+    let d = c .before .before .before in sign-bits (d .args .d) (d .fits .d) _
+    (c .before .wide .ensures .0 ∙ c .before .before .i8-as-u8 .ensures ∙ ap (unsigned (2 ^ 7)) (toZ-ofZ (d .fits .d))) (c .if1 .left)
 
 pub bits64-spec : {M : Type 1} → statement M
 bits64-spec = tie.close (tie.spec i8-as-u8-requires wide-requires add-result returns returns-2)

@@ -45,11 +45,25 @@ add-t20 c = search needs
 
 cast-t21 : tie.Need-cast-t21
 unfolding part
-cast-t21 c = record { fits = omega (arith, place-within (c .before .before .before .before .before .before .before .before .args .l .now) (c .before .before .before .before .before .before .before .before .args .r .now) (c .before .before .before .before .before .before .before .before .args .age) (c .before .before .before .before .before .aged .result) (c .before .before .before .before .aged2 .result) (c .before .before .before .before .before .aged .ensures) (c .before .place-of .result) (c .before .place-of .ensures)) }
+cast-t21 c =
+    let c3 = c .before .before .before in
+    let c6 = c3 .before .before .before in
+    record {
+      fits = omega (
+        arith,
+        place-within (c6 .before .before .args .l .now) (c6 .before .before .args .r .now) (c6 .before .before .args .age)
+            (c3 .before .before .aged .result) (c3 .before .aged2 .result) (c3 .before .before .aged .ensures) (c .before .place-of .result)
+            (c .before .place-of .ensures),
+      );
+    }
 
 returns : tie.Need-returns
 unfolding part
-returns c = cookie-field-by (c .before .before .before .before .before .before .before .before .args .l .now) (c .before .before .before .before .before .before .before .before .args .r .now) (c .before .before .before .before .before .before .before .before .args .age) (c .before .before .before .before .before .aged .result) (c .before .before .before .before .aged2 .result) (c .before .before .before .before .before .aged .ensures) (c .before .before .before .before .aged2 .ensures) _ _ (c .before .place-of .ensures) (c .alike .ensures)
+returns c =
+    let c3 = c .before .before .before in
+    let c6 = c3 .before .before .before in
+    cookie-field-by (c6 .before .before .args .l .now) (c6 .before .before .args .r .now) (c6 .before .before .args .age) (c3 .before .before .aged .result)
+    (c3 .before .aged2 .result) (c3 .before .before .aged .ensures) (c3 .before .aged2 .ensures) _ _ (c .before .place-of .ensures) (c .alike .ensures)
 
 pub cookie-field-spec : {M : Type 1} → statement M
 cookie-field-spec =

@@ -30,7 +30,12 @@ cookie-field-requires-8 : tie.Need-cookie-field-requires-8
 cookie-field-requires-8 c κs = search needs
 
 returns : tie.Need-returns
-returns c = λ i. c .before .before .before .before .before .before .before .cookie-field .ensures i ∷ c .before .before .before .before .before .before .cookie-field2 .ensures i ∷ c .before .before .before .before .before .cookie-field3 .ensures i ∷ c .before .before .before .before .cookie-field4 .ensures i ∷ c .before .before .before .cookie-field5 .ensures i ∷ c .before .before .cookie-field6 .ensures i ∷ c .before .cookie-field7 .ensures i ∷ c .cookie-field8 .ensures i ∷ []
+returns c =
+    let c3 = c .before .before .before in
+    let c6 = c3 .before .before .before in
+    λ i. c6 .before .cookie-field .ensures i ∷ c6 .cookie-field2 .ensures i ∷ c3 .before .before .cookie-field3 .ensures i
+    ∷ c3 .before .cookie-field4 .ensures i ∷ c .before .before .before .cookie-field5 .ensures i ∷ c .before .before .cookie-field6 .ensures i
+    ∷ c .before .cookie-field7 .ensures i ∷ c .cookie-field8 .ensures i ∷ []
 
 pub cookie-fields-spec : {M : Type 1} → statement M
 cookie-fields-spec =

@@ -101,7 +101,11 @@ number-requires-8 c κs = search needs
 
 returns : tie.Need-returns
 unfolding eightOf
-returns c = λ i. c .before .before .before .before .before .before .before .number .ensures i ∷ c .before .before .before .before .before .before .number2 .ensures i ∷ c .before .before .before .before .before .number3 .ensures i ∷ c .before .before .before .before .number4 .ensures i ∷ c .before .before .before .number5 .ensures i ∷ c .before .before .number6 .ensures i ∷ c .before .number7 .ensures i ∷ c .number8 .ensures i ∷ []
+returns c =
+    let c3 = c .before .before .before in
+    let c6 = c3 .before .before .before in
+    λ i. c6 .before .number .ensures i ∷ c6 .number2 .ensures i ∷ c3 .before .before .number3 .ensures i ∷ c3 .before .number4 .ensures i
+    ∷ c .before .before .before .number5 .ensures i ∷ c .before .before .number6 .ensures i ∷ c .before .number7 .ensures i ∷ c .number8 .ensures i ∷ []
 
 pub eight-spec : {M : Type 1} → statement M
 eight-spec =

@@ -53,11 +53,17 @@ eight-requires-2 c κs = search needs
 
 returns : tie.Need-returns
 returns c =
-    let a = c .before .before .before .before .before .before .before .before .before .before .before .before .before .before .before .before .before .args in
+    let c3 = c .before .before .before in
+    let c6 = c3 .before .before .before in
+    let c9 = c6 .before .before .before in
+    let c12 = c9 .before .before .before in
+    let c15 = c12 .before .before .before in
+    let a = c15 .before .before .args in
     grouped (a .l) (a .p) (a .left .now) (a .r) (a .q) (a .right .now)
-    (c .before .before .before .before .before .before .before .before .before .before .before .before .before .before .settings-numbers .ensures) (c .before .before .before .before .before .before .before .before .before .before .before .before .before .settings-numbers2 .ensures) (c .before .before .before .before .before .before .before .before .before .before .before .before .eight .ensures)
-    (c .before .before .before .before .before .before .before .before .before .before .before .wide .ensures .0) (c .before .before .before .before .before .before .before .before .before .before .wide2 .ensures .0) (c .before .before .before .before .before .before .before .before .before .number .ensures)
-    (c .before .before .before .before .before .before .before .wide3 .ensures .0 ∙ c .before .before .before .before .before .before .before .before .place-of .ensures) (c .before .before .before .before .before .wide4 .ensures .0 ∙ c .before .before .before .before .before .before .place-of2 .ensures) (c .before .before .before .before .number2 .ensures)
+    (c12 .before .before .settings-numbers .ensures) (c12 .before .settings-numbers2 .ensures) (c12 .eight .ensures)
+    (c9 .before .before .wide .ensures .0) (c9 .before .wide2 .ensures .0) (c9 .number .ensures)
+    (c6 .before .wide3 .ensures .0 ∙ c6 .before .before .place-of .ensures) (c3 .before .before .wide4 .ensures .0 ∙ c6 .place-of2 .ensures)
+    (c3 .before .number2 .ensures)
     (c .before .before .before .cookie-fields .ensures)
     (c .before .before .state-numbers .ensures) (c .before .state-numbers2 .ensures) (c .eight2 .ensures)
 

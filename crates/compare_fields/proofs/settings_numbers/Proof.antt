@@ -31,18 +31,21 @@ cast-t7 : tie.Need-cast-t7
 cast-t7 c = search needs
 
 -- the numbers lie as in the definition
-laid : (s : Settings) {lo hi st v n : ℕ} → lo ≡ bits64 (s .min .0) → hi ≡ bits64 (s .max .0) → st ≡ s .startup → v ≡ versionNumber (s .start) → n ≡ yesCode (s .nts)
+laid : (s : Settings) {lo hi st v n : ℕ} → lo ≡ bits64 (s .min .0) → hi ≡ bits64 (s .max .0) → st ≡ s .startup → v ≡ versionNumber (s .start) →
+    n ≡ yesCode (s .nts)
     → lo ∷ hi ∷ st ∷ s .window ∷ s .upgrademark ∷ v ∷ n ∷ s .source .0 ∷ [] ≡ settingsNumbers s
 unfolding settingsNumbers
 laid s el eh es ev en = λ i. el i ∷ eh i ∷ es i ∷ s .window ∷ s .upgrademark ∷ ev i ∷ en i ∷ s .source .0 ∷ []
 
 returns : tie.Need-returns
 returns c =
-    let start = c .before .before .before .before .before .before .before .before in
+    let c3 = c .before .before .before in
+    let c6 = c3 .before .before .before in
+    let start = c6 .before .before in
     let fit = settings-fit (start .args .s) _ (start .good .0) in
     laid (start .args .s)
-    (c .before .before .before .before .before .before .bits64 .ensures ∙ ap bits64 (toZ-ofZ (fit .min)))
-    (c .before .before .before .before .bits642 .ensures ∙ ap bits64 (toZ-ofZ (fit .max)))
+    (c6 .bits64 .ensures ∙ ap bits64 (toZ-ofZ (fit .min)))
+    (c3 .before .bits642 .ensures ∙ ap bits64 (toZ-ofZ (fit .max)))
     (c .before .before .before .wide .ensures .0)
     (c .before .before .version-number .ensures)
     (c .before .yes-number .ensures)

@@ -37,20 +37,25 @@ cast-t12 : tie.Need-cast-t12
 cast-t12 c = search needs
 
 -- the numbers lie as in the definition
-laid : (s : State) {r t v a m u d : ℕ} → r ≡ s .effort .reach .0 → t ≡ s .effort .tries → v ≡ versionNumber (s .version) → a ≡ bits64 (s .polls .last .0) → m ≡ bits64 (s .polls .remote .0)
+laid : (s : State) {r t v a m u d : ℕ} → r ≡ s .effort .reach .0 → t ≡ s .effort .tries → v ≡ versionNumber (s .version) → a ≡ bits64 (s .polls .last .0) →
+    m ≡ bits64 (s .polls .remote .0)
     → u ≡ s .source .stratum → d ≡ yesCode (s .source .denial) → r ∷ t ∷ v ∷ a ∷ m ∷ u ∷ s .source .refid .0 ∷ d ∷ [] ≡ stateNumbers s
 unfolding stateNumbers
 laid s er et ev ea em eu ed = λ i. er i ∷ et i ∷ ev i ∷ ea i ∷ em i ∷ eu i ∷ s .source .refid .0 ∷ ed i ∷ []
 
 returns : tie.Need-returns
 returns c =
-    let start = c .before .before .before .before .before .before .before .before .before .before .before .before .before in
+    let c3 = c .before .before .before in
+    let c6 = c3 .before .before .before in
+    let c9 = c6 .before .before .before in
+    let c12 = c9 .before .before .before in
+    let start = c12 .before in
     let fit = polls-fit (start .args .s .polls) _ (start .good .0 .1 .1 .1 .1 .0) in
     laid (start .args .s)
-    (c .before .before .before .before .before .before .before .before .before .wide .ensures .0)
-    (c .before .before .before .before .before .before .before .before .wide2 .ensures .0)
-    (c .before .before .before .before .before .before .before .version-number .ensures)
-    (c .before .before .before .before .before .bits64 .ensures ∙ ap bits64 (toZ-ofZ (fit .last)))
+    (c9 .wide .ensures .0)
+    (c6 .before .before .wide2 .ensures .0)
+    (c6 .before .version-number .ensures)
+    (c3 .before .before .bits64 .ensures ∙ ap bits64 (toZ-ofZ (fit .last)))
     (c .before .before .before .bits642 .ensures ∙ ap bits64 (toZ-ofZ (fit .remote)))
     (c .before .before .wide3 .ensures .0)
     (c .before .yes-number .ensures)

@@ -30,9 +30,11 @@ be16-at-requires c κs = search needs
 returns-4 : tie.Need-returns-4
 unfolding entryAt recordMarkAt
 returns-4 c =
-    let a = c .before .before .before .before .before .before .args in
+    let c3 = c .before .before .before in
+    let c6 = c3 .before .before .before in
+    let a = c6 .args in
     simp (
-      le-ltb _ _ (c .before .before .before .before .if1 .left),
+      le-ltb _ _ (c3 .before .if1 .left),
       ne-eqb _ _ (c .before .before .before .if2 .left),
       le-ltb _ _ (c .before .before .if3 .left),
       ne-eqb (recordMarkAt (now (a .list)) (a .at)) 0xC00E (λ e. omega arith),
@@ -50,8 +52,10 @@ cast-len c = search needs
 returns-5 : tie.Need-returns-5
 unfolding entryAt recordMarkAt lengthAt
 returns-5 c =
-    let d = c .before .before .before .before in
-    let a = d .before .before .before .before .args in
+    let c3 = c .before .before .before in
+    let d = c3 .before in
+    let d3 = d .before .before .before in
+    let a = d3 .before .args in
     simp (
       le-ltb _ _ (d .before .before .if1 .left),
       ne-eqb _ _ (d .before .if2 .left),
@@ -69,8 +73,10 @@ add-t6 c = search needs
 returns-6 : tie.Need-returns-6
 unfolding entryAt recordMarkAt lengthAt
 returns-6 c =
-    let d = c .before .before .before .before in
-    let a = d .before .before .before .before .args in
+    let c3 = c .before .before .before in
+    let d = c3 .before in
+    let d3 = d .before .before .before in
+    let a = d3 .before .args in
     simp (
       le-ltb _ _ (d .before .before .if1 .left),
       ne-eqb _ _ (d .before .if2 .left),

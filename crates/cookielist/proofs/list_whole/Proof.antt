@@ -17,8 +17,10 @@ abbrev μ-loop : tie.MeasureT-loop
 μ-loop list at₀ at = length list - at
 
 -- the entry that was read
-cookie-at : (c : tie.After-end Inv-loop μ-loop) → let g = c .end .given .0 in
-    entryAt (c .before .before .before .before .before .args .list .now) (c .before .before .before .loop .at) ≡ Cookie (g .0) (g .1 .0)
+cookie-at : (c : tie.After-end Inv-loop μ-loop) →
+    let c3 = c .before .before .before in
+    let g = c .end .given .0 in
+    entryAt (c3 .before .before .args .list .now) (c .before .before .before .loop .at) ≡ Cookie (g .0) (g .1 .0)
 cookie-at c = sym (c .before .before .entry-at .ensures) ∙ c .end .given .1
 
 loop-holds : tie.Need-loop-holds Inv-loop μ-loop
@@ -36,9 +38,10 @@ loop-less c = let w = placed _ _ _ _ (cookie-at (c .before)) in omega arith
 
 loop-again : tie.Need-loop-again Inv-loop μ-loop
 loop-again c =
+    let c3 = c .before .before .before in
     let e = cookie-at (c .before) in
     let w = placed _ _ _ _ e in
-    (w .within, sym (whole-cookie _ _ _ _ e) ∙ c .before .before .before .before .loop .inv .1)
+    (w .within, sym (whole-cookie _ _ _ _ e) ∙ c3 .before .loop .inv .1)
 
 enum-told : tie.Need-enum-told Inv-loop μ-loop
 enum-told c = search needs

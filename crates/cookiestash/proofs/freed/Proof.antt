@@ -47,10 +47,12 @@ array-read-if2 c = omega arith
 
 returns-2 : tie.Need-returns-2 Inv-loop μ-loop
 returns-2 c =
+    let c3 = c .before .before .before in
+    let c6 = c3 .before .before .before in
     let o = c .before .before .loop in
-    let a = c .before .before .before .before .before .before .args in
+    let a = c6 .args in
     let e = o .inv .2 ∙ free-step (a .cap) (a .t1) (o .at) (o .n) (omega arith) in
-    simp (past (c .before .before .before .before), sym (c .before .before .before .wrapped .ensures), e, ne-eqb (getD (a .t1) (o .at) 0) 0 (c .if2 .taken))
+    simp (past (c3 .before), sym (c .before .before .before .wrapped .ensures), e, ne-eqb (getD (a .t1) (o .at) 0) 0 (c .if2 .taken))
 
 add-wrapped-2 : tie.Need-add-wrapped-2 Inv-loop μ-loop
 add-wrapped-2 c = omega arith
@@ -66,8 +68,10 @@ loop-less c = omega arith
 
 loop-again : tie.Need-loop-again Inv-loop μ-loop
 loop-again c =
+    let c3 = c .before .before .before in
+    let c6 = c3 .before .before .before in
     let o = c .before .before .before .loop in
-    let a = c .before .before .before .before .before .before .before .args in
+    let a = c6 .before .args in
     let e = o .inv .2 ∙ free-step (a .cap) (a .t1) (o .at) (o .n) (omega arith) in (
       omega arith,
       omega (arith, next-lt (a .cap) (o .at) (omega arith), c .wrapped2 .ensures),
@@ -76,8 +80,9 @@ loop-again c =
 
 returns-3 : tie.Need-returns-3 Inv-loop μ-loop
 returns-3 c =
+    let c3 = c .before .before .before in
     let o = c .before .loop in
-    let a = c .before .before .before .before .before .args in
+    let a = c3 .before .before .args in
     let e : a .cap - o .n ≡ 0 = omega arith in
     simp (past (c .before .before .before), sym (c .before .before .wrapped .ensures), o .inv .2, e)
 

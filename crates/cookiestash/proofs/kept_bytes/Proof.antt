@@ -23,20 +23,27 @@ loop-holds : tie.Need-loop-holds Inv-loop μ-loop
 loop-holds c = (omega arith, front-none 724 _)
 
 shared-slice-read-bytes : tie.Need-shared-slice-read-bytes Inv-loop μ-loop
-shared-slice-read-bytes c = omega (arith, stored-bounds (length (c .before .before .before .before .before .args .cookie .now)))
+shared-slice-read-bytes c =
+    let c3 = c .before .before .before in
+    omega (arith, stored-bounds (length (c3 .before .before .args .cookie .now)))
 
 array-write-bytes : tie.Need-array-write-bytes Inv-loop μ-loop
-array-write-bytes c = omega (arith, stored-bounds (length (c .before .before .before .before .before .args .cookie .now)))
+array-write-bytes c =
+    let c3 = c .before .before .before in
+    omega (arith, stored-bounds (length (c3 .before .before .args .cookie .now)))
 
 add-i : tie.Need-add-i Inv-loop μ-loop
-add-i c = omega (arith, stored-bounds (length (c .before .before .before .before .before .args .cookie .now)))
+add-i c =
+    let c3 = c .before .before .before in
+    omega (arith, stored-bounds (length (c3 .before .before .args .cookie .now)))
 
 loop-less : tie.Need-loop-less Inv-loop μ-loop
 loop-less c = omega arith
 
 loop-again : tie.Need-loop-again Inv-loop μ-loop
 loop-again c =
-    let b = stored-bounds (length (c .before .before .before .before .before .args .cookie .now)) in
+    let c3 = c .before .before .before in
+    let b = stored-bounds (length (c3 .before .before .args .cookie .now)) in
     (omega arith, rw (c .before .before .loop .inv .1) (front-more 724 _ _ (omega arith) (omega arith)))
 
 returns : tie.Need-returns Inv-loop μ-loop

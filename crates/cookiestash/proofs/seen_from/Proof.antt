@@ -35,7 +35,8 @@ freed-requires : tie.Need-freed-requires
 freed-requires c κs = inside (c .before)
 
 whole-is : (c : tie.Joined2) → let a = c .before .before .before .args in
-    c .if2 .whole ≡ (a .padded && (zeros (drop (a .capacity) (a .t5)) && roundFree (a .capacity) (a .t5) (wrap (a .capacity) (a .read + a .held)) (a .capacity - a .held)))
+    c .if2 .whole ≡ (a .padded && (zeros (drop (a .capacity) (a .t5))
+    && roundFree (a .capacity) (a .t5) (wrap (a .capacity) (a .read + a .held)) (a .capacity - a .held)))
 whole-is c = ⊎-elim (λ k. k .2 ∙ k .1 .ensures ∙ rw (k .0 .taken)) (λ k. k .1 ∙ rw (k .0 .left)) (c .if2 .came)
 
 room-requires-2 : tie.Need-room-requires-2

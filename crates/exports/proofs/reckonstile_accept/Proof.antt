@@ -19,7 +19,11 @@ cast-result : tie.Need-cast-result
 cast-result c = search needs
 
 returns : tie.Need-returns
-returns c = let a = c .before .before .before .before .before .args in c .number .ensures ∙ ap numberOf (c .before .accept .ensures ∙ ap (λ (x : Bloom). acceptCall (a .bytes .now) (a .stratum) (a .local .now) x) (c .before .before .bloom-in .ensures))
+returns c =
+    let c3 = c .before .before .before in
+    let a = c3 .before .before .args in c .number .ensures
+    ∙ ap numberOf (c .before .accept .ensures
+    ∙ ap (λ (x : Bloom). acceptCall (a .bytes .now) (a .stratum) (a .local .now) x) (c .before .before .bloom-in .ensures))
 
 pub reckonstile-accept-spec : {M : Type 1} → statement M
 reckonstile-accept-spec =

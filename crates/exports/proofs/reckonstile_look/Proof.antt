@@ -18,13 +18,19 @@ pack-state-requires c κs = search needs
 
 returns : tie.Need-returns
 returns c =
-    let found = c .before .before .before .before .before .before .open-record in
-    view-by _ (found .result) (found .ensures) false (not-true _ (c .if1 .taken)) _ (c .before .before .before .pack-settings .ensures) _ (c .before .before .pack-state .ensures)
+    let c3 = c .before .before .before in
+    let c6 = c3 .before .before .before in
+    let found = c6 .open-record in
+    view-by _ (found .result) (found .ensures) false (not-true _ (c .if1 .taken)) _ (c .before .before .before .pack-settings .ensures) _
+    (c .before .before .pack-state .ensures)
 
 returns-2 : tie.Need-returns-2
 returns-2 c =
-    let found = c .before .before .before .before .before .before .open-record in
-    view-by _ (found .result) (found .ensures) true (not-false _ (c .if1 .left)) _ (c .before .before .before .pack-settings .ensures) _ (c .before .before .pack-state .ensures)
+    let c3 = c .before .before .before in
+    let c6 = c3 .before .before .before in
+    let found = c6 .open-record in
+    view-by _ (found .result) (found .ensures) true (not-false _ (c .if1 .left)) _ (c .before .before .before .pack-settings .ensures) _
+    (c .before .before .pack-state .ensures)
 
 pub reckonstile-look-spec : {M : Type 1} → statement M
 reckonstile-look-spec =

@@ -27,8 +27,12 @@ same-length c = search needs
 
 returns : tie.Need-returns
 returns c =
-    let a = c .before .before .before .before .before .before .before .before .before .before .before .args in
-    (λ i. made ((c .new-answer .ensures ∙ ap (newAnswer 30) (c .before .none .ensures)) i) (c .before .before .before .before .blank .ensures i)) ∙ metered-none (a .settings) (a .list .now) _ (c .before .before .before .before .before .before .before .before .unpack-settings .ensures) (not-true _ (c .before .before .before .before .before .before .if1 .taken)) (a .bytes .now)
+    let c3 = c .before .before .before in
+    let c6 = c3 .before .before .before in
+    let c9 = c6 .before .before .before in
+    let a = c9 .before .before .args in
+    (λ i. made ((c .new-answer .ensures ∙ ap (newAnswer 30) (c .before .none .ensures)) i) (c3 .before .blank .ensures i))
+    ∙ metered-none (a .settings) (a .list .now) _ (c6 .before .before .unpack-settings .ensures) (not-true _ (c6 .if1 .taken)) (a .bytes .now)
 
 metered-requires : tie.Need-metered-requires
 metered-requires c κs = search needs
@@ -44,8 +48,14 @@ same-length-2 c = search needs
 
 returns-2 : tie.Need-returns-2
 returns-2 c =
-    let a = c .before .before .before .before .before .before .before .before .before .before .before .before .before .args in
-    (λ i. made ((c .new-answer2 .ensures ∙ ap (λ (k : ℕ). newAnswer k (c .before .before .before .before .before .metered .result .dropped)) (c .before .number .ensures)) i) (c .before .before .before .before .before .metered .last .0)) ∙ ap meteredAs (c .before .before .before .before .before .metered .ensures) ∙ metered-some (a .settings) (a .list .now) _ (c .before .before .before .before .before .before .before .before .before .before .unpack-settings .ensures) (not-false _ (c .before .before .before .before .before .before .before .before .if1 .left)) (a .bytes .now)
+    let c3 = c .before .before .before in
+    let c6 = c3 .before .before .before in
+    let c9 = c6 .before .before .before in
+    let c12 = c9 .before .before .before in
+    let a = c12 .before .args in
+    (λ i. made ((c .new-answer2 .ensures ∙ ap (λ (k : ℕ). newAnswer k (c3 .before .before .metered .result .dropped)) (c .before .number .ensures)) i)
+    (c3 .before .before .metered .last .0)) ∙ ap meteredAs (c3 .before .before .metered .ensures)
+    ∙ metered-some (a .settings) (a .list .now) _ (c9 .before .unpack-settings .ensures) (not-false _ (c6 .before .before .if1 .left)) (a .bytes .now)
 
 pub reckonstile-metered-spec : {M : Type 1} → statement M
 reckonstile-metered-spec =

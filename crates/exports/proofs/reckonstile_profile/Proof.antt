@@ -10,7 +10,9 @@ unpack-settings-requires : tie.Need-unpack-settings-requires
 unpack-settings-requires c κs = search needs
 
 returns : tie.Need-returns
-returns c = profiled-none (c .before .before .before .before .args .settings) (c .before .before .before .before .args .list .now) _ (c .before .before .unpack-settings .ensures) (not-true _ (c .if1 .taken))
+returns c =
+    let c3 = c .before .before .before in
+    profiled-none (c3 .before .args .settings) (c3 .before .args .list .now) _ (c .before .before .unpack-settings .ensures) (not-true _ (c .if1 .taken))
 
 profile-requires : tie.Need-profile-requires
 profile-requires c κs = search needs
@@ -22,7 +24,12 @@ cast-result : tie.Need-cast-result
 cast-result c = search needs
 
 returns-2 : tie.Need-returns-2
-returns-2 c = c .number .ensures ∙ ap numberOf (c .before .profile .ensures) ∙ profiled-some (c .before .before .before .before .before .before .before .args .settings) (c .before .before .before .before .before .before .before .args .list .now) _ (c .before .before .before .before .before .unpack-settings .ensures) (not-false _ (c .before .before .before .if1 .left))
+returns-2 c =
+    let c3 = c .before .before .before in
+    let c6 = c3 .before .before .before in
+    c .number .ensures ∙ ap numberOf (c .before .profile .ensures)
+    ∙ profiled-some (c6 .before .args .settings) (c6 .before .args .list .now) _ (c3 .before .before .unpack-settings .ensures)
+    (not-false _ (c .before .before .before .if1 .left))
 
 pub reckonstile-profile-spec : {M : Type 1} → statement M
 reckonstile-profile-spec =

@@ -23,10 +23,13 @@ same-length c = search needs
 
 returns : tie.Need-returns
 returns c =
-    let a = c .before .before .before .before .before .before .before .args in
+    let c3 = c .before .before .before in
+    let c6 = c3 .before .before .before in
+    let a = c6 .before .args in
     let t = arrival (a .list .now) (a .t1) (a .t4) (a .time) in
     (λ i. replied (c .told .ensures i) (a .bytes .now))
-    ∙ ap repliedAs (c .before .undecodable .ensures t ∙ undecoded (a .bytes .now) (a .d) t (sym (c .before .before .before .before .decoded-ok .ensures) ∙ not-true _ (c .before .before .before .if1 .taken)))
+    ∙ ap repliedAs (c .before .undecodable .ensures t
+    ∙ undecoded (a .bytes .now) (a .d) t (sym (c3 .before .decoded-ok .ensures) ∙ not-true _ (c .before .before .before .if1 .taken)))
 
 decoded-in-requires : tie.Need-decoded-in-requires
 decoded-in-requires c κs = search needs
@@ -42,12 +45,15 @@ same-length-2 c = search needs
 
 returns-2 : tie.Need-returns-2
 returns-2 c =
-    let a = c .before .before .before .before .before .before .before .before .before .before .args in
+    let c3 = c .before .before .before in
+    let c6 = c3 .before .before .before in
+    let c9 = c6 .before .before .before in
+    let a = c9 .before .args in
     let t = arrival (a .list .now) (a .t1) (a .t4) (a .time) in
     (λ i. replied (c .told2 .ensures i) (c .before .before .before .reply-decoded .last .0))
     ∙ ap repliedAs
     (c .before .before .before .reply-decoded .ensures
-    ∙ is-decoded (a .bytes .now) (a .d) t _ (c .before .before .before .before .before .decoded-in .ensures) (sym (c .before .before .before .before .before .before .before .decoded-ok .ensures) ∙ not-false _ (c .before .before .before .before .before .before .if1 .left)))
+    ∙ is-decoded (a .bytes .now) (a .d) t _ (c3 .before .before .decoded-in .ensures) (sym (c6 .before .decoded-ok .ensures) ∙ not-false _ (c6 .if1 .left)))
 
 pub reckonstile-reply-decoded-spec : {M : Type 1} → statement M
 reckonstile-reply-decoded-spec =

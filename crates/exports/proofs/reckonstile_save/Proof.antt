@@ -17,7 +17,10 @@ same-length-2 : tie.Need-same-length-2
 same-length-2 c = search needs
 
 returns : tie.Need-returns
-returns c = (λ i. saved (c .saved .ensures i) (c .before .before .before .before .before .save .last .0) (c .before .before .before .before .before .save .last .1 .0)) ∙ ap savedBy (c .before .before .before .before .before .save .ensures)
+returns c =
+    let c3 = c .before .before .before in
+    (λ i. saved (c .saved .ensures i) (c3 .before .before .save .last .0) (c3 .before .before .save .last .1 .0))
+    ∙ ap savedBy (c3 .before .before .save .ensures)
 
 pub reckonstile-save-spec : {M : Type 1} → statement M
 reckonstile-save-spec =

@@ -17,7 +17,10 @@ same-length-2 : tie.Need-same-length-2
 same-length-2 c = search needs
 
 returns : tie.Need-returns
-returns c = (λ i. timed (c .timer-answer .ensures i) (c .before .before .before .before .before .timer .last .0) (c .before .before .before .before .before .timer .last .1 .1 .1 .1 .1 .0)) ∙ ap timedAs (c .before .before .before .before .before .timer .ensures)
+returns c =
+    let c3 = c .before .before .before in
+    (λ i. timed (c .timer-answer .ensures i) (c3 .before .before .timer .last .0) (c3 .before .before .timer .last .1 .1 .1 .1 .1 .0))
+    ∙ ap timedAs (c3 .before .before .timer .ensures)
 
 pub reckonstile-timer-spec : {M : Type 1} → statement M
 reckonstile-timer-spec =

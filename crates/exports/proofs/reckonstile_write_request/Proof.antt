@@ -23,9 +23,12 @@ same-length c = search needs
 
 returns : tie.Need-returns
 returns c =
-    let a = c .before .before .before .before .before .before .before .before .before .args in
+    let c3 = c .before .before .before in
+    let c6 = c3 .before .before .before in
+    let c9 = c6 .before .before .before in
+    let a = c9 .args in
     let e = c .before .before .before .write-request .ensures in
-    let kind = c .before .before .before .before .before .before .send-in .ensures in (
+    let kind = c6 .send-in .ensures in (
       c .requested .ensures
           ∙ (ap requestedAs (e .0)
           ∙ (λ i. requestedAs (requestOf (kind i) (a .poll) (a .id) (a .upgrademark) (a .uid .bytes) (now (a .cookie)) (a .asked) (length (now (a .out)))))),

@@ -35,9 +35,13 @@ both-requires-4 c κs = search needs
 
 returns : tie.Need-returns
 returns c =
-    let denial = c .before .before .before .before .before .before .both .ensures ∙ (λ i. c .before .before .before .before .before .before .before .before .at-most .ensures i && c .before .before .before .before .before .before .before .at-most2 .ensures i) in
-    let others = c .before .before .before .both2 .ensures ∙ (λ i. c .before .before .before .before .before .at-most3 .ensures i && c .before .before .before .before .at-most4 .ensures i) in
+    let c3 = c .before .before .before in
+    let c6 = c3 .before .before .before in
+    let denial = c6 .both .ensures ∙ (λ i. c6 .before .before .at-most .ensures i && c6 .before .at-most2 .ensures i) in
+    let others = c .before .before .before .both2 .ensures ∙ (λ i. c3 .before .before .at-most3 .ensures i && c3 .before .at-most4 .ensures i) in
     c .both4 .ensures ∙ (λ i. c .before .at-most5 .ensures i && (c .before .before .both3 .ensures ∙ (λ j. denial j && others j)) i)
 
 pub bits-ok-spec : {M : Type 1} → statement M
-bits-ok-spec = tie.close (tie.spec at-most-requires at-most-requires-2 both-requires at-most-requires-3 at-most-requires-4 both-requires-2 both-requires-3 at-most-requires-5 both-requires-4 returns)
+bits-ok-spec =
+    tie.close (tie.spec at-most-requires at-most-requires-2 both-requires at-most-requires-3 at-most-requires-4 both-requires-2 both-requires-3
+    at-most-requires-5 both-requires-4 returns)

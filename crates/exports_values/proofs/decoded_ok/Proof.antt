@@ -34,8 +34,12 @@ both-requires-3 c κs = search needs
 returns : tie.Need-returns
 unfolding decodedOk
 returns c =
+    let c3 = c .before .before .before in
+    let c6 = c3 .before .before .before in
     c .both3 .ensures
-    ∙ (λ i. (c .before .before .before .before .both .ensures ∙ (λ j. c .before .before .before .before .before .before .before .at-most .ensures j && c .before .before .before .before .before .is-bit .ensures j)) i && (c .before .both2 .ensures ∙ (λ j. c .before .before .before .bits-ok .ensures j && c .before .before .uids-ok .ensures j)) i)
+    ∙ (λ i. (c3 .before .both .ensures ∙ (λ j. c6 .before .at-most .ensures j && c3 .before .before .is-bit .ensures j)) i
+    && (c .before .both2 .ensures ∙ (λ j. c .before .before .before .bits-ok .ensures j && c .before .before .uids-ok .ensures j)) i)
 
 pub decoded-ok-spec : {M : Type 1} → statement M
-decoded-ok-spec = tie.close (tie.spec at-most-requires cast-is-bit is-bit-requires both-requires bits-ok-requires uids-ok-requires both-requires-2 both-requires-3 returns)
+decoded-ok-spec =
+    tie.close (tie.spec at-most-requires cast-is-bit is-bit-requires both-requires bits-ok-requires uids-ok-requires both-requires-2 both-requires-3 returns)

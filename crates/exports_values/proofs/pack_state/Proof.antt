@@ -22,7 +22,15 @@ wide-bit-requires-2 c κs = search needs
 
 returns : tie.Need-returns
 unfolding packState
-returns c = rw (c .before .before .before .before .kind-out .ensures, c .before .before .before .left-out .ensures, c .before .before .bit .ensures, c .before .wide-bit .ensures, c .wide-bit2 .ensures)
+returns c =
+    let c3 = c .before .before .before in
+    rw (
+      c3 .before .kind-out .ensures,
+      c .before .before .before .left-out .ensures,
+      c .before .before .bit .ensures,
+      c .before .wide-bit .ensures,
+      c .wide-bit2 .ensures,
+    )
 
 pub pack-state-spec : {M : Type 1} → statement M
 pack-state-spec =

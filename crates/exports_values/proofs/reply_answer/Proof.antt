@@ -149,4 +149,9 @@ returns-16 : tie.Need-returns-16
 returns-16 c = rw (c .before .enum-told15 .given .1, c .unmeasured15 .ensures)
 
 pub reply-answer-spec : {M : Type 1} → statement M
-reply-answer-spec = tie.close (tie.spec enum-known-answer measured-requires enum-told unmeasured-requires enum-told-2 unmeasured-requires-2 enum-told-3 unmeasured-requires-3 enum-told-4 unmeasured-requires-4 enum-told-5 unmeasured-requires-5 enum-told-6 unmeasured-requires-6 enum-told-7 unmeasured-requires-7 enum-told-8 unmeasured-requires-8 enum-told-9 unmeasured-requires-9 enum-told-10 unmeasured-requires-10 enum-told-11 unmeasured-requires-11 enum-told-12 unmeasured-requires-12 enum-told-13 unmeasured-requires-13 enum-told-14 unmeasured-requires-14 enum-told-15 unmeasured-requires-15 returns returns-2 returns-3 returns-4 returns-5 returns-6 returns-7 returns-8 returns-9 returns-10 returns-11 returns-12 returns-13 returns-14 returns-15 returns-16)
+reply-answer-spec =
+    tie.close (tie.spec enum-known-answer measured-requires enum-told unmeasured-requires enum-told-2 unmeasured-requires-2 enum-told-3 unmeasured-requires-3
+    enum-told-4 unmeasured-requires-4 enum-told-5 unmeasured-requires-5 enum-told-6 unmeasured-requires-6 enum-told-7 unmeasured-requires-7 enum-told-8
+    unmeasured-requires-8 enum-told-9 unmeasured-requires-9 enum-told-10 unmeasured-requires-10 enum-told-11 unmeasured-requires-11 enum-told-12
+    unmeasured-requires-12 enum-told-13 unmeasured-requires-13 enum-told-14 unmeasured-requires-14 enum-told-15 unmeasured-requires-15 returns returns-2
+    returns-3 returns-4 returns-5 returns-6 returns-7 returns-8 returns-9 returns-10 returns-11 returns-12 returns-13 returns-14 returns-15 returns-16)

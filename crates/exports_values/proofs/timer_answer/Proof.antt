@@ -74,4 +74,7 @@ returns-7 : tie.Need-returns-7
 returns-7 c = rw (c .before .enum-told6 .given .1, c .unsent6 .ensures)
 
 pub timer-answer-spec : {M : Type 1} → statement M
-timer-answer-spec = tie.close (tie.spec enum-known-answer send-code-requires cast-t8 cast-t9 enum-told unsent-requires enum-told-2 unsent-requires-2 enum-told-3 unsent-requires-3 enum-told-4 unsent-requires-4 enum-told-5 unsent-requires-5 enum-told-6 unsent-requires-6 returns returns-2 returns-3 returns-4 returns-5 returns-6 returns-7)
+timer-answer-spec =
+    tie.close (tie.spec enum-known-answer send-code-requires cast-t8 cast-t9 enum-told unsent-requires enum-told-2 unsent-requires-2 enum-told-3
+    unsent-requires-3 enum-told-4 unsent-requires-4 enum-told-5 unsent-requires-5 enum-told-6 unsent-requires-6 returns returns-2 returns-3 returns-4
+    returns-5 returns-6 returns-7)

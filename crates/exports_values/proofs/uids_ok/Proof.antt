@@ -22,7 +22,10 @@ both-requires-2 : tie.Need-both-requires-2
 both-requires-2 c κs = search needs
 
 returns : tie.Need-returns
-returns c = c .both2 .ensures ∙ (λ i. (c .before .before .both .ensures ∙ (λ j. c .before .before .before .before .at-most .ensures j && c .before .before .before .at-most2 .ensures j)) i && c .before .at-most3 .ensures i)
+returns c =
+    let c3 = c .before .before .before in
+    c .both2 .ensures ∙ (λ i. (c .before .before .both .ensures ∙ (λ j. c3 .before .at-most .ensures j && c .before .before .before .at-most2 .ensures j)) i
+    && c .before .at-most3 .ensures i)
 
 pub uids-ok-spec : {M : Type 1} → statement M
 uids-ok-spec = tie.close (tie.spec at-most-requires at-most-requires-2 both-requires at-most-requires-3 both-requires-2 returns)

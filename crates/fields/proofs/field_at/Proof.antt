@@ -29,7 +29,8 @@ returns-2 c =
 returns-3 : tie.Need-returns-3
 unfolding stepAt fieldIs
 returns-3 c =
-    let a = c .before .before .before .before .args in
+    let c3 = c .before .before .before in
+    let a = c3 .before .args in
     let n = length (now (a .p)) in
     simp (le-ltb n (a .at) (omega arith), lt-leb (n - a .at) (a .tail) (omega arith), lt-leb 4 (n - a .at) (omega arith))
 
@@ -48,7 +49,9 @@ cast-long c = search needs
 returns-4 : tie.Need-returns-4
 unfolding stepAt fieldIs lengthAt
 returns-4 c =
-    let a = c .before .before .before .before .before .before .before .args in
+    let c3 = c .before .before .before in
+    let c6 = c3 .before .before .before in
+    let a = c6 .before .args in
     let n = length (now (a .p)) in
     let l = lengthAt (now (a .p)) (a .at) in
     simp (
@@ -61,7 +64,9 @@ returns-4 c =
 returns-5 : tie.Need-returns-5
 unfolding stepAt fieldIs lengthAt
 returns-5 c =
-    let a = c .before .before .before .before .before .before .before .before .args in
+    let c3 = c .before .before .before in
+    let c6 = c3 .before .before .before in
+    let a = c6 .before .before .args in
     let n = length (now (a .p)) in
     let l = lengthAt (now (a .p)) (a .at) in
     simp (
@@ -75,7 +80,10 @@ returns-5 c =
 returns-6 : tie.Need-returns-6
 unfolding stepAt fieldIs lengthAt
 returns-6 c =
-    let a = c .before .before .before .before .before .before .before .before .before .args in
+    let c3 = c .before .before .before in
+    let c6 = c3 .before .before .before in
+    let c9 = c6 .before .before .before in
+    let a = c9 .args in
     let n = length (now (a .p)) in
     let l = lengthAt (now (a .p)) (a .at) in
     simp (
@@ -99,7 +107,10 @@ add-t12 c = search needs
 returns-7 : tie.Need-returns-7
 unfolding stepAt fieldIs lengthAt kindAt
 returns-7 c =
-    let a = c .before .before .before .before .before .before .before .before .before .args in
+    let c3 = c .before .before .before in
+    let c6 = c3 .before .before .before in
+    let c9 = c6 .before .before .before in
+    let a = c9 .args in
     let n = length (now (a .p)) in
     let l = lengthAt (now (a .p)) (a .at) in
     simp (

@@ -25,8 +25,11 @@ abbrev μ-loop : tie.MeasureT-loop
 
 -- what stands at the turn's offset is the field that the pattern bound
 step : (k : tie.After-next Inv-loop μ-loop) →
+    let k3 = k .before .before .before in
+    let k6 = k3 .before .before .before in
+    let k9 = k6 .before .before .before in
     let g = k .next .given .0 in
-    packetStep (now (k .before .before .before .before .before .before .before .before .before .args .p)) (k .before .before .before .before .loop .at) ≡ Field (g .0) (g .1 .0) (g .1 .1 .0) (g .1 .1 .1 .0)
+    packetStep (now (k9 .args .p)) (k3 .before .loop .at) ≡ Field (g .0) (g .1 .0) (g .1 .1 .0) (g .1 .1 .1 .0)
 step k = sym (k .before .before .packet-field-at .ensures) ∙ k .next .given .1
 
 packet-walk-requires : tie.Need-packet-walk-requires Inv-loop μ-loop
@@ -45,7 +48,8 @@ returns c = sym (rw (not-whole _ (sym (c .before .before .packet-walk .ensures) 
 loop-holds : tie.Need-loop-holds Inv-loop μ-loop
 unfolding isPlace
 loop-holds c =
-    let p = now (c .before .before .before .before .args .p) in
+    let c3 = c .before .before .before in
+    let p = now (c3 .before .args .p) in
     let w = whole-of (packetWalk p) (c .enum-told .given .0 .0) (sym (c .before .before .packet-walk .ensures) ∙ c .enum-told .given .1) in
     (w, sym (rw w))
 
@@ -57,11 +61,14 @@ enum-known-next c = search needs
 
 returns-2 : tie.Need-returns-2 Inv-loop μ-loop
 returns-2 c =
+    let c3 = c .before .before .before in
+    let c6 = c3 .before .before .before in
     let l = c .before .before .before .loop in
     let s = c .before .packet-field-at in
-    let a = c .before .before .before .before .before .before .before .before .args in
+    let a = c6 .before .before .args in
     let n : placeIn (a .end) (walkOf (now (a .p)) (l .at) 16 24) ≡ false =
-    rw (walk-turn (now (a .p)) (l .at) 16 24 (lit≤ tt), ← s .ensures) (no-place _ (a .end) (l .at) (s .result) (c .match2 .keys2) (ne-eqb _ _ (c .before .before .loop-test .taken))) in
+    rw (walk-turn (now (a .p)) (l .at) 16 24 (lit≤ tt), ← s .ensures)
+    (no-place _ (a .end) (l .at) (s .result) (c .match2 .keys2) (ne-eqb _ _ (c .before .before .loop-test .taken))) in
     sym n ∙ l .inv .1
 
 loop-less : tie.Need-loop-less Inv-loop μ-loop
@@ -69,16 +76,21 @@ loop-less c = let w = placed _ _ 16 24 (lit≤ tt) _ _ _ _ (step (c .before)) in
 
 loop-again : tie.Need-loop-again Inv-loop μ-loop
 loop-again c =
-    let l = c .before .before .before .before .before .loop in
-    let a = c .before .before .before .before .before .before .before .before .before .before .args in
+    let c3 = c .before .before .before in
+    let c6 = c3 .before .before .before in
+    let c9 = c6 .before .before .before in
+    let l = c3 .before .before .loop in
+    let a = c9 .before .args in
     let t = walk-turn (now (a .p)) (l .at) 16 24 (lit≤ tt) in
-    let e = ne-eqb (l .at) (a .end) (c .before .before .before .before .loop-test .taken) in
+    let e = ne-eqb (l .at) (a .end) (c3 .before .loop-test .taken) in
     (rw (t, step (c .before)) at (l .inv .0), rw (t, step (c .before), e) at (l .inv .1))
 
 returns-3 : tie.Need-returns-3 Inv-loop μ-loop
 returns-3 c =
+    let c3 = c .before .before .before in
+    let c6 = c3 .before .before .before in
     let l = c .before .loop in
-    let a = c .before .before .before .before .before .before .args in
+    let a = c6 .args in
     let e : l .at ≡ a .end = c .loop-test .left in
     sym (rw e at (first-place (now (a .p)) 16 24 (lit≤ tt) (l .at) (l .inv .0))) ∙ rw e at (l .inv .1)
 

@@ -21,8 +21,9 @@ abbrev μ-loop : tie.MeasureT-loop
 
 -- what stands at the turn's offset is the field that the pattern bound
 step : (k : tie.After-step Inv-loop μ-loop) →
+    let k3 = k .before .before .before in
     let g = k .step .given .0 in
-    let a = k .before .before .before .before .before .args in
+    let a = k3 .before .before .args in
     stepAt (now (a .p)) (k .before .before .before .loop .at) (a .least) (a .tail) ≡ Field (g .0) (g .1 .0) (g .1 .1 .0) (g .1 .1 .1 .0)
 step k = sym (k .before .before .field-at .ensures) ∙ k .step .given .1
 
@@ -40,8 +41,9 @@ stopped-requires c κs = search needs
 
 returns : tie.Need-returns Inv-loop μ-loop
 returns c =
+    let c3 = c .before .before .before in
     let l = c .before .before .before .loop in
-    let b = c .before .before .before .before .before in
+    let b = c3 .before .before in
     let s = c .before .before .field-at in
     c .stopped .ensures
     ∙ ap walkedOf (stops _ (λ next. walkOf (now (b .args .p)) next (b .args .least) (b .args .tail)) (l .at) (s .result) (c .before .match .keys2))
@@ -49,12 +51,17 @@ returns c =
     ∙ l .inv
 
 loop-less : tie.Need-loop-less Inv-loop μ-loop
-loop-less c = let w = placed _ _ _ _ (c .before .before .before .before .before .before .pre) _ _ _ _ (step (c .before)) in omega arith
+loop-less c =
+    let c3 = c .before .before .before in
+    let c6 = c3 .before .before .before in
+    let w = placed _ _ _ _ (c6 .pre) _ _ _ _ (step (c .before)) in omega arith
 
 loop-again : tie.Need-loop-again Inv-loop μ-loop
 loop-again c =
-    let l = c .before .before .before .before .loop in
-    let b = c .before .before .before .before .before .before in
+    let c3 = c .before .before .before in
+    let c6 = c3 .before .before .before in
+    let l = c3 .before .loop in
+    let b = c6 in
     sym (rw (walk-turn (now (b .args .p)) (l .at) (b .args .least) (b .args .tail) (b .pre), step (c .before))) ∙ l .inv
 
 pub walk-from-spec : {M : Type 1} → statement M

@@ -19,17 +19,34 @@ enum-told : tie.Need-enum-told
 enum-told c = search needs
 
 sub-compare-right : tie.Need-sub-compare-right
-sub-compare-right c = let a = c .before .before .before .before .before .before .before .before .args in let w = found-is (now (a .left)) (c .before .before .before .before .read .result) (c .before .before .before .before .read .ensures) _ (c .enum-told .given .1) in omega (arith, w .ordered)
+sub-compare-right c =
+    let c3 = c .before .before .before in
+    let c6 = c3 .before .before .before in
+    let a = c6 .before .before .args in let w = found-is (now (a .left)) (c3 .before .read .result) (c3 .before .read .ensures) _ (c .enum-told .given .1) in
+    omega (arith, w .ordered)
 
 part-compare-right-start : tie.Need-part-compare-right-start
-part-compare-right-start c = let a = c .before .before .before .before .before .before .before .before .args in let w = found-is (now (a .left)) (c .before .before .before .before .read .result) (c .before .before .before .before .read .ensures) _ (c .enum-told .given .1) in omega (arith, w .ordered)
+part-compare-right-start c =
+    let c3 = c .before .before .before in
+    let c6 = c3 .before .before .before in
+    let a = c6 .before .before .args in let w = found-is (now (a .left)) (c3 .before .read .result) (c3 .before .read .ensures) _ (c .enum-told .given .1) in
+    omega (arith, w .ordered)
 
 part-compare-right-end : tie.Need-part-compare-right-end
-part-compare-right-end c = let a = c .before .before .before .before .before .before .before .before .args in let w = found-is (now (a .left)) (c .before .before .before .before .read .result) (c .before .before .before .before .read .ensures) _ (c .enum-told .given .1) in omega (arith, w .inside)
+part-compare-right-end c =
+    let c3 = c .before .before .before in
+    let c6 = c3 .before .before .before in
+    let a = c6 .before .before .args in let w = found-is (now (a .left)) (c3 .before .read .result) (c3 .before .read .ensures) _ (c .enum-told .given .1) in
+    omega (arith, w .inside)
 
 compare-right-requires : tie.Need-compare-right-requires
 unfolding part
-compare-right-requires c κs = let a = c .before .before .before .before .before .before .before .before .before .before .args in let w = found-is (now (a .left)) (c .before .before .before .before .before .before .read .result) (c .before .before .before .before .before .before .read .ensures) _ (c .before .before .enum-told .given .1) in (w .fits, w .known)
+compare-right-requires c κs =
+    let c3 = c .before .before .before in
+    let c6 = c3 .before .before .before in
+    let c9 = c6 .before .before .before in
+    let a = c9 .before .args in let w = found-is (now (a .left)) (c6 .read .result) (c6 .read .ensures) _ (c .before .before .enum-told .given .1) in
+    (w .fits, w .known)
 
 enum-told-2 : tie.Need-enum-told-2
 enum-told-2 c = search needs
@@ -46,35 +63,53 @@ same-length c = search needs
 returns : tie.Need-returns
 unfolding part
 returns c =
-    let a = c .before .before .before .before .before .before .before .before .before .before .before .before .before .args in
-    let w = found-is (now (a .left)) (c .before .before .before .before .before .before .before .before .before .read .result) (c .before .before .before .before .before .before .before .before .before .read .ensures) _ (c .before .before .before .before .before .enum-told .given .1) in
-    let h = c .before .before .before .before .before .enum-told .given .1 in (
-      c .before .before .compare-right .ensures .0 ∙ left-by (now (a .left)) (c .before .before .before .before .before .before .before .before .before .read .result) (c .before .before .before .before .before .before .before .before .before .read .ensures) h _ (sym (w .association)) (now (a .right)) (length (now (a .out))),
-      c .before .before .compare-right .ensures .1 ∙ left-out-by (now (a .left)) (c .before .before .before .before .before .before .before .before .before .read .result) (c .before .before .before .before .before .before .before .before .before .read .ensures) h _ (sym (w .association)) (now (a .right)) (now (a .out)),
+    let c3 = c .before .before .before in
+    let c6 = c3 .before .before .before in
+    let c9 = c6 .before .before .before in
+    let c12 = c9 .before .before .before in
+    let a = c12 .before .args in
+    let w = found-is (now (a .left)) (c9 .read .result) (c9 .read .ensures) _ (c3 .before .before .enum-told .given .1) in
+    let h = c3 .before .before .enum-told .given .1 in (
+      c .before .before .compare-right .ensures .0
+          ∙ left-by (now (a .left)) (c9 .read .result) (c9 .read .ensures) h _ (sym (w .association)) (now (a .right)) (length (now (a .out))),
+      c .before .before .compare-right .ensures .1
+          ∙ left-out-by (now (a .left)) (c9 .read .result) (c9 .read .ensures) h _ (sym (w .association)) (now (a .right)) (now (a .out)),
     )
 
 returns-2 : tie.Need-returns-2
 returns-2 c =
-    let a = c .before .before .before .before .before .before .before .before .args in
+    let c3 = c .before .before .before in
+    let c6 = c3 .before .before .before in
+    let a = c6 .before .before .args in
     let h = c .enum-told2 .given .1 in (
-      left-by (now (a .left)) (c .before .before .before .before .read .result) (c .before .before .before .before .read .ensures) h (loadOf (now (a .left)) .association) refl (now (a .right)) (length (now (a .out))),
-      left-out-by (now (a .left)) (c .before .before .before .before .read .result) (c .before .before .before .before .read .ensures) h (loadOf (now (a .left)) .association) refl (now (a .right)) (now (a .out)),
+      left-by (now (a .left)) (c3 .before .read .result) (c3 .before .read .ensures) h (loadOf (now (a .left)) .association) refl (now (a .right))
+          (length (now (a .out))),
+      left-out-by (now (a .left)) (c3 .before .read .result) (c3 .before .read .ensures) h (loadOf (now (a .left)) .association) refl (now (a .right))
+          (now (a .out)),
     )
 
 returns-3 : tie.Need-returns-3
 returns-3 c =
-    let a = c .before .before .before .before .before .before .before .before .args in
+    let c3 = c .before .before .before in
+    let c6 = c3 .before .before .before in
+    let a = c6 .before .before .args in
     let h = c .enum-told3 .given .1 in (
-      left-by (now (a .left)) (c .before .before .before .before .read .result) (c .before .before .before .before .read .ensures) h (loadOf (now (a .left)) .association) refl (now (a .right)) (length (now (a .out))),
-      left-out-by (now (a .left)) (c .before .before .before .before .read .result) (c .before .before .before .before .read .ensures) h (loadOf (now (a .left)) .association) refl (now (a .right)) (now (a .out)),
+      left-by (now (a .left)) (c3 .before .read .result) (c3 .before .read .ensures) h (loadOf (now (a .left)) .association) refl (now (a .right))
+          (length (now (a .out))),
+      left-out-by (now (a .left)) (c3 .before .read .result) (c3 .before .read .ensures) h (loadOf (now (a .left)) .association) refl (now (a .right))
+          (now (a .out)),
     )
 
 returns-4 : tie.Need-returns-4
 returns-4 c =
-    let a = c .before .before .before .before .before .before .before .before .args in
+    let c3 = c .before .before .before in
+    let c6 = c3 .before .before .before in
+    let a = c6 .before .before .args in
     let h = c .enum-told4 .given .1 in (
-      left-by (now (a .left)) (c .before .before .before .before .read .result) (c .before .before .before .before .read .ensures) h (loadOf (now (a .left)) .association) refl (now (a .right)) (length (now (a .out))),
-      left-out-by (now (a .left)) (c .before .before .before .before .read .result) (c .before .before .before .before .read .ensures) h (loadOf (now (a .left)) .association) refl (now (a .right)) (now (a .out)),
+      left-by (now (a .left)) (c3 .before .read .result) (c3 .before .read .ensures) h (loadOf (now (a .left)) .association) refl (now (a .right))
+          (length (now (a .out))),
+      left-out-by (now (a .left)) (c3 .before .read .result) (c3 .before .read .ensures) h (loadOf (now (a .left)) .association) refl (now (a .right))
+          (now (a .out)),
     )
 
 pub compare-spec : {M : Type 1} → statement M

@@ -38,10 +38,13 @@ loop-less : tie.Need-loop-less Inv-loop μ-loop
 loop-less c = omega arith
 
 loop-again : tie.Need-loop-again Inv-loop μ-loop
-loop-again c = let l = c .before .before .before .loop in let h : length (c .before .before .before .before .args .t1) ≡ 8 = search (needs, length-mapped) in count-next _ _ _ (l .inv) _ _ h (omega arith) (c .entries-of .ensures .0) (c .entries-of .ensures .1)
+loop-again c =
+    let l = c .before .before .before .loop in let h : length (c .before .before .before .before .args .t1) ≡ 8 = search (needs, length-mapped) in
+    count-next _ _ _ (l .inv) _ _ h (omega arith) (c .entries-of .ensures .0) (c .entries-of .ensures .1)
 
 returns : tie.Need-returns Inv-loop μ-loop
-returns c = let l = c .before .loop in let h : length (c .before .before .args .t1) ≡ 8 = search (needs, length-mapped) in counted _ _ _ (l .inv) h (omega arith)
+returns c =
+    let l = c .before .loop in let h : length (c .before .before .args .t1) ≡ 8 = search (needs, length-mapped) in counted _ _ _ (l .inv) h (omega arith)
 
 pub count-spec : {M : Type 1} → statement M
 count-spec =

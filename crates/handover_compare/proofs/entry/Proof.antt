@@ -75,7 +75,8 @@ array-read-t60 : tie.Need-array-read-t60
 array-read-t60 c = search needs
 
 laid : (f : Field) {l r p : List ℕ} → l ≡ toBe 8 (f .left) → r ≡ toBe 8 (f .right) → p ≡ toBe 2 (f .place)
-    → f .code ∷ getD l 0 0 ∷ getD l 1 0 ∷ getD l 2 0 ∷ getD l 3 0 ∷ getD l 4 0 ∷ getD l 5 0 ∷ getD l 6 0 ∷ getD l 7 0 ∷ getD r 0 0 ∷ getD r 1 0 ∷ getD r 2 0 ∷ getD r 3 0 ∷ getD r 4 0 ∷ getD r 5 0 ∷ getD r 6 0 ∷ getD r 7 0 ∷ getD p 0 0 ∷ getD p 1 0 ∷ [] ≡ entryBytes f
+    → f .code ∷ getD l 0 0 ∷ getD l 1 0 ∷ getD l 2 0 ∷ getD l 3 0 ∷ getD l 4 0 ∷ getD l 5 0 ∷ getD l 6 0 ∷ getD l 7 0 ∷ getD r 0 0 ∷ getD r 1 0 ∷ getD r 2 0
+    ∷ getD r 3 0 ∷ getD r 4 0 ∷ getD r 5 0 ∷ getD r 6 0 ∷ getD r 7 0 ∷ getD p 0 0 ∷ getD p 1 0 ∷ [] ≡ entryBytes f
 unfolding entryBytes
 laid f el er ep = rw (el, er, ep)
 

@@ -31,11 +31,13 @@ array-copy-out-put-field c = omega arith
 
 put-field-requires : tie.Need-put-field-requires Inv-loop μ-loop
 put-field-requires c κs =
+    let c3 = c .before .before .before in
     let l = c .before .before .before .loop in
-    let fs = c .before .before .before .before .before .args .t3 in
+    let fs = c3 .before .before .args .t3 in
     let h : length fs ≡ 8 = search (needs, length-mapped) in
     let d : Field = record { code = 0; left = 0; right = 0; place = 0; same = false } in
-    next-fits _ _ _ (c .before .before .before .before .before .pre) _ _ _ (l .inv .1) (listBytes (differing (getD fs (l .i) d ∷ []))) (ahead fs (l .i + 1)) (ahead-next fs (l .i) d (omega (arith, h)))
+    next-fits _ _ _ (c3 .before .before .pre) _ _ _ (l .inv .1) (listBytes (differing (getD fs (l .i) d ∷ []))) (ahead fs (l .i + 1))
+    (ahead-next fs (l .i) d (omega (arith, h)))
 
 add-i : tie.Need-add-i Inv-loop μ-loop
 add-i c = omega arith
@@ -44,13 +46,22 @@ loop-less : tie.Need-loop-less Inv-loop μ-loop
 loop-less c = omega arith
 
 loop-again : tie.Need-loop-again Inv-loop μ-loop
-loop-again c = let l = c .before .before .before .before .before .before .loop in let h : length (c .before .before .before .before .before .before .before .before .args .t3) ≡ 8 = search (needs, length-mapped) in (omega arith, owed-next _ _ _ (c .before .before .before .before .before .before .before .before .pre) _ _ _ (l .inv .1) _ _ (ahead-next (c .before .before .before .before .before .before .before .before .args .t3) (l .i) _ (omega (arith, h))) _ _ (c .before .before .put-field .ensures))
+loop-again c =
+    let l = c .before .before .before .before .before .before .loop in
+    let h : length (c .before .before .before .before .before .before .before .before .args .t3) ≡ 8 = search (needs, length-mapped) in (
+      omega arith,
+      owed-next _ _ _ (c .before .before .before .before .before .before .before .before .pre) _ _ _ (l .inv .1) _ _
+          (ahead-next (c .before .before .before .before .before .before .before .before .args .t3) (l .i) _ (omega (arith, h))) _ _
+          (c .before .before .put-field .ensures),
+    )
 
 same-length : tie.Need-same-length Inv-loop μ-loop
 same-length c = c .before .loop .inv .1 .long
 
 returns : tie.Need-returns Inv-loop μ-loop
-returns c = let l = c .before .loop in let h : length (c .before .before .before .args .t3) ≡ 8 = search (needs, length-mapped) in owed-none _ _ _ (c .before .before .before .pre) _ _ _ (l .inv .1) (ahead-none (c .before .before .before .args .t3) (l .i) (omega (arith, h)))
+returns c =
+    let l = c .before .loop in let h : length (c .before .before .before .args .t3) ≡ 8 = search (needs, length-mapped) in
+    owed-none _ _ _ (c .before .before .before .pre) _ _ _ (l .inv .1) (ahead-none (c .before .before .before .args .t3) (l .i) (omega (arith, h)))
 
 pub put-eight-spec : {M : Type 1} → statement M
 put-eight-spec =

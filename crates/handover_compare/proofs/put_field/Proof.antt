@@ -28,11 +28,13 @@ same-length c = omega (arith, c .before .before .lay .kept .0)
 
 returns-2 : tie.Need-returns-2
 returns-2 c =
-    let f = c .before .before .before .before .before .before .before .before .args .f in
-    let differs = c .before .before .before .before .before .before .if1 .left in
-    let e = c .before .before .before .before .before .entry .ensures in
-    let p = laid-put _ _ _ (c .before .before .lay .ensures) (omega (arith, c .before .before .before .before .before .before .before .before .pre, one-long f differs, ap length e, entry-long f)) in
-    one-put f differs (c .before .before .before .before .before .entry .result) e p
+    let c3 = c .before .before .before in
+    let c6 = c3 .before .before .before in
+    let f = c6 .before .before .args .f in
+    let differs = c6 .if1 .left in
+    let e = c3 .before .before .entry .ensures in
+    let p = laid-put _ _ _ (c .before .before .lay .ensures) (omega (arith, c6 .before .before .pre, one-long f differs, ap length e, entry-long f)) in
+    one-put f differs (c3 .before .before .entry .result) e p
 
 pub put-field-spec : {M : Type 1} → statement M
 put-field-spec =

@@ -23,8 +23,11 @@ abbrev μ-loop : tie.MeasureT-loop
 μ-loop f at₀ i₀ at i = 6 - i
 
 -- the body that was found
-body-at : (c : tie.After-start Inv-loop μ-loop) → let g = c .start .given .0 in let l = c .before .before .before .before .before .loop in
-    placeAt (c .before .before .before .before .before .before .before .args .f .now) (l .at) (shapeAt (l .i) .mark) ≡ Body (g .0) (g .1 .0)
+body-at : (c : tie.After-start Inv-loop μ-loop) →
+    let c3 = c .before .before .before in
+    let c6 = c3 .before .before .before in
+    let c3 = c .before .before .before in let g = c .start .given .0 in let l = c3 .before .before .loop in
+    placeAt (c6 .before .args .f .now) (l .at) (shapeAt (l .i) .mark) ≡ Body (g .0) (g .1 .0)
 body-at c = ap (placeAt _ _) (sym (c .before .before .before .mark-of .ensures)) ∙ sym (c .before .before .place-at .ensures) ∙ c .start .given .1
 
 loop-holds : tie.Need-loop-holds Inv-loop μ-loop
@@ -54,8 +57,12 @@ fits-requires c κs = omega arith
 returns : tie.Need-returns Inv-loop μ-loop
 unfolding part
 returns c =
-    let l = c .before .before .before .before .before .before .before .before .before .loop in
-    sym (sym (l .inv .2) ∙ ends-unfit _ (l .at) (l .i) (l .inv .0) (omega arith) _ _ (body-at (c .before .before .before .before)) (sym (c .before .fits2 .ensures) ∙ not-true _ (c .if1 .taken)))
+    let c3 = c .before .before .before in
+    let c6 = c3 .before .before .before in
+    let c9 = c6 .before .before .before in
+    let l = c9 .loop in
+    sym (sym (l .inv .2) ∙ ends-unfit _ (l .at) (l .i) (l .inv .0) (omega arith) _ _ (body-at (c3 .before))
+    (sym (c .before .fits2 .ensures) ∙ not-true _ (c .if1 .taken)))
 
 add-i : tie.Need-add-i Inv-loop μ-loop
 add-i c = omega arith
@@ -65,25 +72,37 @@ loop-less c = omega arith
 
 loop-again : tie.Need-loop-again Inv-loop μ-loop
 unfolding part
-loop-again c = let w = body-within _ _ _ _ _ (body-at (c .before .before .before .before)) in
-    let l = c .before .before .before .before .before .before .before .before .before .loop in
-    (w .2, omega arith, sym (goes-on _ (l .at) (l .i) (l .inv .0) (omega arith) _ _ (body-at (c .before .before .before .before)) (sym (c .before .fits2 .ensures) ∙ not-false _ (c .if1 .left))) ∙ l .inv .2)
+loop-again c =
+    let c3 = c .before .before .before in
+    let c6 = c3 .before .before .before in
+    let c9 = c6 .before .before .before in
+    let w = body-within _ _ _ _ _ (body-at (c3 .before)) in
+    let l = c9 .loop in (
+      w .2,
+      omega arith,
+      sym (goes-on _ (l .at) (l .i) (l .inv .0) (omega arith) _ _ (body-at (c3 .before))
+          (sym (c .before .fits2 .ensures) ∙ not-false _ (c .if1 .left))) ∙ l .inv .2,
+    )
 
 enum-told : tie.Need-enum-told Inv-loop μ-loop
 enum-told c = search needs
 
 returns-2 : tie.Need-returns-2 Inv-loop μ-loop
 returns-2 c =
-    let l = c .before .before .before .before .before .loop in
-    sym (sym (l .inv .2) ∙ ends-other _ (l .at) (l .i) (l .inv .0) (omega arith) (ap (placeAt _ _) (sym (c .before .before .before .mark-of .ensures)) ∙ sym (c .before .before .place-at .ensures) ∙ c .enum-told .given .1))
+    let c3 = c .before .before .before in
+    let l = c3 .before .before .loop in
+    sym (sym (l .inv .2) ∙ ends-other _ (l .at) (l .i) (l .inv .0) (omega arith)
+    (ap (placeAt _ _) (sym (c .before .before .before .mark-of .ensures)) ∙ sym (c .before .before .place-at .ensures) ∙ c .enum-told .given .1))
 
 enum-told-2 : tie.Need-enum-told-2 Inv-loop μ-loop
 enum-told-2 c = search needs
 
 returns-3 : tie.Need-returns-3 Inv-loop μ-loop
 returns-3 c =
-    let l = c .before .before .before .before .before .loop in
-    sym (sym (l .inv .2) ∙ ends-short _ (l .at) (l .i) (l .inv .0) (omega arith) (ap (placeAt _ _) (sym (c .before .before .before .mark-of .ensures)) ∙ sym (c .before .before .place-at .ensures) ∙ c .enum-told2 .given .1))
+    let c3 = c .before .before .before in
+    let l = c3 .before .before .loop in
+    sym (sym (l .inv .2) ∙ ends-short _ (l .at) (l .i) (l .inv .0) (omega arith)
+    (ap (placeAt _ _) (sym (c .before .before .before .mark-of .ensures)) ∙ sym (c .before .before .place-at .ensures) ∙ c .enum-told2 .given .1))
 
 returns-4 : tie.Need-returns-4 Inv-loop μ-loop
 returns-4 c = let l = c .before .before .loop in sym (sym (l .inv .2) ∙ ends-good _ (l .at) (l .i) (l .inv .0) (omega arith) (omega arith))

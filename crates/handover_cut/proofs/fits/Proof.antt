@@ -34,14 +34,20 @@ stash-fits-requires c κs = search needs
 
 returns-2 : tie.Need-returns-2
 unfolding shapeAt
-returns-2 c = c .stash-fits .ensures ∙ sym (ap (λ (i : ℕ). shapeAt i .fits (c .before .before .before .before .args .b .now)) (c .before .if2 .taken))
+returns-2 c =
+    let c3 = c .before .before .before in
+    c .stash-fits .ensures ∙ sym (ap (λ (i : ℕ). shapeAt i .fits (c3 .before .args .b .now)) (c .before .if2 .taken))
 
 returns-3 : tie.Need-returns-3
 unfolding shapeAt
-returns-3 c = sym (ap (λ (i : ℕ). shapeAt i .fits (c .before .before .before .before .args .b .now)) (c .if3 .taken))
+returns-3 c =
+    let c3 = c .before .before .before in
+    sym (ap (λ (i : ℕ). shapeAt i .fits (c3 .before .args .b .now)) (c .if3 .taken))
 
 returns-4 : tie.Need-returns-4
-returns-4 c = sym (two (c .before .before .before .before .args .i) (c .before .before .before .before .args .b .now) (omega arith) (λ e. omega arith) (λ e. omega arith) (λ e. omega arith))
+returns-4 c =
+    let c3 = c .before .before .before in
+    sym (two (c3 .before .args .i) (c3 .before .args .b .now) (omega arith) (λ e. omega arith) (λ e. omega arith) (λ e. omega arith))
 
 pub fits-spec : {M : Type 1} → statement M
 fits-spec = tie.close (tie.spec settings-fit-requires returns stash-fits-requires returns-2 returns-3 returns-4)

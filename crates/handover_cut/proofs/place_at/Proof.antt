@@ -28,7 +28,8 @@ be16-at-requires c κs = search needs
 returns-3 : tie.Need-returns-3
 unfolding placeAt
 returns-3 c =
-    let a = c .before .before .before .before .before .args in
+    let c3 = c .before .before .before in
+    let a = c3 .before .before .args in
     simp (
       le-ltb _ _ (c .before .before .before .if1 .left),
       le-ltb _ _ (c .before .before .if2 .left),
@@ -38,9 +39,11 @@ returns-3 c =
 returns-4 : tie.Need-returns-4
 unfolding placeAt
 returns-4 c =
-    let a = c .before .before .before .before .before .before .args in
+    let c3 = c .before .before .before in
+    let c6 = c3 .before .before .before in
+    let a = c6 .args in
     simp (
-      le-ltb _ _ (c .before .before .before .before .if1 .left),
+      le-ltb _ _ (c3 .before .if1 .left),
       le-ltb _ _ (c .before .before .before .if2 .left),
       eq-eqb (be (part (now (a .f)) (a .at) 2)) (a .mark) (omega arith),
       lt-ltb _ _ (c .if4 .taken),
@@ -58,10 +61,12 @@ cast-len c = search needs
 returns-5 : tie.Need-returns-5
 unfolding placeAt lengthAt
 returns-5 c =
-    let a = c .before .before .before .before .before .before .before .before .args in
+    let c3 = c .before .before .before in
+    let c6 = c3 .before .before .before in
+    let a = c6 .before .before .args in
     simp (
-      le-ltb _ _ (c .before .before .before .before .before .before .if1 .left),
-      le-ltb _ _ (c .before .before .before .before .before .if2 .left),
+      le-ltb _ _ (c6 .if1 .left),
+      le-ltb _ _ (c3 .before .before .if2 .left),
       eq-eqb (be (part (now (a .f)) (a .at) 2)) (a .mark) (omega arith),
       le-ltb _ _ (c .before .before .if4 .left),
       lt-ltb (length (now (a .f)) - a .at - 4) (lengthAt (now (a .f)) (a .at)) (omega arith),
@@ -76,10 +81,12 @@ add-t7 c = search needs
 returns-6 : tie.Need-returns-6
 unfolding placeAt lengthAt
 returns-6 c =
-    let a = c .before .before .before .before .before .before .before .before .args in
+    let c3 = c .before .before .before in
+    let c6 = c3 .before .before .before in
+    let a = c6 .before .before .args in
     simp (
-      le-ltb _ _ (c .before .before .before .before .before .before .if1 .left),
-      le-ltb _ _ (c .before .before .before .before .before .if2 .left),
+      le-ltb _ _ (c6 .if1 .left),
+      le-ltb _ _ (c3 .before .before .if2 .left),
       eq-eqb (be (part (now (a .f)) (a .at) 2)) (a .mark) (omega arith),
       le-ltb _ _ (c .before .before .if4 .left),
       le-ltb (length (now (a .f)) - a .at - 4) (lengthAt (now (a .f)) (a .at)) (omega arith),

@@ -20,8 +20,11 @@ abbrev μ-loop : tie.MeasureT-loop
 μ-loop b at₀ at = length b - at
 
 -- the entry that was read
-cookie-at : (c : tie.After-end Inv-loop μ-loop) → let g = c .end .given .0 in
-    heldAt (c .before .before .before .before .before .before .args .b .now) (c .before .before .before .loop .at) ≡ One (g .0) (g .1 .0) (g .1 .1 .0)
+cookie-at : (c : tie.After-end Inv-loop μ-loop) →
+    let c3 = c .before .before .before in
+    let c6 = c3 .before .before .before in
+    let g = c .end .given .0 in
+    heldAt (c6 .args .b .now) (c .before .before .before .loop .at) ≡ One (g .0) (g .1 .0) (g .1 .1 .0)
 cookie-at c = sym (c .before .before .held-at .ensures) ∙ c .end .given .1
 
 returns : tie.Need-returns Inv-loop μ-loop
@@ -43,8 +46,9 @@ loop-less c = let w = one-within _ _ _ _ _ (cookie-at (c .before)) in omega arit
 
 loop-again : tie.Need-loop-again Inv-loop μ-loop
 loop-again c =
+    let c3 = c .before .before .before in
     let e = cookie-at (c .before) in
-    let i = c .before .before .before .before .loop .inv in
+    let i = c3 .before .loop .inv in
     (one-within _ _ _ _ _ e .3, sym (fits-one _ _ (i .0) _ _ _ e) ∙ i .1)
 
 enum-told : tie.Need-enum-told Inv-loop μ-loop

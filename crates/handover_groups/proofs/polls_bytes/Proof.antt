@@ -20,7 +20,8 @@ i8-as-u8-requires-2 c κs = search needs
 returns : tie.Need-returns
 unfolding pollsBytes
 returns c =
-    let fit = polls-fit (c .before .before .before .before .args .p) _ (c .before .before .before .before .good .0) in
+    let c3 = c .before .before .before in
+    let fit = polls-fit (c3 .before .args .p) _ (c3 .before .good .0) in
     let last = c .before .before .i8-as-u8 .ensures ∙ ap (unsigned (2 ^ 7)) (toZ-ofZ (fit .last)) in
     let remote = c .i8-as-u82 .ensures ∙ ap (unsigned (2 ^ 7)) (toZ-ofZ (fit .remote)) in
     λ i. last i ∷ remote i ∷ []

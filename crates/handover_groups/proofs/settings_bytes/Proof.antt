@@ -101,25 +101,31 @@ array-read-t73 c = search needs
 
 -- the bytes of the words, one by one, lie as in the definition
 laid : (s : Settings) {lo hi k t n : ℕ} {w m d : List ℕ} → lo ≡ unsigned (2 ^ 7) (s .min .0) → hi ≡ unsigned (2 ^ 7) (s .max .0)
-    → w ≡ toBe 8 (s .window) → m ≡ toBe 8 (s .upgrademark) → k ≡ kindCode (s .start .kind) → t ≡ triesCode (s .start .kind) → n ≡ yesCode (s .nts) → d ≡ toBe 4 (s .source .0)
-    → lo ∷ hi ∷ s .startup ∷ getD w 0 0 ∷ getD w 1 0 ∷ getD w 2 0 ∷ getD w 3 0 ∷ getD w 4 0 ∷ getD w 5 0 ∷ getD w 6 0 ∷ getD w 7 0 ∷ getD m 0 0 ∷ getD m 1 0 ∷ getD m 2 0 ∷ getD m 3 0 ∷ getD m 4 0 ∷ getD m 5 0 ∷ getD m 6 0 ∷ getD m 7 0 ∷ k ∷ t ∷ n ∷ getD d 0 0 ∷ getD d 1 0 ∷ getD d 2 0 ∷ getD d 3 0 ∷ s .capacity ∷ [] ≡ settingsBytes s
+    → w ≡ toBe 8 (s .window) → m ≡ toBe 8 (s .upgrademark) → k ≡ kindCode (s .start .kind) → t ≡ triesCode (s .start .kind) → n ≡ yesCode (s .nts) →
+    d ≡ toBe 4 (s .source .0)
+    → lo ∷ hi ∷ s .startup ∷ getD w 0 0 ∷ getD w 1 0 ∷ getD w 2 0 ∷ getD w 3 0 ∷ getD w 4 0 ∷ getD w 5 0 ∷ getD w 6 0 ∷ getD w 7 0 ∷ getD m 0 0 ∷ getD m 1 0
+    ∷ getD m 2 0 ∷ getD m 3 0 ∷ getD m 4 0 ∷ getD m 5 0 ∷ getD m 6 0 ∷ getD m 7 0 ∷ k ∷ t ∷ n ∷ getD d 0 0 ∷ getD d 1 0 ∷ getD d 2 0 ∷ getD d 3 0 ∷ s .capacity
+    ∷ [] ≡ settingsBytes s
 unfolding settingsBytes
 laid s el eh ew em ek et en ed = rw (el, eh, ew, em, ek, et, en, ed)
 
 returns : tie.Need-returns
 returns c =
     let f = c in
-    let start = f .before .before .before .before .before .before .before .before .before .before .before in
+    let f3 = f .before .before .before in
+    let f6 = f3 .before .before .before in
+    let f9 = f6 .before .before .before in
+    let start = f9 .before .before in
     let fit = settings-fit (start .args .s) _ (start .good .0) in
     laid (start .args .s)
-    (f .before .before .before .before .before .i8-as-u8 .ensures ∙ ap (unsigned (2 ^ 7)) (toZ-ofZ (fit .min)))
+    (f3 .before .before .i8-as-u8 .ensures ∙ ap (unsigned (2 ^ 7)) (toZ-ofZ (fit .min)))
     (f .before .before .before .i8-as-u82 .ensures ∙ ap (unsigned (2 ^ 7)) (toZ-ofZ (fit .max)))
-    (f .before .before .before .before .before .before .before .before .before .be64-bytes .ensures)
-    (f .before .before .before .before .before .before .before .before .be64-bytes2 .ensures)
+    (f9 .be64-bytes .ensures)
+    (f6 .before .before .be64-bytes2 .ensures)
     (f .before .before .kind-code .ensures)
     (f .before .tries-code .ensures)
     (f .yes-code .ensures)
-    (f .before .before .before .before .before .before .before .be32-bytes .ensures)
+    (f6 .before .be32-bytes .ensures)
 
 pub settings-bytes-spec : {M : Type 1} → statement M
 settings-bytes-spec =

@@ -30,11 +30,17 @@ yes-known-requires c κs = search needs
 
 returns : tie.Need-returns
 unfolding settingsKnown
-returns c = c .yes-known .ensures ∙ ap yesKnown (c .before .byte-at3 .ensures) ∙ sym (passes _ (known-by (c .before .before .before .before .before .byte-at .ensures) (c .before .before .before .before .byte-at2 .ensures) (c .before .before .before .kind-known .ensures) (c .before .before .if1 .taken)))
+returns c =
+    let c3 = c .before .before .before in
+    c .yes-known .ensures ∙ ap yesKnown (c .before .byte-at3 .ensures)
+    ∙ sym (passes _ (known-by (c3 .before .before .byte-at .ensures) (c3 .before .byte-at2 .ensures) (c .before .before .before .kind-known .ensures)
+    (c .before .before .if1 .taken)))
 
 returns-2 : tie.Need-returns-2
 unfolding settingsKnown
-returns-2 c = sym (fails _ (known-by (c .before .before .before .byte-at .ensures) (c .before .before .byte-at2 .ensures) (c .before .kind-known .ensures) (c .if1 .left)))
+returns-2 c =
+    sym (fails _ (known-by (c .before .before .before .byte-at .ensures) (c .before .before .byte-at2 .ensures) (c .before .kind-known .ensures)
+    (c .if1 .left)))
 
 pub settings-known-spec : {M : Type 1} → statement M
 settings-known-spec =

@@ -55,17 +55,21 @@ capacity-at-requires c κs = search needs
 returns : tie.Need-returns
 unfolding settingsOf
 returns c =
-    let min = c .before .before .before .before .before .before .before .before .before .before .before .u8-as-i8 in
-    let max = c .before .before .before .before .before .before .before .before .before .u8-as-i82 in
-    let is-min = toZ-ofZ (record { sfits = min .ok }) ∙ min .ensures ∙ ap (signed (2 ^ 7)) (c .before .before .before .before .before .before .before .before .before .before .before .before .byte-at .ensures) in
-    let is-max = toZ-ofZ (record { sfits = max .ok }) ∙ max .ensures ∙ ap (signed (2 ^ 7)) (c .before .before .before .before .before .before .before .before .before .before .byte-at2 .ensures) in
-    let is-kind = c .before .before .before .kind-of .ensures ∙ (λ i. kindOf (c .before .before .before .before .before .byte-at4 .ensures i) (c .before .before .before .before .byte-at5 .ensures i)) in
+    let c3 = c .before .before .before in
+    let c6 = c3 .before .before .before in
+    let c9 = c6 .before .before .before in
+    let c12 = c9 .before .before .before in
+    let min = c9 .before .before .u8-as-i8 in
+    let max = c9 .u8-as-i82 in
+    let is-min = toZ-ofZ (record { sfits = min .ok }) ∙ min .ensures ∙ ap (signed (2 ^ 7)) (c12 .byte-at .ensures) in
+    let is-max = toZ-ofZ (record { sfits = max .ok }) ∙ max .ensures ∙ ap (signed (2 ^ 7)) (c9 .before .byte-at2 .ensures) in
+    let is-kind = c .before .before .before .kind-of .ensures ∙ (λ i. kindOf (c3 .before .before .byte-at4 .ensures i) (c3 .before .byte-at5 .ensures i)) in
     λ i. record {
       min = interval (is-min i);
       max = interval (is-max i);
-      startup = c .before .before .before .before .before .before .before .before .byte-at3 .ensures i;
-      window = c .before .before .before .before .before .before .before .be64-at .ensures i;
-      upgrademark = c .before .before .before .before .before .before .be64-at2 .ensures i;
+      startup = c6 .before .before .byte-at3 .ensures i;
+      window = c6 .before .be64-at .ensures i;
+      upgrademark = c6 .be64-at2 .ensures i;
       start = version (is-kind i);
       nts = yesOf (c .before .before .byte-at6 .ensures i);
       source = named (c .before .be32-at .ensures i);

@@ -18,7 +18,8 @@ byte-at-requires-2 c κs = search needs
 
 returns : tie.Need-returns
 unfolding sourceOf
-returns c = λ i. record { stratum = c .before .before .byte-at .ensures i; refid = named (c .before .be32-at .ensures i); denial = yesOf (c .byte-at2 .ensures i) }
+returns c =
+    λ i. record { stratum = c .before .before .byte-at .ensures i; refid = named (c .before .be32-at .ensures i); denial = yesOf (c .byte-at2 .ensures i) }
 
 pub source-of-spec : {M : Type 1} → statement M
 source-of-spec = tie.close (tie.spec byte-at-requires be32-at-requires byte-at-requires-2 returns)

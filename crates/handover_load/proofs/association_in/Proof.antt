@@ -23,7 +23,12 @@ refused-requires : tie.Need-refused-requires
 refused-requires c κs = search needs
 
 returns : tie.Need-returns
-returns c = c .refused .ensures ∙ sym (by-settings (c .before .before .before .before .before .before .before .before .before .args .settings .now) (c .before .before .before .before .before .before .before .before .before .args .stash .now) (c .before .before .before .before .before .before .before .before .before .args .effort .now) (c .before .before .before .before .before .before .before .before .before .args .version .now) (c .before .before .before .before .before .before .before .before .before .args .polls .now) (c .before .before .before .before .before .before .before .before .before .args .source .now) (sym (c .before .before .settings-known .ensures) ∙ not-true _ (c .before .if1 .taken)))
+returns c =
+    let c3 = c .before .before .before in
+    let c6 = c3 .before .before .before in
+    let c9 = c6 .before .before .before in
+    c .refused .ensures ∙ sym (by-settings (c9 .args .settings .now) (c9 .args .stash .now) (c9 .args .effort .now) (c9 .args .version .now)
+    (c9 .args .polls .now) (c9 .args .source .now) (sym (c .before .before .settings-known .ensures) ∙ not-true _ (c .before .if1 .taken)))
 
 settings-of-requires : tie.Need-settings-of-requires
 settings-of-requires c κs = search needs
@@ -36,8 +41,14 @@ refused-requires-2 c κs = search needs
 
 returns-2 : tie.Need-returns-2
 returns-2 c =
-    let e = stashed (c .before .before .before .before .before .before .before .before .before .before .before .before .before .args .stash .now) (c .before .before .before .stash-in .ensures) (c .before .before .before .before .settings-of .ensures) in
-    c .refused2 .ensures ∙ sym (by-stash (c .before .before .before .before .before .before .before .before .before .before .before .before .before .args .settings .now) (c .before .before .before .before .before .before .before .before .before .before .before .before .before .args .stash .now) (c .before .before .before .before .before .before .before .before .before .before .before .before .before .args .effort .now) (c .before .before .before .before .before .before .before .before .before .before .before .before .before .args .version .now) (c .before .before .before .before .before .before .before .before .before .before .before .before .before .args .polls .now) (c .before .before .before .before .before .before .before .before .before .before .before .before .before .args .source .now) (sym (c .before .before .before .before .before .before .settings-known .ensures) ∙ not-false _ (c .before .before .before .before .before .if1 .left)) (known-by _ _ _ e (not-true _ (c .before .if2 .taken))))
+    let c3 = c .before .before .before in
+    let c6 = c3 .before .before .before in
+    let c9 = c6 .before .before .before in
+    let c12 = c9 .before .before .before in
+    let e = stashed (c12 .before .args .stash .now) (c .before .before .before .stash-in .ensures) (c3 .before .settings-of .ensures) in
+    c .refused2 .ensures ∙ sym (by-stash (c12 .before .args .settings .now) (c12 .before .args .stash .now) (c12 .before .args .effort .now)
+    (c12 .before .args .version .now) (c12 .before .args .polls .now) (c12 .before .args .source .now)
+    (sym (c6 .settings-known .ensures) ∙ not-false _ (c3 .before .before .if1 .left)) (known-by _ _ _ e (not-true _ (c .before .if2 .taken))))
 
 version-known-requires : tie.Need-version-known-requires
 version-known-requires c κs = search needs
@@ -47,8 +58,16 @@ refused-requires-3 c κs = search needs
 
 returns-3 : tie.Need-returns-3
 returns-3 c =
-    let e = stashed (c .before .before .before .before .before .before .before .before .before .before .before .before .before .before .before .args .stash .now) (c .before .before .before .before .before .stash-in .ensures) (c .before .before .before .before .before .before .settings-of .ensures) in
-    c .refused3 .ensures ∙ sym (by-version (c .before .before .before .before .before .before .before .before .before .before .before .before .before .before .before .args .settings .now) (c .before .before .before .before .before .before .before .before .before .before .before .before .before .before .before .args .stash .now) (c .before .before .before .before .before .before .before .before .before .before .before .before .before .before .before .args .effort .now) (c .before .before .before .before .before .before .before .before .before .before .before .before .before .before .before .args .version .now) (c .before .before .before .before .before .before .before .before .before .before .before .before .before .before .before .args .polls .now) (c .before .before .before .before .before .before .before .before .before .before .before .before .before .before .before .args .source .now) (sym (c .before .before .before .before .before .before .before .before .settings-known .ensures) ∙ not-false _ (c .before .before .before .before .before .before .before .if1 .left)) (known-by _ _ _ e (not-false _ (c .before .before .before .if2 .left))) (sym (c .before .before .version-known .ensures) ∙ not-true _ (c .before .if3 .taken)))
+    let c3 = c .before .before .before in
+    let c6 = c3 .before .before .before in
+    let c9 = c6 .before .before .before in
+    let c12 = c9 .before .before .before in
+    let c15 = c12 .before .before .before in
+    let e = stashed (c15 .args .stash .now) (c3 .before .before .stash-in .ensures) (c6 .settings-of .ensures) in
+    c .refused3 .ensures ∙ sym (by-version (c15 .args .settings .now) (c15 .args .stash .now) (c15 .args .effort .now) (c15 .args .version .now)
+    (c15 .args .polls .now) (c15 .args .source .now) (sym (c6 .before .before .settings-known .ensures) ∙ not-false _ (c6 .before .if1 .left))
+    (known-by _ _ _ e (not-false _ (c .before .before .before .if2 .left)))
+    (sym (c .before .before .version-known .ensures) ∙ not-true _ (c .before .if3 .taken)))
 
 source-known-requires : tie.Need-source-known-requires
 source-known-requires c κs = search needs
@@ -58,8 +77,18 @@ refused-requires-4 c κs = search needs
 
 returns-4 : tie.Need-returns-4
 returns-4 c =
-    let e = stashed (c .before .before .before .before .before .before .before .before .before .before .before .before .before .before .before .before .before .args .stash .now) (c .before .before .before .before .before .before .before .stash-in .ensures) (c .before .before .before .before .before .before .before .before .settings-of .ensures) in
-    c .refused4 .ensures ∙ sym (by-source (c .before .before .before .before .before .before .before .before .before .before .before .before .before .before .before .before .before .args .settings .now) (c .before .before .before .before .before .before .before .before .before .before .before .before .before .before .before .before .before .args .stash .now) (c .before .before .before .before .before .before .before .before .before .before .before .before .before .before .before .before .before .args .effort .now) (c .before .before .before .before .before .before .before .before .before .before .before .before .before .before .before .before .before .args .version .now) (c .before .before .before .before .before .before .before .before .before .before .before .before .before .before .before .before .before .args .polls .now) (c .before .before .before .before .before .before .before .before .before .before .before .before .before .before .before .before .before .args .source .now) (sym (c .before .before .before .before .before .before .before .before .before .before .settings-known .ensures) ∙ not-false _ (c .before .before .before .before .before .before .before .before .before .if1 .left)) (known-by _ _ _ e (not-false _ (c .before .before .before .before .before .if2 .left))) (sym (c .before .before .before .before .version-known .ensures) ∙ not-false _ (c .before .before .before .if3 .left)) (sym (c .before .before .source-known .ensures) ∙ not-true _ (c .before .if4 .taken)))
+    let c3 = c .before .before .before in
+    let c6 = c3 .before .before .before in
+    let c9 = c6 .before .before .before in
+    let c12 = c9 .before .before .before in
+    let c15 = c12 .before .before .before in
+    let e = stashed (c15 .before .before .args .stash .now) (c6 .before .stash-in .ensures) (c6 .before .before .settings-of .ensures) in
+    c .refused4 .ensures ∙ sym (by-source (c15 .before .before .args .settings .now) (c15 .before .before .args .stash .now)
+    (c15 .before .before .args .effort .now) (c15 .before .before .args .version .now) (c15 .before .before .args .polls .now)
+    (c15 .before .before .args .source .now) (sym (c9 .before .settings-known .ensures) ∙ not-false _ (c9 .if1 .left))
+    (known-by _ _ _ e (not-false _ (c3 .before .before .if2 .left)))
+    (sym (c3 .before .version-known .ensures) ∙ not-false _ (c .before .before .before .if3 .left))
+    (sym (c .before .before .source-known .ensures) ∙ not-true _ (c .before .if4 .taken)))
 
 state-in-requires : tie.Need-state-in-requires
 state-in-requires c κs = search needs
@@ -69,10 +98,19 @@ loaded-as-requires c κs = search needs
 
 returns-5 : tie.Need-returns-5
 returns-5 c =
-    let e = stashed (c .before .before .before .before .before .before .before .before .before .before .before .before .before .before .before .before .before .before .before .args .stash .now) (c .before .before .before .before .before .before .before .before .before .stash-in .ensures) (c .before .before .before .before .before .before .before .before .before .before .settings-of .ensures) in
+    let c3 = c .before .before .before in
+    let c6 = c3 .before .before .before in
+    let c9 = c6 .before .before .before in
+    let c12 = c9 .before .before .before in
+    let c15 = c12 .before .before .before in
+    let c18 = c15 .before .before .before in
+    let e = stashed (c18 .before .args .stash .now) (c9 .stash-in .ensures) (c9 .before .settings-of .ensures) in
     c .loaded-as .ensures
-    ∙ is-loaded (c .before .before .before .before .before .before .before .before .before .before .before .before .before .before .before .before .before .before .before .args .settings .now) (c .before .before .before .before .before .before .before .before .before .before .before .before .before .before .before .before .before .before .before .args .stash .now) (c .before .before .before .before .before .before .before .before .before .before .before .before .before .before .before .before .before .before .before .args .effort .now) (c .before .before .before .before .before .before .before .before .before .before .before .before .before .before .before .before .before .before .before .args .version .now) (c .before .before .before .before .before .before .before .before .before .before .before .before .before .before .before .before .before .before .before .args .polls .now) (c .before .before .before .before .before .before .before .before .before .before .before .before .before .before .before .before .before .before .before .args .source .now) (sym (c .before .before .before .before .before .before .before .before .before .before .before .before .settings-known .ensures) ∙ not-false _ (c .before .before .before .before .before .before .before .before .before .before .before .if1 .left)) (known-by _ _ _ e (not-false _ (c .before .before .before .before .before .before .before .if2 .left))) (sym (c .before .before .before .before .before .before .version-known .ensures) ∙ not-false _ (c .before .before .before .before .before .if3 .left)) (sym (c .before .before .before .before .source-known .ensures) ∙ not-false _ (c .before .before .before .if4 .left))
-    (c .before .before .before .before .before .before .before .before .before .before .settings-of .ensures) (kept-by _ _ _ e (known-by _ _ _ e (not-false _ (c .before .before .before .before .before .before .before .if2 .left)))) (c .before .state-in .ensures)
+    ∙ is-loaded (c18 .before .args .settings .now) (c18 .before .args .stash .now) (c18 .before .args .effort .now) (c18 .before .args .version .now)
+    (c18 .before .args .polls .now) (c18 .before .args .source .now) (sym (c12 .settings-known .ensures) ∙ not-false _ (c9 .before .before .if1 .left))
+    (known-by _ _ _ e (not-false _ (c6 .before .if2 .left))) (sym (c6 .version-known .ensures) ∙ not-false _ (c3 .before .before .if3 .left))
+    (sym (c3 .before .source-known .ensures) ∙ not-false _ (c .before .before .before .if4 .left))
+    (c9 .before .settings-of .ensures) (kept-by _ _ _ e (known-by _ _ _ e (not-false _ (c6 .before .if2 .left)))) (c .before .state-in .ensures)
 
 pub association-in-spec : {M : Type 1} → statement M
 association-in-spec =

@@ -24,14 +24,23 @@ mul-t9 : tie.Need-mul-t9
 mul-t9 c = let s = c .before .before .before .args .t1 in omega (arith, wrap-lt (c .before .before .before .args .capacity) (s .read + s .held) (omega arith))
 
 element-set-from-s : tie.Need-element-set-from-s
-element-set-from-s c = let s = c .before .before .before .args .t1 in omega (arith, wrap-lt (c .before .before .before .args .capacity) (s .read + s .held) (omega arith))
+element-set-from-s c =
+    let s = c .before .before .before .args .t1 in omega (arith, wrap-lt (c .before .before .before .args .capacity) (s .read + s .held) (omega arith))
 
 add-s : tie.Need-add-s
 add-s c = search needs
 
 returns : tie.Need-returns
 unfolding putOf full slotFor
-returns c = let a = c .before .before .before .args in simp (c .wrapped .ensures, c .before .kept-bytes .ensures, kept-is (a .len) (a .bytes .now) (c .before .before .before .pre .2), lt-leb _ _ (c .before .before .before .pre .1))
+returns c =
+    let a = c .before .before .before .args in
+    simp (
+      c .wrapped .ensures,
+      c .before .kept-bytes .ensures,
+      kept-is (a .len) (a .bytes .now) (c .before .before .before .pre .2),
+      lt-leb _ _
+          (c .before .before .before .pre .1),
+    )
 
 pub laid-spec : {M : Type 1} → statement M
 laid-spec =

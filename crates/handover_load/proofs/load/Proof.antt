@@ -27,96 +27,221 @@ cast-k : tie.Need-cast-k
 cast-k c = search needs
 
 sub-end : tie.Need-sub-end
-sub-end c = let f = c .before .before .before .before .before .args .file .now in let s = six f (sym (c .before .before .before .cut .ensures) ∙ c .before .enum-told .given .1) in let k = said f _ (c .be16-at .ensures) in omega (arith, s .long, k)
+sub-end c =
+    let c3 = c .before .before .before in
+    let f = c3 .before .before .args .file .now in let s = six f (sym (c .before .before .before .cut .ensures) ∙ c .before .enum-told .given .1) in
+    let k = said f _ (c .be16-at .ensures) in omega (arith, s .long, k)
 
 add-association-in : tie.Need-add-association-in
-add-association-in c = let f = c .before .before .before .before .before .args .file .now in let s = six f (sym (c .before .before .before .cut .ensures) ∙ c .before .enum-told .given .1) in let k = said f _ (c .be16-at .ensures) in omega (arith, s .long, k)
+add-association-in c =
+    let c3 = c .before .before .before in
+    let f = c3 .before .before .args .file .now in let s = six f (sym (c .before .before .before .cut .ensures) ∙ c .before .enum-told .given .1) in
+    let k = said f _ (c .be16-at .ensures) in omega (arith, s .long, k)
 
 sub-association-in : tie.Need-sub-association-in
-sub-association-in c = let f = c .before .before .before .before .before .args .file .now in let s = six f (sym (c .before .before .before .cut .ensures) ∙ c .before .enum-told .given .1) in let k = said f _ (c .be16-at .ensures) in omega (arith, s .long, k)
+sub-association-in c =
+    let c3 = c .before .before .before in
+    let f = c3 .before .before .args .file .now in let s = six f (sym (c .before .before .before .cut .ensures) ∙ c .before .enum-told .given .1) in
+    let k = said f _ (c .be16-at .ensures) in omega (arith, s .long, k)
 
 part-association-in-start : tie.Need-part-association-in-start
-part-association-in-start c = let f = c .before .before .before .before .before .args .file .now in let s = six f (sym (c .before .before .before .cut .ensures) ∙ c .before .enum-told .given .1) in let k = said f _ (c .be16-at .ensures) in omega (arith, s .long, k)
+part-association-in-start c =
+    let c3 = c .before .before .before in
+    let f = c3 .before .before .args .file .now in let s = six f (sym (c .before .before .before .cut .ensures) ∙ c .before .enum-told .given .1) in
+    let k = said f _ (c .be16-at .ensures) in omega (arith, s .long, k)
 
 part-association-in-end : tie.Need-part-association-in-end
-part-association-in-end c = let f = c .before .before .before .before .before .args .file .now in let s = six f (sym (c .before .before .before .cut .ensures) ∙ c .before .enum-told .given .1) in let k = said f _ (c .be16-at .ensures) in omega (arith, s .long, k)
+part-association-in-end c =
+    let c3 = c .before .before .before in
+    let f = c3 .before .before .args .file .now in let s = six f (sym (c .before .before .before .cut .ensures) ∙ c .before .enum-told .given .1) in
+    let k = said f _ (c .be16-at .ensures) in omega (arith, s .long, k)
 
 add-association-in-2 : tie.Need-add-association-in-2
-add-association-in-2 c = let f = c .before .before .before .before .before .before .args .file .now in let s = six f (sym (c .before .before .before .before .cut .ensures) ∙ c .before .before .enum-told .given .1) in let k = said f _ (c .before .be16-at .ensures) in omega (arith, s .long, k)
+add-association-in-2 c =
+    let c3 = c .before .before .before in
+    let c6 = c3 .before .before .before in
+    let f = c6 .args .file .now in let s = six f (sym (c3 .before .cut .ensures) ∙ c .before .before .enum-told .given .1) in
+    let k = said f _ (c .before .be16-at .ensures) in omega (arith, s .long, k)
 
 sub-association-in-2 : tie.Need-sub-association-in-2
-sub-association-in-2 c = let f = c .before .before .before .before .before .before .args .file .now in let s = six f (sym (c .before .before .before .before .cut .ensures) ∙ c .before .before .enum-told .given .1) in let k = said f _ (c .before .be16-at .ensures) in omega (arith, s .long, k)
+sub-association-in-2 c =
+    let c3 = c .before .before .before in
+    let c6 = c3 .before .before .before in
+    let f = c6 .args .file .now in let s = six f (sym (c3 .before .cut .ensures) ∙ c .before .before .enum-told .given .1) in
+    let k = said f _ (c .before .be16-at .ensures) in omega (arith, s .long, k)
 
 part-association-in-start-2 : tie.Need-part-association-in-start-2
-part-association-in-start-2 c = let f = c .before .before .before .before .before .before .args .file .now in let s = six f (sym (c .before .before .before .before .cut .ensures) ∙ c .before .before .enum-told .given .1) in let k = said f _ (c .before .be16-at .ensures) in omega (arith, s .long, k)
+part-association-in-start-2 c =
+    let c3 = c .before .before .before in
+    let c6 = c3 .before .before .before in
+    let f = c6 .args .file .now in let s = six f (sym (c3 .before .cut .ensures) ∙ c .before .before .enum-told .given .1) in
+    let k = said f _ (c .before .be16-at .ensures) in omega (arith, s .long, k)
 
 part-association-in-end-2 : tie.Need-part-association-in-end-2
-part-association-in-end-2 c = let f = c .before .before .before .before .before .before .args .file .now in let s = six f (sym (c .before .before .before .before .cut .ensures) ∙ c .before .before .enum-told .given .1) in let k = said f _ (c .before .be16-at .ensures) in omega (arith, s .long, k)
+part-association-in-end-2 c =
+    let c3 = c .before .before .before in
+    let c6 = c3 .before .before .before in
+    let f = c6 .args .file .now in let s = six f (sym (c3 .before .cut .ensures) ∙ c .before .before .enum-told .given .1) in
+    let k = said f _ (c .before .be16-at .ensures) in omega (arith, s .long, k)
 
 add-association-in-3 : tie.Need-add-association-in-3
-add-association-in-3 c = let f = c .before .before .before .before .before .before .before .args .file .now in let s = six f (sym (c .before .before .before .before .before .cut .ensures) ∙ c .before .before .before .enum-told .given .1) in let k = said f _ (c .before .before .be16-at .ensures) in omega (arith, s .long, k)
+add-association-in-3 c =
+    let c3 = c .before .before .before in
+    let c6 = c3 .before .before .before in
+    let f = c6 .before .args .file .now in let s = six f (sym (c3 .before .before .cut .ensures) ∙ c .before .before .before .enum-told .given .1) in
+    let k = said f _ (c .before .before .be16-at .ensures) in omega (arith, s .long, k)
 
 add-association-in-4 : tie.Need-add-association-in-4
-add-association-in-4 c = let f = c .before .before .before .before .before .before .before .args .file .now in let s = six f (sym (c .before .before .before .before .before .cut .ensures) ∙ c .before .before .before .enum-told .given .1) in let k = said f _ (c .before .before .be16-at .ensures) in omega (arith, s .long, k)
+add-association-in-4 c =
+    let c3 = c .before .before .before in
+    let c6 = c3 .before .before .before in
+    let f = c6 .before .args .file .now in let s = six f (sym (c3 .before .before .cut .ensures) ∙ c .before .before .before .enum-told .given .1) in
+    let k = said f _ (c .before .before .be16-at .ensures) in omega (arith, s .long, k)
 
 sub-association-in-3 : tie.Need-sub-association-in-3
-sub-association-in-3 c = let f = c .before .before .before .before .before .before .before .args .file .now in let s = six f (sym (c .before .before .before .before .before .cut .ensures) ∙ c .before .before .before .enum-told .given .1) in let k = said f _ (c .before .before .be16-at .ensures) in omega (arith, s .long, k)
+sub-association-in-3 c =
+    let c3 = c .before .before .before in
+    let c6 = c3 .before .before .before in
+    let f = c6 .before .args .file .now in let s = six f (sym (c3 .before .before .cut .ensures) ∙ c .before .before .before .enum-told .given .1) in
+    let k = said f _ (c .before .before .be16-at .ensures) in omega (arith, s .long, k)
 
 part-association-in-start-3 : tie.Need-part-association-in-start-3
-part-association-in-start-3 c = let f = c .before .before .before .before .before .before .before .args .file .now in let s = six f (sym (c .before .before .before .before .before .cut .ensures) ∙ c .before .before .before .enum-told .given .1) in let k = said f _ (c .before .before .be16-at .ensures) in omega (arith, s .long, k)
+part-association-in-start-3 c =
+    let c3 = c .before .before .before in
+    let c6 = c3 .before .before .before in
+    let f = c6 .before .args .file .now in let s = six f (sym (c3 .before .before .cut .ensures) ∙ c .before .before .before .enum-told .given .1) in
+    let k = said f _ (c .before .before .be16-at .ensures) in omega (arith, s .long, k)
 
 part-association-in-end-3 : tie.Need-part-association-in-end-3
-part-association-in-end-3 c = let f = c .before .before .before .before .before .before .before .args .file .now in let s = six f (sym (c .before .before .before .before .before .cut .ensures) ∙ c .before .before .before .enum-told .given .1) in let k = said f _ (c .before .before .be16-at .ensures) in omega (arith, s .long, k)
+part-association-in-end-3 c =
+    let c3 = c .before .before .before in
+    let c6 = c3 .before .before .before in
+    let f = c6 .before .args .file .now in let s = six f (sym (c3 .before .before .cut .ensures) ∙ c .before .before .before .enum-told .given .1) in
+    let k = said f _ (c .before .before .be16-at .ensures) in omega (arith, s .long, k)
 
 add-association-in-5 : tie.Need-add-association-in-5
-add-association-in-5 c = let f = c .before .before .before .before .before .before .before .before .args .file .now in let s = six f (sym (c .before .before .before .before .before .before .cut .ensures) ∙ c .before .before .before .before .enum-told .given .1) in let k = said f _ (c .before .before .before .be16-at .ensures) in omega (arith, s .long, k)
+add-association-in-5 c =
+    let c3 = c .before .before .before in
+    let c6 = c3 .before .before .before in
+    let f = c6 .before .before .args .file .now in let s = six f (sym (c6 .cut .ensures) ∙ c3 .before .enum-told .given .1) in
+    let k = said f _ (c .before .before .before .be16-at .ensures) in omega (arith, s .long, k)
 
 add-association-in-6 : tie.Need-add-association-in-6
-add-association-in-6 c = let f = c .before .before .before .before .before .before .before .before .args .file .now in let s = six f (sym (c .before .before .before .before .before .before .cut .ensures) ∙ c .before .before .before .before .enum-told .given .1) in let k = said f _ (c .before .before .before .be16-at .ensures) in omega (arith, s .long, k)
+add-association-in-6 c =
+    let c3 = c .before .before .before in
+    let c6 = c3 .before .before .before in
+    let f = c6 .before .before .args .file .now in let s = six f (sym (c6 .cut .ensures) ∙ c3 .before .enum-told .given .1) in
+    let k = said f _ (c .before .before .before .be16-at .ensures) in omega (arith, s .long, k)
 
 sub-association-in-4 : tie.Need-sub-association-in-4
-sub-association-in-4 c = let f = c .before .before .before .before .before .before .before .before .args .file .now in let s = six f (sym (c .before .before .before .before .before .before .cut .ensures) ∙ c .before .before .before .before .enum-told .given .1) in let k = said f _ (c .before .before .before .be16-at .ensures) in omega (arith, s .long, k)
+sub-association-in-4 c =
+    let c3 = c .before .before .before in
+    let c6 = c3 .before .before .before in
+    let f = c6 .before .before .args .file .now in let s = six f (sym (c6 .cut .ensures) ∙ c3 .before .enum-told .given .1) in
+    let k = said f _ (c .before .before .before .be16-at .ensures) in omega (arith, s .long, k)
 
 part-association-in-start-4 : tie.Need-part-association-in-start-4
-part-association-in-start-4 c = let f = c .before .before .before .before .before .before .before .before .args .file .now in let s = six f (sym (c .before .before .before .before .before .before .cut .ensures) ∙ c .before .before .before .before .enum-told .given .1) in let k = said f _ (c .before .before .before .be16-at .ensures) in omega (arith, s .long, k)
+part-association-in-start-4 c =
+    let c3 = c .before .before .before in
+    let c6 = c3 .before .before .before in
+    let f = c6 .before .before .args .file .now in let s = six f (sym (c6 .cut .ensures) ∙ c3 .before .enum-told .given .1) in
+    let k = said f _ (c .before .before .before .be16-at .ensures) in omega (arith, s .long, k)
 
 part-association-in-end-4 : tie.Need-part-association-in-end-4
-part-association-in-end-4 c = let f = c .before .before .before .before .before .before .before .before .args .file .now in let s = six f (sym (c .before .before .before .before .before .before .cut .ensures) ∙ c .before .before .before .before .enum-told .given .1) in let k = said f _ (c .before .before .before .be16-at .ensures) in omega (arith, s .long, k)
+part-association-in-end-4 c =
+    let c3 = c .before .before .before in
+    let c6 = c3 .before .before .before in
+    let f = c6 .before .before .args .file .now in let s = six f (sym (c6 .cut .ensures) ∙ c3 .before .enum-told .given .1) in
+    let k = said f _ (c .before .before .before .be16-at .ensures) in omega (arith, s .long, k)
 
 add-association-in-7 : tie.Need-add-association-in-7
-add-association-in-7 c = let f = c .before .before .before .before .before .before .before .before .before .args .file .now in let s = six f (sym (c .before .before .before .before .before .before .before .cut .ensures) ∙ c .before .before .before .before .before .enum-told .given .1) in let k = said f _ (c .before .before .before .before .be16-at .ensures) in omega (arith, s .long, k)
+add-association-in-7 c =
+    let c3 = c .before .before .before in
+    let c6 = c3 .before .before .before in
+    let c9 = c6 .before .before .before in
+    let f = c9 .args .file .now in let s = six f (sym (c6 .before .cut .ensures) ∙ c3 .before .before .enum-told .given .1) in
+    let k = said f _ (c3 .before .be16-at .ensures) in omega (arith, s .long, k)
 
 add-association-in-8 : tie.Need-add-association-in-8
-add-association-in-8 c = let f = c .before .before .before .before .before .before .before .before .before .args .file .now in let s = six f (sym (c .before .before .before .before .before .before .before .cut .ensures) ∙ c .before .before .before .before .before .enum-told .given .1) in let k = said f _ (c .before .before .before .before .be16-at .ensures) in omega (arith, s .long, k)
+add-association-in-8 c =
+    let c3 = c .before .before .before in
+    let c6 = c3 .before .before .before in
+    let c9 = c6 .before .before .before in
+    let f = c9 .args .file .now in let s = six f (sym (c6 .before .cut .ensures) ∙ c3 .before .before .enum-told .given .1) in
+    let k = said f _ (c3 .before .be16-at .ensures) in omega (arith, s .long, k)
 
 sub-association-in-5 : tie.Need-sub-association-in-5
-sub-association-in-5 c = let f = c .before .before .before .before .before .before .before .before .before .args .file .now in let s = six f (sym (c .before .before .before .before .before .before .before .cut .ensures) ∙ c .before .before .before .before .before .enum-told .given .1) in let k = said f _ (c .before .before .before .before .be16-at .ensures) in omega (arith, s .long, k)
+sub-association-in-5 c =
+    let c3 = c .before .before .before in
+    let c6 = c3 .before .before .before in
+    let c9 = c6 .before .before .before in
+    let f = c9 .args .file .now in let s = six f (sym (c6 .before .cut .ensures) ∙ c3 .before .before .enum-told .given .1) in
+    let k = said f _ (c3 .before .be16-at .ensures) in omega (arith, s .long, k)
 
 part-association-in-start-5 : tie.Need-part-association-in-start-5
-part-association-in-start-5 c = let f = c .before .before .before .before .before .before .before .before .before .args .file .now in let s = six f (sym (c .before .before .before .before .before .before .before .cut .ensures) ∙ c .before .before .before .before .before .enum-told .given .1) in let k = said f _ (c .before .before .before .before .be16-at .ensures) in omega (arith, s .long, k)
+part-association-in-start-5 c =
+    let c3 = c .before .before .before in
+    let c6 = c3 .before .before .before in
+    let c9 = c6 .before .before .before in
+    let f = c9 .args .file .now in let s = six f (sym (c6 .before .cut .ensures) ∙ c3 .before .before .enum-told .given .1) in
+    let k = said f _ (c3 .before .be16-at .ensures) in omega (arith, s .long, k)
 
 part-association-in-end-5 : tie.Need-part-association-in-end-5
-part-association-in-end-5 c = let f = c .before .before .before .before .before .before .before .before .before .args .file .now in let s = six f (sym (c .before .before .before .before .before .before .before .cut .ensures) ∙ c .before .before .before .before .before .enum-told .given .1) in let k = said f _ (c .before .before .before .before .be16-at .ensures) in omega (arith, s .long, k)
+part-association-in-end-5 c =
+    let c3 = c .before .before .before in
+    let c6 = c3 .before .before .before in
+    let c9 = c6 .before .before .before in
+    let f = c9 .args .file .now in let s = six f (sym (c6 .before .cut .ensures) ∙ c3 .before .before .enum-told .given .1) in
+    let k = said f _ (c3 .before .be16-at .ensures) in omega (arith, s .long, k)
 
 add-association-in-9 : tie.Need-add-association-in-9
-add-association-in-9 c = let f = c .before .before .before .before .before .before .before .before .before .before .args .file .now in let s = six f (sym (c .before .before .before .before .before .before .before .before .cut .ensures) ∙ c .before .before .before .before .before .before .enum-told .given .1) in let k = said f _ (c .before .before .before .before .before .be16-at .ensures) in omega (arith, s .long, k)
+add-association-in-9 c =
+    let c3 = c .before .before .before in
+    let c6 = c3 .before .before .before in
+    let c9 = c6 .before .before .before in
+    let f = c9 .before .args .file .now in let s = six f (sym (c6 .before .before .cut .ensures) ∙ c6 .enum-told .given .1) in
+    let k = said f _ (c3 .before .before .be16-at .ensures) in omega (arith, s .long, k)
 
 add-association-in-10 : tie.Need-add-association-in-10
-add-association-in-10 c = let f = c .before .before .before .before .before .before .before .before .before .before .args .file .now in let s = six f (sym (c .before .before .before .before .before .before .before .before .cut .ensures) ∙ c .before .before .before .before .before .before .enum-told .given .1) in let k = said f _ (c .before .before .before .before .before .be16-at .ensures) in omega (arith, s .long, k)
+add-association-in-10 c =
+    let c3 = c .before .before .before in
+    let c6 = c3 .before .before .before in
+    let c9 = c6 .before .before .before in
+    let f = c9 .before .args .file .now in let s = six f (sym (c6 .before .before .cut .ensures) ∙ c6 .enum-told .given .1) in
+    let k = said f _ (c3 .before .before .be16-at .ensures) in omega (arith, s .long, k)
 
 sub-association-in-6 : tie.Need-sub-association-in-6
-sub-association-in-6 c = let f = c .before .before .before .before .before .before .before .before .before .before .args .file .now in let s = six f (sym (c .before .before .before .before .before .before .before .before .cut .ensures) ∙ c .before .before .before .before .before .before .enum-told .given .1) in let k = said f _ (c .before .before .before .before .before .be16-at .ensures) in omega (arith, s .long, k)
+sub-association-in-6 c =
+    let c3 = c .before .before .before in
+    let c6 = c3 .before .before .before in
+    let c9 = c6 .before .before .before in
+    let f = c9 .before .args .file .now in let s = six f (sym (c6 .before .before .cut .ensures) ∙ c6 .enum-told .given .1) in
+    let k = said f _ (c3 .before .before .be16-at .ensures) in omega (arith, s .long, k)
 
 part-association-in-start-6 : tie.Need-part-association-in-start-6
-part-association-in-start-6 c = let f = c .before .before .before .before .before .before .before .before .before .before .args .file .now in let s = six f (sym (c .before .before .before .before .before .before .before .before .cut .ensures) ∙ c .before .before .before .before .before .before .enum-told .given .1) in let k = said f _ (c .before .before .before .before .before .be16-at .ensures) in omega (arith, s .long, k)
+part-association-in-start-6 c =
+    let c3 = c .before .before .before in
+    let c6 = c3 .before .before .before in
+    let c9 = c6 .before .before .before in
+    let f = c9 .before .args .file .now in let s = six f (sym (c6 .before .before .cut .ensures) ∙ c6 .enum-told .given .1) in
+    let k = said f _ (c3 .before .before .be16-at .ensures) in omega (arith, s .long, k)
 
 part-association-in-end-6 : tie.Need-part-association-in-end-6
-part-association-in-end-6 c = let f = c .before .before .before .before .before .before .before .before .before .before .args .file .now in let s = six f (sym (c .before .before .before .before .before .before .before .before .cut .ensures) ∙ c .before .before .before .before .before .before .enum-told .given .1) in let k = said f _ (c .before .before .before .before .before .be16-at .ensures) in omega (arith, s .long, k)
+part-association-in-end-6 c =
+    let c3 = c .before .before .before in
+    let c6 = c3 .before .before .before in
+    let c9 = c6 .before .before .before in
+    let f = c9 .before .args .file .now in let s = six f (sym (c6 .before .before .cut .ensures) ∙ c6 .enum-told .given .1) in
+    let k = said f _ (c3 .before .before .be16-at .ensures) in omega (arith, s .long, k)
 
 association-in-requires : tie.Need-association-in-requires
 unfolding part
 association-in-requires c κs =
-    let f = c .before .before .before .before .before .before .before .before .before .before .before .args .file .now in let s = six f (sym (c .before .before .before .before .before .before .before .before .before .cut .ensures) ∙ c .before .before .before .before .before .before .before .enum-told .given .1) in let k = said f _ (c .before .before .before .before .before .before .be16-at .ensures) in
+    let c3 = c .before .before .before in
+    let c6 = c3 .before .before .before in
+    let c9 = c6 .before .before .before in
+    let f = c9 .before .before .args .file .now in let s = six f (sym (c9 .cut .ensures) ∙ c6 .before .enum-told .given .1) in
+    let k = said f _ (c6 .be16-at .ensures) in
     subst (λ (j : ℕ). stashFits (part f (8 + j) (length f - 28 - (8 + j))) ≡ true) (sym k) (s .stash)
 
 enum-told-2 : tie.Need-enum-told-2
@@ -134,14 +259,25 @@ refused-requires-2 c κs = search needs
 returns : tie.Need-returns
 unfolding part
 returns c =
-    let f = c .before .before .before .before .before .before .before .before .before .before .before .before .args .file .now in let s = six f (sym (c .before .before .before .before .before .before .before .before .before .before .cut .ensures) ∙ c .before .before .before .before .before .before .before .before .enum-told .given .1) in let k = said f _ (c .before .before .before .before .before .before .before .be16-at .ensures) in
-    c .association-in .ensures ∙ ap loadIn (slices f (c .before .before .before .before .before .before .before .be16-at .result) (length f - 28)) ∙ sym (loads f s _ k)
+    let c3 = c .before .before .before in
+    let c6 = c3 .before .before .before in
+    let c9 = c6 .before .before .before in
+    let c12 = c9 .before .before .before in
+    let f = c12 .args .file .now in let s = six f (sym (c9 .before .cut .ensures) ∙ c6 .before .before .enum-told .given .1) in
+    let k = said f _ (c6 .before .be16-at .ensures) in
+    c .association-in .ensures ∙ ap loadIn (slices f (c6 .before .be16-at .result) (length f - 28)) ∙ sym (loads f s _ k)
 
 returns-2 : tie.Need-returns-2
-returns-2 c = c .refused .ensures ∙ sym (wrong-mark (c .before .before .before .before .before .args .file .now) (sym (c .before .before .before .cut .ensures) ∙ c .before .enum-told2 .given .1))
+returns-2 c =
+    let c3 = c .before .before .before in
+    c .refused .ensures ∙ sym (wrong-mark (c3 .before .before .args .file .now)
+    (sym (c .before .before .before .cut .ensures) ∙ c .before .enum-told2 .given .1))
 
 returns-3 : tie.Need-returns-3
-returns-3 c = c .refused2 .ensures ∙ sym (wrong-length (c .before .before .before .before .before .args .file .now) (sym (c .before .before .before .cut .ensures) ∙ c .before .enum-told3 .given .1))
+returns-3 c =
+    let c3 = c .before .before .before in
+    c .refused2 .ensures ∙ sym (wrong-length (c3 .before .before .args .file .now)
+    (sym (c .before .before .before .cut .ensures) ∙ c .before .enum-told3 .given .1))
 
 pub load-spec : {M : Type 1} → statement M
 load-spec =

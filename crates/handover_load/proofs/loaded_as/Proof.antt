@@ -26,13 +26,15 @@ returns : tie.Need-returns
 returns c =
     let w = c .before .before in
     let m = w .before in
-    c .refused .ensures ∙ sym (by-whole _ _ _ (m .before .settled-settings .ensures) (m .settled-state .ensures) (sym (w .whole .ensures) ∙ not-true _ (c .before .if1 .taken)))
+    c .refused .ensures ∙ sym (by-whole _ _ _ (m .before .settled-settings .ensures) (m .settled-state .ensures)
+    (sym (w .whole .ensures) ∙ not-true _ (c .before .if1 .taken)))
 
 returns-2 : tie.Need-returns-2
 returns-2 c =
     let w = c .before in
     let m = w .before in
-    settled-loaded _ _ _ (m .before .settled-settings .ensures) (m .settled-state .ensures) (m .before .before .is-retired .ensures) (sym (w .whole .ensures) ∙ not-false _ (c .if1 .left))
+    settled-loaded _ _ _ (m .before .settled-settings .ensures) (m .settled-state .ensures) (m .before .before .is-retired .ensures)
+    (sym (w .whole .ensures) ∙ not-false _ (c .if1 .left))
 
 pub loaded-as-spec : {M : Type 1} → statement M
 loaded-as-spec = tie.close (tie.spec is-retired-requires settled-settings-requires settled-state-requires whole-requires refused-requires returns returns-2)

@@ -20,7 +20,16 @@ none-requires : tie.Need-none-requires
 none-requires c κs = search needs
 
 returns : tie.Need-returns
-returns c = λ i. record { effort = c .before .before .before .before .effort-of .ensures i; version = c .before .before .before .version-of .ensures i; polls = c .before .before .polls-of .ensures i; source = c .before .source-of .ensures i; request = c .none .ensures i }
+returns c =
+    let c3 = c .before .before .before in
+    λ i. record {
+      effort = c3 .before .effort-of .ensures i;
+      version = c .before .before .before .version-of .ensures i;
+      polls
+          = c .before .before .polls-of .ensures i;
+      source = c .before .source-of .ensures i;
+      request = c .none .ensures i;
+    }
 
 pub state-in-spec : {M : Type 1} → statement M
 state-in-spec =

@@ -24,13 +24,17 @@ enum-known-end : tie.Need-enum-known-end Inv-loop μ-loop
 enum-known-end c = search needs
 
 add-n : tie.Need-add-n Inv-loop μ-loop
-add-n c = let o = c .before .before .before .before .loop .inv in omega arith
+add-n c =
+    let c3 = c .before .before .before in
+    let o = c3 .before .loop .inv in omega arith
 
 loop-less : tie.Need-loop-less Inv-loop μ-loop
 loop-less c = let w = one-within _ _ _ _ _ (sym (c .before .before .before .held-at .ensures) ∙ c .before .end .given .1) in omega arith
 
 loop-again : tie.Need-loop-again Inv-loop μ-loop
-loop-again c = counts-one _ _ _ (c .before .before .before .before .loop .inv) _ _ _ (sym (c .before .before .before .held-at .ensures) ∙ c .before .end .given .1)
+loop-again c =
+    let c3 = c .before .before .before in
+    counts-one _ _ _ (c3 .before .loop .inv) _ _ _ (sym (c .before .before .before .held-at .ensures) ∙ c .before .end .given .1)
 
 enum-told : tie.Need-enum-told Inv-loop μ-loop
 enum-told c = search needs

@@ -20,12 +20,22 @@ settled-state-requires : tie.Need-settled-state-requires
 settled-state-requires c κs = search needs
 
 is-whole-requires : tie.Need-is-whole-requires
-is-whole-requires c κs = c .before .before .before .before .before .before .before .before .before .before .before .pre
+is-whole-requires c κs =
+    let c3 = c .before .before .before in
+    let c6 = c3 .before .before .before in
+    let c9 = c6 .before .before .before in
+    c9 .before .before .pre
 
 returns : tie.Need-returns
 returns c =
-    let a = c .before .before .before .before .before .before .before .before .before .before .before .before .args in
-    decides (a .se .now) (a .st .now) (a .re .now) (a .ve .now) (a .po .now) (a .so .now) (λ i. omega (arith, c .before .before .before .before .before .before .before .before .before .before .shared-slice-known2 .given i)) (c .before .before .before .before .before .before .before .before .before .before .before .before .pre) _ _ _ _ _ _ (c .before .before .before .before .before .settings-of .ensures) (c .before .before .before .before .state-in .ensures) (c .before .before .before .is-retired .ensures) (c .before .before .settled-settings .ensures) (c .before .settled-state .ensures) (c .is-whole .ensures)
+    let c3 = c .before .before .before in
+    let c6 = c3 .before .before .before in
+    let c9 = c6 .before .before .before in
+    let c12 = c9 .before .before .before in
+    let a = c12 .args in
+    decides (a .se .now) (a .st .now) (a .re .now) (a .ve .now) (a .po .now) (a .so .now) (λ i. omega (arith, c9 .before .shared-slice-known2 .given i))
+    (c12 .pre) _ _ _ _ _ _ (c3 .before .before .settings-of .ensures) (c3 .before .state-in .ensures) (c .before .before .before .is-retired .ensures)
+    (c .before .before .settled-settings .ensures) (c .before .settled-state .ensures) (c .is-whole .ensures)
 
 pub decide-spec : {M : Type 1} → statement M
 decide-spec =

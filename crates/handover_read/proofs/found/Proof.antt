@@ -11,10 +11,14 @@ refused-requires : tie.Need-refused-requires
 refused-requires c κs = search needs
 
 returns : tie.Need-returns
-returns c = c .refused .ensures ∙ none-found (c .before .before .before .args .d) (c .before .before .before .args .start) (c .before .before .before .args .end) (not-true _ (c .before .if1 .taken))
+returns c =
+    c .refused .ensures ∙ none-found (c .before .before .before .args .d) (c .before .before .before .args .start) (c .before .before .before .args .end)
+    (not-true _ (c .before .if1 .taken))
 
 returns-2 : tie.Need-returns-2
-returns-2 c = is-found (c .before .before .before .before .args .d) (c .before .before .before .before .args .start) (c .before .before .before .before .args .end) (not-false _ (c .before .before .if1 .left))
+returns-2 c =
+    let c3 = c .before .before .before in
+    is-found (c3 .before .args .d) (c3 .before .args .start) (c3 .before .args .end) (not-false _ (c .before .before .if1 .left))
 
 pub found-spec : {M : Type 1} → statement M
 found-spec = tie.close (tie.spec refused-requires returns returns-2)

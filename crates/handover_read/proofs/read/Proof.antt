@@ -30,7 +30,10 @@ add-start : tie.Need-add-start
 add-start c = search needs
 
 sub-end : tie.Need-sub-end
-sub-end c = let f = c .before .before .before .before .before .args .file .now in let s = six f (sym (c .before .before .before .cut .ensures) ∙ c .before .enum-told .given .1) in let k = said f _ (c .be16-at .ensures) in omega (arith, s .long, k)
+sub-end c =
+    let c3 = c .before .before .before in
+    let f = c3 .before .before .args .file .now in let s = six f (sym (c .before .before .before .cut .ensures) ∙ c .before .enum-told .given .1) in
+    let k = said f _ (c .be16-at .ensures) in omega (arith, s .long, k)
 
 add-decide : tie.Need-add-decide
 add-decide c = search needs
@@ -42,13 +45,24 @@ part-decide-start : tie.Need-part-decide-start
 part-decide-start c = search needs
 
 part-decide-end : tie.Need-part-decide-end
-part-decide-end c = let f = c .before .before .before .before .before .args .file .now in let s = six f (sym (c .before .before .before .cut .ensures) ∙ c .before .enum-told .given .1) in let k = said f _ (c .be16-at .ensures) in omega (arith, s .long, k)
+part-decide-end c =
+    let c3 = c .before .before .before in
+    let f = c3 .before .before .args .file .now in let s = six f (sym (c .before .before .before .cut .ensures) ∙ c .before .enum-told .given .1) in
+    let k = said f _ (c .be16-at .ensures) in omega (arith, s .long, k)
 
 sub-decide-2 : tie.Need-sub-decide-2
-sub-decide-2 c = let f = c .before .before .before .before .before .before .args .file .now in let s = six f (sym (c .before .before .before .before .cut .ensures) ∙ c .before .before .enum-told .given .1) in let k = said f _ (c .before .be16-at .ensures) in omega (arith, s .long, k)
+sub-decide-2 c =
+    let c3 = c .before .before .before in
+    let c6 = c3 .before .before .before in
+    let f = c6 .args .file .now in let s = six f (sym (c3 .before .cut .ensures) ∙ c .before .before .enum-told .given .1) in
+    let k = said f _ (c .before .be16-at .ensures) in omega (arith, s .long, k)
 
 part-decide-start-2 : tie.Need-part-decide-start-2
-part-decide-start-2 c = let f = c .before .before .before .before .before .before .args .file .now in let s = six f (sym (c .before .before .before .before .cut .ensures) ∙ c .before .before .enum-told .given .1) in let k = said f _ (c .before .be16-at .ensures) in omega (arith, s .long, k)
+part-decide-start-2 c =
+    let c3 = c .before .before .before in
+    let c6 = c3 .before .before .before in
+    let f = c6 .args .file .now in let s = six f (sym (c3 .before .cut .ensures) ∙ c .before .before .enum-told .given .1) in
+    let k = said f _ (c .before .be16-at .ensures) in omega (arith, s .long, k)
 
 part-decide-end-2 : tie.Need-part-decide-end-2
 part-decide-end-2 c = search needs
@@ -66,7 +80,11 @@ part-decide-start-3 : tie.Need-part-decide-start-3
 part-decide-start-3 c = search needs
 
 part-decide-end-3 : tie.Need-part-decide-end-3
-part-decide-end-3 c = let f = c .before .before .before .before .before .before .before .args .file .now in let s = six f (sym (c .before .before .before .before .before .cut .ensures) ∙ c .before .before .before .enum-told .given .1) in let k = said f _ (c .before .before .be16-at .ensures) in omega (arith, s .long, k)
+part-decide-end-3 c =
+    let c3 = c .before .before .before in
+    let c6 = c3 .before .before .before in
+    let f = c6 .before .args .file .now in let s = six f (sym (c3 .before .before .cut .ensures) ∙ c .before .before .before .enum-told .given .1) in
+    let k = said f _ (c .before .before .be16-at .ensures) in omega (arith, s .long, k)
 
 add-decide-4 : tie.Need-add-decide-4
 add-decide-4 c = search needs
@@ -81,7 +99,11 @@ part-decide-start-4 : tie.Need-part-decide-start-4
 part-decide-start-4 c = search needs
 
 part-decide-end-4 : tie.Need-part-decide-end-4
-part-decide-end-4 c = let f = c .before .before .before .before .before .before .before .before .args .file .now in let s = six f (sym (c .before .before .before .before .before .before .cut .ensures) ∙ c .before .before .before .before .enum-told .given .1) in let k = said f _ (c .before .before .before .be16-at .ensures) in omega (arith, s .long, k)
+part-decide-end-4 c =
+    let c3 = c .before .before .before in
+    let c6 = c3 .before .before .before in
+    let f = c6 .before .before .args .file .now in let s = six f (sym (c6 .cut .ensures) ∙ c3 .before .enum-told .given .1) in
+    let k = said f _ (c .before .before .before .be16-at .ensures) in omega (arith, s .long, k)
 
 add-decide-6 : tie.Need-add-decide-6
 add-decide-6 c = search needs
@@ -96,7 +118,12 @@ part-decide-start-5 : tie.Need-part-decide-start-5
 part-decide-start-5 c = search needs
 
 part-decide-end-5 : tie.Need-part-decide-end-5
-part-decide-end-5 c = let f = c .before .before .before .before .before .before .before .before .before .args .file .now in let s = six f (sym (c .before .before .before .before .before .before .before .cut .ensures) ∙ c .before .before .before .before .before .enum-told .given .1) in let k = said f _ (c .before .before .before .before .be16-at .ensures) in omega (arith, s .long, k)
+part-decide-end-5 c =
+    let c3 = c .before .before .before in
+    let c6 = c3 .before .before .before in
+    let c9 = c6 .before .before .before in
+    let f = c9 .args .file .now in let s = six f (sym (c6 .before .cut .ensures) ∙ c3 .before .before .enum-told .given .1) in
+    let k = said f _ (c3 .before .be16-at .ensures) in omega (arith, s .long, k)
 
 add-decide-8 : tie.Need-add-decide-8
 add-decide-8 c = search needs
@@ -111,11 +138,21 @@ part-decide-start-6 : tie.Need-part-decide-start-6
 part-decide-start-6 c = search needs
 
 part-decide-end-6 : tie.Need-part-decide-end-6
-part-decide-end-6 c = let f = c .before .before .before .before .before .before .before .before .before .before .args .file .now in let s = six f (sym (c .before .before .before .before .before .before .before .before .cut .ensures) ∙ c .before .before .before .before .before .before .enum-told .given .1) in let k = said f _ (c .before .before .before .before .before .be16-at .ensures) in omega (arith, s .long, k)
+part-decide-end-6 c =
+    let c3 = c .before .before .before in
+    let c6 = c3 .before .before .before in
+    let c9 = c6 .before .before .before in
+    let f = c9 .before .args .file .now in let s = six f (sym (c6 .before .before .cut .ensures) ∙ c6 .enum-told .given .1) in
+    let k = said f _ (c3 .before .before .be16-at .ensures) in omega (arith, s .long, k)
 
 decide-requires : tie.Need-decide-requires
 unfolding part
-decide-requires c κs = let f = c .before .before .before .before .before .before .before .before .before .before .before .args .file .now in let s = six f (sym (c .before .before .before .before .before .before .before .before .before .cut .ensures) ∙ c .before .before .before .before .before .before .before .enum-told .given .1) in let k = said f _ (c .before .before .before .before .before .before .be16-at .ensures) in subst (λ (j : ℕ). stashFits (part f (8 + j) (length f - 28 - (8 + j))) ≡ true) (sym k) (s .stash)
+decide-requires c κs =
+    let c3 = c .before .before .before in
+    let c6 = c3 .before .before .before in
+    let c9 = c6 .before .before .before in
+    let f = c9 .before .before .args .file .now in let s = six f (sym (c9 .cut .ensures) ∙ c6 .before .enum-told .given .1) in
+    let k = said f _ (c6 .be16-at .ensures) in subst (λ (j : ℕ). stashFits (part f (8 + j) (length f - 28 - (8 + j))) ≡ true) (sym k) (s .stash)
 
 found-requires : tie.Need-found-requires
 found-requires c κs = search needs
@@ -134,13 +171,25 @@ refused-requires-2 c κs = search needs
 
 returns : tie.Need-returns
 unfolding part
-returns c = let f = c .before .before .before .before .before .before .before .before .before .before .before .before .before .args .file .now in let s = six f (sym (c .before .before .before .before .before .before .before .before .before .before .before .cut .ensures) ∙ c .before .before .before .before .before .before .before .before .before .enum-told .given .1) in let k = said f _ (c .before .before .before .before .before .before .before .before .be16-at .ensures) in c .found .ensures ∙ reads-good f s (c .before .before .before .before .before .before .before .before .be16-at .result) k _ (slices f (c .before .before .before .before .before .before .before .before .be16-at .result) (length f - 28)) _ (c .before .decide .ensures)
+returns c =
+    let c3 = c .before .before .before in
+    let c6 = c3 .before .before .before in
+    let c9 = c6 .before .before .before in
+    let c12 = c9 .before .before .before in
+    let f = c12 .before .args .file .now in let s = six f (sym (c9 .before .before .cut .ensures) ∙ c9 .enum-told .given .1) in
+    let k = said f _ (c6 .before .before .be16-at .ensures) in
+    c .found .ensures ∙ reads-good f s (c6 .before .before .be16-at .result) k _ (slices f (c6 .before .before .be16-at .result) (length f - 28)) _
+    (c .before .decide .ensures)
 
 returns-2 : tie.Need-returns-2
-returns-2 c = c .refused .ensures ∙ reads-mark (c .before .before .before .before .before .args .file .now) (sym (c .before .before .before .cut .ensures) ∙ c .before .enum-told2 .given .1)
+returns-2 c =
+    let c3 = c .before .before .before in
+    c .refused .ensures ∙ reads-mark (c3 .before .before .args .file .now) (sym (c .before .before .before .cut .ensures) ∙ c .before .enum-told2 .given .1)
 
 returns-3 : tie.Need-returns-3
-returns-3 c = c .refused2 .ensures ∙ reads-length (c .before .before .before .before .before .args .file .now) (sym (c .before .before .before .cut .ensures) ∙ c .before .enum-told3 .given .1)
+returns-3 c =
+    let c3 = c .before .before .before in
+    c .refused2 .ensures ∙ reads-length (c3 .before .before .args .file .now) (sym (c .before .before .before .cut .ensures) ∙ c .before .enum-told3 .given .1)
 
 pub read-spec : {M : Type 1} → statement M
 read-spec =

@@ -22,7 +22,9 @@ state-in-requires c κs = search needs
 
 returns : tie.Need-returns
 unfolding refusedAs
-returns c = λ i. record { answer = c .before .before .before .before .args .answer; settings = c .before .settings-of .ensures i; state = c .state-in .ensures i; start = 0; end = 0 }
+returns c =
+    let c3 = c .before .before .before in
+    λ i. record { answer = c3 .before .args .answer; settings = c .before .settings-of .ensures i; state = c .state-in .ensures i; start = 0; end = 0 }
 
 pub refused-spec : {M : Type 1} → statement M
 refused-spec =

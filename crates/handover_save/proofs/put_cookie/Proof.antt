@@ -17,7 +17,9 @@ slice-aggregate-put : tie.Need-slice-aggregate-put
 slice-aggregate-put c = search needs
 
 put-requires : tie.Need-put-requires
-put-requires c κs = let a = c .before .before .before .before .args in let w = c .before .before .before .before .pre .0 in let l = cookie-long (a .slot) w in omega (arith, c .before .before .before .before .pre .1)
+put-requires c κs =
+    let c3 = c .before .before .before in
+    let a = c3 .before .args in let w = c3 .before .pre .0 in let l = cookie-long (a .slot) w in omega (arith, c3 .before .pre .1)
 
 cast-stored-bytes : tie.Need-cast-stored-bytes
 cast-stored-bytes c = search needs
@@ -32,19 +34,52 @@ part-put-start : tie.Need-part-put-start
 part-put-start c = search needs
 
 part-put-end : tie.Need-part-put-end
-part-put-end c = let a = c .before .before .before .before .before .before .before .before .before .before .before .before .args in let w = c .before .before .before .before .before .before .before .before .before .before .before .before .pre .0 in let l = cookie-long (a .slot) w in let b = stored-bounds (a .slot .len) in omega (arith, w .sized, c .before .before .stored-bytes .ensures)
+part-put-end c =
+    let c3 = c .before .before .before in
+    let c6 = c3 .before .before .before in
+    let c9 = c6 .before .before .before in
+    let c12 = c9 .before .before .before in
+    let a = c12 .args in let w = c12 .pre .0 in let l = cookie-long (a .slot) w in let b = stored-bounds (a .slot .len) in
+    omega (arith, w .sized, c .before .before .stored-bytes .ensures)
 
 put-requires-2 : tie.Need-put-requires-2
-put-requires-2 c κs = let a = c .before .before .before .before .before .before .before .before .before .before .before .before .before .args in let w = c .before .before .before .before .before .before .before .before .before .before .before .before .before .pre .0 in let l = cookie-long (a .slot) w in let b = stored-bounds (a .slot .len) in simp (length-take, length-drop) (omega (arith, w .sized, c .before .before .before .stored-bytes .ensures, c .before .before .before .before .before .before .before .before .put .ensures .ends, c .before .before .before .before .before .before .before .before .put .kept .0, c .before .before .before .before .before .before .before .before .before .before .before .before .before .pre .1))
+put-requires-2 c κs =
+    let c3 = c .before .before .before in
+    let c6 = c3 .before .before .before in
+    let c9 = c6 .before .before .before in
+    let c12 = c9 .before .before .before in
+    let a = c12 .before .args in let w = c12 .before .pre .0 in let l = cookie-long (a .slot) w in let b = stored-bounds (a .slot .len) in
+    simp (length-take, length-drop) (omega (
+      arith,
+      w .sized,
+      c .before .before .before .stored-bytes .ensures,
+      c6 .before .before .put .ensures .ends,
+      c6 .before .before .put .kept .0,
+      c12 .before .pre .1,
+    ))
 
 same-length : tie.Need-same-length
-same-length c = let a = c .before .before .before .before .before .before .before .before .before .before .before .before .before .before .before .before .args in let w = c .before .before .before .before .before .before .before .before .before .before .before .before .before .before .before .before .pre .0 in let l = cookie-long (a .slot) w in omega (arith, c .before .before .before .before .before .before .before .before .before .before .before .put .kept .0, c .before .before .put2 .kept .0)
+same-length c =
+    let c3 = c .before .before .before in
+    let c6 = c3 .before .before .before in
+    let c9 = c6 .before .before .before in
+    let c12 = c9 .before .before .before in
+    let c15 = c12 .before .before .before in
+    let a = c15 .before .args in let w = c15 .before .pre .0 in let l = cookie-long (a .slot) w in
+    omega (arith, c9 .before .before .put .kept .0, c .before .before .put2 .kept .0)
 
 returns : tie.Need-returns
-returns c = let a = c .before .before .before .before .before .before .before .before .before .before .before .before .before .before .before .before .args in let w = c .before .before .before .before .before .before .before .before .before .before .before .before .before .before .before .before .pre .0 in let l = cookie-long (a .slot) w in
-    let n = c .before .before .before .before .before .before .stored-bytes .result in
+returns c =
+    let c3 = c .before .before .before in
+    let c6 = c3 .before .before .before in
+    let c9 = c6 .before .before .before in
+    let c12 = c9 .before .before .before in
+    let c15 = c12 .before .before .before in
+    let a = c15 .before .args in let w = c15 .before .pre .0 in let l = cookie-long (a .slot) w in
+    let n = c6 .stored-bytes .result in
     let e : n - 0 ≡ n = omega arith in
-    cookie-put (a .slot) (c .before .before .before .before .before .before .before .before .before .before .before .before .before .before .be16-bytes .ensures) (ap (λ (k : ℕ). take k (a .slot .bytes)) e) (c .before .before .before .before .before .before .stored-bytes .ensures) (c .before .before .before .before .before .before .before .before .before .before .before .put .ensures) (c .before .before .put2 .ensures) (omega (arith, c .before .before .before .before .before .before .before .before .before .before .before .before .before .before .before .before .pre .1))
+    cookie-put (a .slot) (c12 .before .before .be16-bytes .ensures) (ap (λ (k : ℕ). take k (a .slot .bytes)) e) (c6 .stored-bytes .ensures)
+    (c9 .before .before .put .ensures) (c .before .before .put2 .ensures) (omega (arith, c15 .before .pre .1))
 
 pub put-cookie-spec : {M : Type 1} → statement M
 put-cookie-spec =

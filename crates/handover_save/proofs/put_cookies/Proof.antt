@@ -21,10 +21,19 @@ element-copy-out-slot : tie.Need-element-copy-out-slot Inv-loop μ-loop
 element-copy-out-slot c = omega (arith, c .before .loop .inv .places, c .before .loop .inv .most)
 
 put-cookie-requires : tie.Need-put-cookie-requires Inv-loop μ-loop
-put-cookie-requires c κs = let l = c .before .before .before .loop in let p = c .before .before .before .before .before .pre in (p .0 .each (l .place) (omega (arith, l .inv .places, p .0 .room)), fits-next _ _ _ (c .before .before .before .before .before .args .t3) (p .1) _ _ _ (l .n) (l .inv) (omega arith))
+put-cookie-requires c κs =
+    let c3 = c .before .before .before in
+    let l = c .before .before .before .loop in let p = c3 .before .before .pre in (
+      p .0 .each (l .place) (omega (arith, l .inv .places, p .0 .room)),
+      fits-next _ _ _ (c3 .before .before .args .t3) (p .1) _ _ _ (l .n) (l .inv)
+          (omega arith),
+    )
 
 add-wrapped : tie.Need-add-wrapped Inv-loop μ-loop
-add-wrapped c = omega (arith, c .before .before .before .before .before .before .loop .inv .places, c .before .before .before .before .before .before .loop .inv .most)
+add-wrapped c =
+    let c3 = c .before .before .before in
+    let c6 = c3 .before .before .before in
+    omega (arith, c6 .loop .inv .places, c6 .loop .inv .most)
 
 wrapped-requires : tie.Need-wrapped-requires Inv-loop μ-loop
 wrapped-requires c κs = tt
@@ -36,13 +45,19 @@ loop-less : tie.Need-loop-less Inv-loop μ-loop
 loop-less c = omega arith
 
 loop-again : tie.Need-loop-again Inv-loop μ-loop
-loop-again c = let l = c .before .before .before .before .before .before .before .loop in writes-next _ _ _ (c .before .before .before .before .before .before .before .before .before .args .t3) (c .before .before .before .before .before .before .before .before .before .pre .1) _ _ _ (l .n) (l .inv) (omega arith) _ _ _ (c .before .before .before .put-cookie .ensures) (c .wrapped .ensures)
+loop-again c =
+    let c3 = c .before .before .before in
+    let c6 = c3 .before .before .before in
+    let c9 = c6 .before .before .before in
+    let l = c6 .before .loop in writes-next _ _ _ (c9 .args .t3) (c9 .pre .1) _ _ _ (l .n) (l .inv) (omega arith) _ _ _
+    (c .before .before .before .put-cookie .ensures) (c .wrapped .ensures)
 
 same-length : tie.Need-same-length Inv-loop μ-loop
 same-length c = c .before .loop .inv .long
 
 returns : tie.Need-returns Inv-loop μ-loop
-returns c = let l = c .before .loop in written _ _ _ (c .before .before .before .args .t3) (c .before .before .before .pre .1) _ _ _ (l .n) (l .inv) (omega arith)
+returns c =
+    let l = c .before .loop in written _ _ _ (c .before .before .before .args .t3) (c .before .before .before .pre .1) _ _ _ (l .n) (l .inv) (omega arith)
 
 pub put-cookies-spec : {M : Type 1} → statement M
 put-cookies-spec =

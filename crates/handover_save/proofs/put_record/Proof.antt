@@ -29,9 +29,14 @@ same-length c = search needs
 
 returns : tie.Need-returns
 returns c =
-    let a = c .before .before .before .before .before .before .before .before .before .before .before .before .args in (
-      omega (arith, c .before .before .before .before .before .before .put .ensures .ends, c .before .before .put2 .ensures .ends),
-      record-put (a .mark) (length (now (a .body))) (now (a .body)) (c .before .before .before .before .before .before .before .before .before .head .ensures) refl (c .before .before .before .before .before .before .put .ensures) (c .before .before .put2 .ensures) (omega arith),
+    let c3 = c .before .before .before in
+    let c6 = c3 .before .before .before in
+    let c9 = c6 .before .before .before in
+    let c12 = c9 .before .before .before in
+    let a = c12 .args in (
+      omega (arith, c6 .put .ensures .ends, c .before .before .put2 .ensures .ends),
+      record-put (a .mark) (length (now (a .body))) (now (a .body)) (c9 .head .ensures) refl (c6 .put .ensures) (c .before .before .put2 .ensures)
+          (omega arith),
     )
 
 pub put-record-spec : {M : Type 1} → statement M

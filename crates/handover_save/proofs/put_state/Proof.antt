@@ -28,25 +28,46 @@ slice-aggregate-put-record-2 : tie.Need-slice-aggregate-put-record-2
 slice-aggregate-put-record-2 c = search needs
 
 put-record-requires-2 : tie.Need-put-record-requires-2
-put-record-requires-2 c κs = (search needs, omega (arith, c .before .before .before .before .put-record .ensures .0, c .before .before .before .before .put-record .kept .0, c .before .before .before .before .before .before .before .before .before .before .before .before .pre))
+put-record-requires-2 c κs = (
+  search needs,
+  omega (
+    arith,
+    c .before .before .before .before .put-record .ensures .0,
+    c .before .before .before .before .put-record .kept .0,
+    c .before .before .before .before .before .before .before .before .before .before .before .before .pre,
+  ),
+)
 
 slice-aggregate-put-record-3 : tie.Need-slice-aggregate-put-record-3
 slice-aggregate-put-record-3 c = search needs
 
 put-record-requires-3 : tie.Need-put-record-requires-3
-put-record-requires-3 c κs = (search needs, omega (arith, c .before .before .before .before .before .before .before .before .before .put-record .ensures .0, c .before .before .before .before .put-record2 .ensures .0, c .before .before .before .before .before .before .before .before .before .put-record .kept .0, c .before .before .before .before .put-record2 .kept .0, c .before .before .before .before .before .before .before .before .before .before .before .before .before .before .before .before .before .pre))
+put-record-requires-3 c κs = (
+  search needs,
+  omega (
+    arith,
+    c .before .before .before .before .before .before .before .before .before .put-record .ensures .0,
+    c .before .before .before .before .put-record2 .ensures .0,
+    c .before .before .before .before .before .before .before .before .before .put-record .kept .0,
+    c .before .before .before .before .put-record2 .kept .0,
+    c .before .before .before .before .before .before .before .before .before .before .before .before .before .before .before .before .before .pre,
+  ),
+)
 
 slice-aggregate-put-record-4 : tie.Need-slice-aggregate-put-record-4
 slice-aggregate-put-record-4 c = search needs
 
 put-record-requires-4 : tie.Need-put-record-requires-4
-put-record-requires-4 c κs = (search needs, omega (arith, c .before .before .before .before .before .before .before .before .before .before .before .before .before .before .put-record .ensures .0, c .before .before .before .before .before .before .before .before .before .put-record2 .ensures .0, c .before .before .before .before .put-record3 .ensures .0, c .before .before .before .before .before .before .before .before .before .before .before .before .before .before .put-record .kept .0, c .before .before .before .before .before .before .before .before .before .put-record2 .kept .0, c .before .before .before .before .put-record3 .kept .0, c .before .before .before .before .before .before .before .before .before .before .before .before .before .before .before .before .before .before .before .before .before .before .pre))
+put-record-requires-4 c κs =
+    (search needs, omega (arith, c .before .before .before .before .before .before .before .before .before .before .before .before .before .before .put-record .ensures .0, c .before .before .before .before .before .before .before .before .before .put-record2 .ensures .0, c .before .before .before .before .put-record3 .ensures .0, c .before .before .before .before .before .before .before .before .before .before .before .before .before .before .put-record .kept .0, c .before .before .before .before .before .before .before .before .before .put-record2 .kept .0, c .before .before .before .before .put-record3 .kept .0, c .before .before .before .before .before .before .before .before .before .before .before .before .before .before .before .before .before .before .before .before .before .before .pre))
 
 same-length : tie.Need-same-length
-same-length c = omega (arith, c .before .before .before .before .before .before .before .before .before .before .before .before .before .before .before .before .before .put-record .kept .0, c .before .before .before .before .before .before .before .before .before .before .before .before .put-record2 .kept .0, c .before .before .before .before .before .before .before .put-record3 .kept .0, c .before .before .put-record4 .kept .0)
+same-length c =
+    omega (arith, c .before .before .before .before .before .before .before .before .before .before .before .before .before .before .before .before .before .put-record .kept .0, c .before .before .before .before .before .before .before .before .before .before .before .before .put-record2 .kept .0, c .before .before .before .before .before .before .before .put-record3 .kept .0, c .before .before .put-record4 .kept .0)
 
 returns : tie.Need-returns
-returns c = state-put (c .before .before .before .before .before .before .before .before .before .before .before .before .before .before .before .before .before .before .before .before .before .before .before .before .before .args .state) (c .before .before .before .before .before .before .before .before .before .before .before .before .before .before .before .before .before .before .before .before .before .before .before .effort-bytes .ensures) (c .before .before .before .before .before .before .before .before .before .before .before .before .before .before .before .before .before .before .before .before .before .before .version-bytes .ensures) (c .before .before .before .before .before .before .before .before .before .before .before .before .before .before .before .before .before .before .before .before .before .polls-bytes .ensures) (c .before .before .before .before .before .before .before .before .before .before .before .before .before .before .before .before .before .before .before .before .source-bytes .ensures) (c .before .before .before .before .before .before .before .before .before .before .before .before .before .before .before .before .before .put-record .ensures .1) (c .before .before .before .before .before .before .before .before .before .before .before .before .put-record2 .ensures .1) (c .before .before .before .before .before .before .before .put-record3 .ensures .1) (c .before .before .put-record4 .ensures .1) (c .before .before .before .before .before .before .before .before .before .before .before .before .before .before .before .before .before .before .before .before .before .before .before .before .before .pre)
+returns c =
+    state-put (c .before .before .before .before .before .before .before .before .before .before .before .before .before .before .before .before .before .before .before .before .before .before .before .before .before .args .state) (c .before .before .before .before .before .before .before .before .before .before .before .before .before .before .before .before .before .before .before .before .before .before .before .effort-bytes .ensures) (c .before .before .before .before .before .before .before .before .before .before .before .before .before .before .before .before .before .before .before .before .before .before .version-bytes .ensures) (c .before .before .before .before .before .before .before .before .before .before .before .before .before .before .before .before .before .before .before .before .before .polls-bytes .ensures) (c .before .before .before .before .before .before .before .before .before .before .before .before .before .before .before .before .before .before .before .before .source-bytes .ensures) (c .before .before .before .before .before .before .before .before .before .before .before .before .before .before .before .before .before .put-record .ensures .1) (c .before .before .before .before .before .before .before .before .before .before .before .before .put-record2 .ensures .1) (c .before .before .before .before .before .before .before .put-record3 .ensures .1) (c .before .before .put-record4 .ensures .1) (c .before .before .before .before .before .before .before .before .before .before .before .before .before .before .before .before .before .before .before .before .before .before .before .before .before .pre)
 
 pub put-state-spec : {M : Type 1} → statement M
 put-state-spec =

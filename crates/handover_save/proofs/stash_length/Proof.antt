@@ -33,10 +33,15 @@ stored-bytes-requires : tie.Need-stored-bytes-requires Inv-loop μ-loop
 stored-bytes-requires c κs = tt
 
 add-sum-2 : tie.Need-add-sum-2 Inv-loop μ-loop
-add-sum-2 c = let i = c .before .before .before .before .loop .inv in let b = stored-bounds (slotAt (c .before .before .before .before .before .args .t1 .slots) (c .before .before .before .before .loop .place) .len) in omega (arith, i .small, i .few, c .stored-bytes .ensures)
+add-sum-2 c =
+    let c3 = c .before .before .before in
+    let i = c3 .before .loop .inv in let b = stored-bounds (slotAt (c3 .before .before .args .t1 .slots) (c3 .before .loop .place) .len) in
+    omega (arith, i .small, i .few, c .stored-bytes .ensures)
 
 add-wrapped : tie.Need-add-wrapped Inv-loop μ-loop
-add-wrapped c = omega (arith, c .before .before .before .before .loop .inv .places, c .before .before .before .before .loop .inv .most)
+add-wrapped c =
+    let c3 = c .before .before .before in
+    omega (arith, c3 .before .loop .inv .places, c3 .before .loop .inv .most)
 
 wrapped-requires : tie.Need-wrapped-requires Inv-loop μ-loop
 wrapped-requires c κs = tt
@@ -48,7 +53,10 @@ loop-less : tie.Need-loop-less Inv-loop μ-loop
 loop-less c = omega arith
 
 loop-again : tie.Need-loop-again Inv-loop μ-loop
-loop-again c = let l = c .before .before .before .before .before .loop in sum-next _ _ (c .before .before .before .before .before .before .pre) _ _ _ (l .inv) (omega arith) _ _ (c .before .stored-bytes .ensures) (c .wrapped .ensures)
+loop-again c =
+    let c3 = c .before .before .before in
+    let c6 = c3 .before .before .before in
+    let l = c3 .before .before .loop in sum-next _ _ (c6 .pre) _ _ _ (l .inv) (omega arith) _ _ (c .before .stored-bytes .ensures) (c .wrapped .ensures)
 
 returns : tie.Need-returns Inv-loop μ-loop
 returns c = let l = c .before .loop in summed _ _ (c .before .before .pre) _ _ _ (l .inv) (omega arith)

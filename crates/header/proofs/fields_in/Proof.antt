@@ -59,22 +59,26 @@ word-at-requires-4 c κs = search needs
 returns : tie.Need-returns
 unfolding fields
 returns c =
-    let words = c .before .before .before .before .before .before .before in
-    let codes = words .before .before .before .before .before in
+    let c3 = c .before .before .before in
+    let c6 = c3 .before .before .before in
+    let words = c6 .before in
+    let words3 = words .before .before .before in
+    let codes = words3 .before .before in
+    let codes3 = codes .before .before .before in
     let poll = words .before .before .u8-as-i8 in
     let precision = words .u8-as-i82 in
     let is-poll = toZ-ofZ (record { sfits = poll .ok }) ∙ poll .ensures in
     let is-precision = toZ-ofZ (record { sfits = precision .ok }) ∙ precision .ensures in
     λ i. record {
-      version = codes .before .before .before .before .args .version;
+      version = codes3 .before .args .version;
       leap = codes .before .leap-of .ensures i;
       mode = codes .mode-of .ensures i;
-      stratum = getD (codes .before .before .before .before .args .p .now) 1 0;
+      stratum = getD (codes3 .before .args .p .now) 1 0;
       poll = interval (is-poll i);
       precision = is-precision i;
-      rootdelay = c .before .before .before .before .before .before .be32-at .ensures i;
-      rootdisp = c .before .before .before .before .before .be32-at2 .ensures i;
-      refid = named (c .before .before .before .before .be32-at3 .ensures i);
+      rootdelay = c6 .be32-at .ensures i;
+      rootdisp = c3 .before .before .be32-at2 .ensures i;
+      refid = named (c3 .before .be32-at3 .ensures i);
       reftime = timestamp (c .before .before .before .word-at .ensures i);
       origin = timestamp (c .before .before .word-at2 .ensures i);
       receive = timestamp (c .before .word-at3 .ensures i);

@@ -72,16 +72,19 @@ laid h eb ep eq e₁ e₂ e₃ e₄ e₅ e₆ e₇ = rw (e₇, e₆, e₅, e₄,
 
 returns : tie.Need-returns
 returns c =
-    let front = c .before .before .before .before .before .before .before in
-    let start = front .before .before .before .before .before in
+    let c3 = c .before .before .before in
+    let c6 = c3 .before .before .before in
+    let front = c6 .before in
+    let front3 = front .before .before .before in
+    let start = front3 .before .before in
     let fit = types-fit (start .args .h) _ (start .good .0) in
     laid (start .args .h)
-    (front .before .before .before .before .first-byte .ensures)
+    (front3 .before .first-byte .ensures)
     (front .before .before .i8-as-u8 .ensures ∙ ap (unsigned (2 ^ 7)) (toZ-ofZ (fit .poll)))
     (front .i8-as-u82 .ensures ∙ ap (unsigned (2 ^ 7)) (toZ-ofZ (fit .precision)))
-    (c .before .before .before .before .before .before .put32 .ensures)
-    (c .before .before .before .before .before .put322 .ensures)
-    (c .before .before .before .before .put323 .ensures)
+    (c6 .put32 .ensures)
+    (c3 .before .before .put322 .ensures)
+    (c3 .before .put323 .ensures)
     (c .before .before .before .put64 .ensures)
     (c .before .before .put642 .ensures)
     (c .before .put643 .ensures)

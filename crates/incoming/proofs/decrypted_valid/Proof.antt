@@ -23,12 +23,14 @@ enum-told-2 c = search needs
 returns-2 : tie.Need-returns-2
 returns-2 c =
     let k = c .before .before in
-    rw (k .before .if1 .left) (sym (whole-of (decryptedWalk (now (k .before .before .before .args .decrypted))) _ (sym (k .decrypted-walk .ensures) ∙ c .enum-told .given .1)))
+    rw (k .before .if1 .left) (sym (whole-of (decryptedWalk (now (k .before .before .before .args .decrypted))) _
+    (sym (k .decrypted-walk .ensures) ∙ c .enum-told .given .1)))
 
 returns-3 : tie.Need-returns-3
 returns-3 c =
     let k = c .before .before in
-    rw (k .before .if1 .left) (sym (not-whole (decryptedWalk (now (k .before .before .before .args .decrypted))) (sym (k .decrypted-walk .ensures) ∙ c .enum-told2 .given .1)))
+    rw (k .before .if1 .left) (sym (not-whole (decryptedWalk (now (k .before .before .before .args .decrypted)))
+    (sym (k .decrypted-walk .ensures) ∙ c .enum-told2 .given .1)))
 
 pub decrypted-valid-spec : {M : Type 1} → statement M
 decrypted-valid-spec =

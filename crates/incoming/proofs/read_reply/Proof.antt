@@ -61,7 +61,8 @@ value-requires c κs = search needs
 returns-4 : tie.Need-returns-4
 unfolding readOf bytesRead
 returns-4 c =
-    let p = c .before .before .before .before in
+    let c3 = c .before .before .before in
+    let p = c3 .before in
     let e = p .before .before in
     let k = e .before .before .before in
     rw (

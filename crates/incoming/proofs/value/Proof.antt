@@ -28,15 +28,18 @@ kisses-requires c κs = search needs
 returns : tie.Need-returns
 unfolding valueOf
 returns c =
-    let k = c .before .before .before .before .before in
-    let start = k .before .before .before .before .before .before in
+    let c3 = c .before .before .before in
+    let k = c3 .before .before in
+    let k3 = k .before .before .before in
+    let k6 = k3 .before .before .before in
+    let start = k6 in
     rw (
       c .before .kisses .ensures,
       k .from-short2 .ensures,
       k .before .from-short .ensures,
       k .before .before .before .is-server .ensures,
-      k .before .before .before .before .leap-of .ensures,
-      k .before .before .before .before .before .number .ensures,
+      k3 .before .leap-of .ensures,
+      k3 .before .before .number .ensures,
       toZ-ofZ (types-fit (start .args .h) _ (start .good .0) .precision),
     )
 

@@ -19,8 +19,10 @@ abbrev μ-loop : tie.MeasureT-loop
 μ-loop most list at₀ longer₀ at longer = length list - at
 
 -- the entry that was read
-cookie-at : (c : tie.After-start Inv-loop μ-loop) → let g = c .start .given .0 in
-    entryAt (c .before .before .before .before .before .args .list .now) (c .before .before .before .loop .at) ≡ Cookie (g .0) (g .1 .0)
+cookie-at : (c : tie.After-start Inv-loop μ-loop) →
+    let c3 = c .before .before .before in
+    let g = c .start .given .0 in
+    entryAt (c3 .before .before .args .list .now) (c .before .before .before .loop .at) ≡ Cookie (g .0) (g .1 .0)
 cookie-at c = sym (c .before .before .entry-at .ensures) ∙ c .start .given .1
 
 loop-holds : tie.Need-loop-holds Inv-loop μ-loop
@@ -41,18 +43,20 @@ loop-less c = let w = placed _ _ _ _ (cookie-at (c .before .before)) in omega ar
 
 loop-again : tie.Need-loop-again Inv-loop μ-loop
 loop-again c =
+    let c3 = c .before .before .before in
     let e = cookie-at (c .before .before) in
     let w = placed _ _ _ _ e in
-    (w .within, sym (longer-found _ _ _ _ _ _ e (c .if1 .taken)) ∙ c .before .before .before .before .before .loop .inv .1)
+    (w .within, sym (longer-found _ _ _ _ _ _ e (c .if1 .taken)) ∙ c3 .before .before .loop .inv .1)
 
 loop-less-2 : tie.Need-loop-less-2 Inv-loop μ-loop
 loop-less-2 c = let w = placed _ _ _ _ (cookie-at (c .before .before)) in omega arith
 
 loop-again-2 : tie.Need-loop-again-2 Inv-loop μ-loop
 loop-again-2 c =
+    let c3 = c .before .before .before in
     let e = cookie-at (c .before .before) in
     let w = placed _ _ _ _ e in
-    (w .within, sym (longer-passed _ _ _ _ _ _ e (c .if1 .left)) ∙ c .before .before .before .before .before .loop .inv .1)
+    (w .within, sym (longer-passed _ _ _ _ _ _ e (c .if1 .left)) ∙ c3 .before .before .loop .inv .1)
 
 enum-told : tie.Need-enum-told Inv-loop μ-loop
 enum-told c = search needs

@@ -23,10 +23,17 @@ returns : tie.Need-returns
 unfolding meteredOf
 returns c =
     let b = c .before in
-    let a = b .before .before .before .before .before .args in
+    let b3 = b .before .before .before in
+    let a = b3 .before .before .args in
     let p = b .before .before .before .profile .ensures in
     let n = b .before .before .number .ensures in
-    rw (c .none .ensures, b .blank .ensures, p, ne-eqb (numberOf (profileOf (a .settings) (a .list .now))) 0 (λ e. b .before .if1 .taken (n ∙ ap numberOf p ∙ e)))
+    rw (
+      c .none .ensures,
+      b .blank .ensures,
+      p,
+      ne-eqb (numberOf (profileOf (a .settings) (a .list .now))) 0
+          (λ e. b .before .if1 .taken (n ∙ ap numberOf p ∙ e)),
+    )
 
 new-requires : tie.Need-new-requires
 new-requires c κs = search needs
@@ -35,8 +42,10 @@ returns-2 : tie.Need-returns-2
 unfolding meteredOf
 returns-2 c =
     let b = c .before in
-    let a = b .before .before .before .before .before .before .args in
-    let p = b .before .before .before .before .profile .ensures in
+    let b3 = b .before .before .before in
+    let b6 = b3 .before .before .before in
+    let a = b6 .args in
+    let p = b3 .before .profile .ensures in
     let n = b .before .before .before .number .ensures in
     rw (p, b .before .new .ensures, eq-eqb (numberOf (profileOf (a .settings) (a .list .now))) 0 (sym (n ∙ ap numberOf p) ∙ b .before .before .if1 .left))
 

@@ -21,22 +21,33 @@ use Rattle.metered.proofs.profile.Tie as tie
 valid : (c : tie.Else1) → settingsValid (c .before .before .before .args .settings) ≡ true
 valid c = sym (c .before .valid .ensures) ∙ not-false _ (c .if1 .left)
 
-plain : (c : tie.Else2) → let a = c .before .before .before .before .before .args in N.Plain (a .settings) (a .list .now)
+plain : (c : tie.Else2) → let c3 = c .before .before .before in let a = c3 .before .before .args in N.Plain (a .settings) (a .list .now)
 plain c = record { valid = valid (c .before .before); unbroken = sym (c .before .list-broken .ensures) ∙ c .if2 .left }
 
-slow : (c : tie.Else3) → let a = c .before .before .before .before .before .before .before .before .before .args in N.Slow (a .settings) (a .list .now)
+slow : (c : tie.Else3) → let c3 = c .before .before .before in let c6 = c3 .before .before .before in let c9 = c6 .before .before .before in
+    let a = c9 .args in N.Slow (a .settings) (a .list .now)
 slow c =
-    let s = c .before .before .before .before .before .before .before .before .before .args .settings in
+    let c3 = c .before .before .before in
+    let c6 = c3 .before .before .before in
+    let c9 = c6 .before .before .before in
+    let s = c9 .args .settings in
     let f : SFits w8 (s .min .0) = record { sfits = c .before .struct-told .given .0 .1 } in
-    record { plain = plain (c .before .before .before .before); min = sym (ap (λ (z : ℤ). ltZ z (pos 8)) (toZ-ofZ f)) ∙ c .if3 .left }
+    record { plain = plain (c3 .before); min = sym (ap (λ (z : ℤ). ltZ z (pos 8)) (toZ-ofZ f)) ∙ c .if3 .left }
 
 brief : (c : tie.Else4) →
-    let a = c .before .before .before .before .before .before .before .before .before .before .before .args in
+    let c3 = c .before .before .before in
+    let c6 = c3 .before .before .before in
+    let c9 = c6 .before .before .before in
+    let a = c9 .before .before .args in
     N.Brief (a .settings) (a .list .now)
 brief c = record { slow = slow (c .before .before); startup = le-ltb _ _ (c .if4 .left) }
 
 settled : (c : tie.Else5) →
-    let a = c .before .before .before .before .before .before .before .before .before .before .before .before .before .before .args in
+    let c3 = c .before .before .before in
+    let c6 = c3 .before .before .before in
+    let c9 = c6 .before .before .before in
+    let c12 = c9 .before .before .before in
+    let a = c12 .before .before .args in
     N.Settled (a .settings) (a .list .now)
 settled c = record { brief = brief (c .before .before .before); start = sym (c .before .is-upgrading .ensures) ∙ c .if5 .left }
 
@@ -56,9 +67,12 @@ returns-2 c = sym (only _ _ (broken-list (valid (c .before .before)) (sym (c .be
 
 returns-3 : tie.Need-returns-3
 returns-3 c =
-    let s = c .before .before .before .before .before .before .before .before .before .args .settings in
+    let c3 = c .before .before .before in
+    let c6 = c3 .before .before .before in
+    let c9 = c6 .before .before .before in
+    let s = c9 .args .settings in
     let f : SFits w8 (s .min .0) = record { sfits = c .before .struct-told .given .0 .1 } in
-    sym (only _ _ (low-poll-min (plain (c .before .before .before .before)) (sym (ap (λ (z : ℤ). ltZ z (pos 8)) (toZ-ofZ f)) ∙ c .if3 .taken)))
+    sym (only _ _ (low-poll-min (plain (c3 .before)) (sym (ap (λ (z : ℤ). ltZ z (pos 8)) (toZ-ofZ f)) ∙ c .if3 .taken)))
 
 returns-4 : tie.Need-returns-4
 returns-4 c = sym (only _ _ (high-startup (slow (c .before .before)) (lt-ltb _ _ (c .if4 .taken))))

@@ -9,7 +9,8 @@ open-record-requires c κs = search needs
 
 returns : tie.Need-returns
 returns c =
-    let args = c .before .before .before .before .before .args in
+    let c3 = c .before .before .before in
+    let args = c3 .before .before .args in
     let open-record = c .before .before .open-record in
     refused (args .b .now) (args .stratum) (args .local .now) (args .bloom) (open-record .result) (open-record .ensures) (not-true _ (c .if1 .taken))
 
@@ -21,10 +22,14 @@ accept-seen-requires c κs = search needs
 
 returns-2 : tie.Need-returns-2
 returns-2 c =
-    let args = c .before .before .before .before .before .before .before .before .before .args in
-    let open-record = c .before .before .before .before .before .before .open-record in
-    let if1 = c .before .before .before .before .if1 in
-    told (args .b .now) (args .stratum) (args .local .now) (args .bloom) (open-record .result) (open-record .ensures) (not-false _ (if1 .left)) (c .before .see .result) (c .before .see .ensures) (c .accept-seen .result) (c .accept-seen .ensures)
+    let c3 = c .before .before .before in
+    let c6 = c3 .before .before .before in
+    let c9 = c6 .before .before .before in
+    let args = c9 .args in
+    let open-record = c6 .open-record in
+    let if1 = c3 .before .if1 in
+    told (args .b .now) (args .stratum) (args .local .now) (args .bloom) (open-record .result) (open-record .ensures) (not-false _ (if1 .left))
+    (c .before .see .result) (c .before .see .ensures) (c .accept-seen .result) (c .accept-seen .ensures)
 
 pub accept-spec : {M : Type 1} → statement M
 accept-spec =

@@ -41,15 +41,20 @@ state-known-requires c κs = search needs
 returns-2 : tie.Need-returns-2
 unfolding okIn part
 returns-2 c =
-    let sized = c .before .before .before .before .before .before .sized in
-    let if1 = c .before .before .before .before .before .if1 in
-    c .state-known .ensures ∙ sym (passes _ (sym (sized .ensures) ∙ not-false _ (if1 .left)) ∙ passes _ (sym (c .before .before .before .settings-known .ensures) ∙ c .before .before .if2 .taken))
+    let c3 = c .before .before .before in
+    let c6 = c3 .before .before .before in
+    let sized = c6 .sized in
+    let if1 = c3 .before .before .if1 in
+    c .state-known .ensures ∙ sym (passes _ (sym (sized .ensures) ∙ not-false _ (if1 .left))
+    ∙ passes _ (sym (c .before .before .before .settings-known .ensures) ∙ c .before .before .if2 .taken))
 
 returns-3 : tie.Need-returns-3
 unfolding okIn part
 returns-3 c =
-    let sized = c .before .before .before .before .sized in
-    sym (passes _ (sym (sized .ensures) ∙ not-false _ (c .before .before .before .if1 .left)) ∙ fails _ (sym (c .before .settings-known .ensures) ∙ c .if2 .left))
+    let c3 = c .before .before .before in
+    let sized = c3 .before .sized in
+    sym (passes _ (sym (sized .ensures) ∙ not-false _ (c .before .before .before .if1 .left))
+    ∙ fails _ (sym (c .before .settings-known .ensures) ∙ c .if2 .left))
 
 pub known-spec : {M : Type 1} → statement M
 known-spec =

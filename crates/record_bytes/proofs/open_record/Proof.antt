@@ -37,9 +37,12 @@ none-requires-2 c κs = search needs
 returns-2 : tie.Need-returns-2
 unfolding part
 returns-2 c =
-    let args = c .before .before .before .before .before .before .before .args in
+    let c3 = c .before .before .before in
+    let c6 = c3 .before .before .before in
+    let args = c6 .before .args in
     let settings-of = c .before .before .before .settings-of in
-    c .none2 .ensures ∙ not-opened (args .b .now) (ok-by (args .b .now) (settings-of .result) false (settings-of .ensures) (sym (c .before .before .known .ensures) ∙ not-true _ (c .before .if2 .taken)))
+    c .none2 .ensures ∙ not-opened (args .b .now)
+    (ok-by (args .b .now) (settings-of .result) false (settings-of .ensures) (sym (c .before .before .known .ensures) ∙ not-true _ (c .before .if2 .taken)))
 
 sub-state-of : tie.Need-sub-state-of
 sub-state-of c = search needs
@@ -56,10 +59,13 @@ state-of-requires c κs = search needs
 returns-3 : tie.Need-returns-3
 unfolding part
 returns-3 c =
-    let args = c .before .before .before .before .before .before .before .before .args in
-    let settings-of = c .before .before .before .before .settings-of in
+    let c3 = c .before .before .before in
+    let c6 = c3 .before .before .before in
+    let args = c6 .before .before .args in
+    let settings-of = c3 .before .settings-of in
     (λ i. record { ok = true; settings = settings-of .ensures i; state = c .state-of .ensures i })
-    ∙ is-opened (args .b .now) (ok-by (args .b .now) (settings-of .result) true (settings-of .ensures) (sym (c .before .before .before .known .ensures) ∙ not-false _ (c .before .before .if2 .left)))
+    ∙ is-opened (args .b .now) (ok-by (args .b .now) (settings-of .result) true (settings-of .ensures)
+    (sym (c .before .before .before .known .ensures) ∙ not-false _ (c .before .before .if2 .left)))
 
 pub open-record-spec : {M : Type 1} → statement M
 open-record-spec =

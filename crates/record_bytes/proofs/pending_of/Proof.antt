@@ -31,7 +31,9 @@ shared-slice-read-t13 c = search needs
 
 returns : tie.Need-returns
 unfolding pendingOf part
-returns c = rw (c .before .before .before .before .before .be64-at .ensures, c .before .before .before .before .be64-at2 .ensures, c .before .before .uid-of .ensures)
+returns c =
+    let c3 = c .before .before .before in
+    rw (c3 .before .before .be64-at .ensures, c3 .before .be64-at2 .ensures, c .before .before .uid-of .ensures)
 
 pub pending-of-spec : {M : Type 1} → statement M
 pending-of-spec =

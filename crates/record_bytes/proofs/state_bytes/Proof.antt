@@ -201,14 +201,18 @@ array-read-t189 c = search needs
 
 returns : tie.Need-returns
 returns c =
-    let args = c .before .before .before .before .before .before .before .before .before .before .before .args in
-    let good = c .before .before .before .before .before .before .before .before .before .before .before .good in
-    let version-bytes = c .before .before .before .before .before .before .before .version-bytes in
-    let polls-bytes = c .before .before .before .before .before .before .polls-bytes in
-    let source-bytes = c .before .before .before .before .before .source-bytes in
-    let flag = c .before .before .before .before .flag in
+    let c3 = c .before .before .before in
+    let c6 = c3 .before .before .before in
+    let c9 = c6 .before .before .before in
+    let args = c9 .before .before .args in
+    let good = c9 .before .before .good in
+    let version-bytes = c6 .before .version-bytes in
+    let polls-bytes = c6 .polls-bytes in
+    let source-bytes = c3 .before .before .source-bytes in
+    let flag = c3 .before .flag in
     let n = state-fit (args .s) _ (good .0) .request .uid in
-    state-spelled (args .s) (version-bytes .ensures) (polls-bytes .ensures) (source-bytes .ensures) (flag .ensures) (c .before .before .before .flag2 .ensures) (c .before .before .be64-bytes .ensures) (c .before .be64-bytes2 .ensures) n
+    state-spelled (args .s) (version-bytes .ensures) (polls-bytes .ensures) (source-bytes .ensures) (flag .ensures) (c .before .before .before .flag2 .ensures)
+    (c .before .before .be64-bytes .ensures) (c .before .be64-bytes2 .ensures) n
 
 pub state-bytes-spec : {M : Type 1} → statement M
 state-bytes-spec =

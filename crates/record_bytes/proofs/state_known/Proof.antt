@@ -44,11 +44,18 @@ pending-known-requires c κs = search needs
 
 returns : tie.Need-returns
 unfolding stateKnown part
-returns c = c .pending-known .ensures ∙ sym (passes _ (sym (c .before .before .before .before .before .before .version-known .ensures) ∙ c .before .before .before .before .before .if1 .taken) ∙ passes _ (sym (c .before .before .before .source-known .ensures) ∙ c .before .before .if2 .taken))
+returns c =
+    let c3 = c .before .before .before in
+    let c6 = c3 .before .before .before in
+    c .pending-known .ensures ∙ sym (passes _ (sym (c6 .version-known .ensures) ∙ c3 .before .before .if1 .taken)
+    ∙ passes _ (sym (c .before .before .before .source-known .ensures) ∙ c .before .before .if2 .taken))
 
 returns-2 : tie.Need-returns-2
 unfolding stateKnown part
-returns-2 c = sym (passes _ (sym (c .before .before .before .before .version-known .ensures) ∙ c .before .before .before .if1 .taken) ∙ fails _ (sym (c .before .source-known .ensures) ∙ c .if2 .left))
+returns-2 c =
+    let c3 = c .before .before .before in
+    sym (passes _ (sym (c3 .before .version-known .ensures) ∙ c .before .before .before .if1 .taken)
+    ∙ fails _ (sym (c .before .source-known .ensures) ∙ c .if2 .left))
 
 returns-3 : tie.Need-returns-3
 unfolding stateKnown part

@@ -66,7 +66,17 @@ pending-of-requires c κs = search needs
 
 returns : tie.Need-returns
 unfolding stateOf part
-returns c = λ i. record { effort = c .before .before .before .before .before .before .before .before .tries-of .ensures i; version = c .before .before .before .before .before .before .version-of .ensures i; polls = c .before .before .before .before .polls-of .ensures i; source = c .before .before .source-of .ensures i; request = c .pending-of .ensures i }
+returns c =
+    let c3 = c .before .before .before in
+    let c6 = c3 .before .before .before in
+    λ i. record {
+      effort = c6 .before .before .tries-of .ensures i;
+      version = c6 .version-of .ensures i;
+      polls = c3 .before .polls-of .ensures i;
+      source
+          = c .before .before .source-of .ensures i;
+      request = c .pending-of .ensures i;
+    }
 
 pub state-of-spec : {M : Type 1} → statement M
 state-of-spec =

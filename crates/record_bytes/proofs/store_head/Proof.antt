@@ -48,10 +48,14 @@ store-state-requires c κs = search needs
 
 same-length : tie.Need-same-length
 same-length c =
-    let args = c .before .before .before .before .before .before .before .before .before .before .before .before .args in
-    let if1 = c .before .before .before .before .before .before .before .before .before .before .if1 in
-    let settings-bytes = c .before .before .before .before .before .before .before .before .before .settings-bytes in
-    let copy = c .before .before .before .before .before .before .copy in
+    let c3 = c .before .before .before in
+    let c6 = c3 .before .before .before in
+    let c9 = c6 .before .before .before in
+    let c12 = c9 .before .before .before in
+    let args = c12 .args in
+    let if1 = c9 .before .if1 in
+    let settings-bytes = c9 .settings-bytes in
+    let copy = c6 .copy in
     let b = args .b .now in
     let S = settingsBytes (args .settings) in
     let e = copied (take 27 b) S _ _ (settings-bytes .ensures) (omega (arith, settings-long (args .settings), length-take 27 b)) (copy .ensures .1) in
@@ -59,11 +63,15 @@ same-length c =
 
 returns-2 : tie.Need-returns-2
 returns-2 c =
-    let args = c .before .before .before .before .before .before .before .before .before .before .before .before .args in
-    let good = c .before .before .before .before .before .before .before .before .before .before .before .before .good in
-    let if1 = c .before .before .before .before .before .before .before .before .before .before .if1 in
-    let settings-bytes = c .before .before .before .before .before .before .before .before .before .settings-bytes in
-    let copy = c .before .before .before .before .before .before .copy in
+    let c3 = c .before .before .before in
+    let c6 = c3 .before .before .before in
+    let c9 = c6 .before .before .before in
+    let c12 = c9 .before .before .before in
+    let args = c12 .args in
+    let good = c12 .good in
+    let if1 = c9 .before .if1 in
+    let settings-bytes = c9 .settings-bytes in
+    let copy = c6 .copy in
     let store-state = c .before .before .store-state in
     let b = args .b .now in
     let S = settingsBytes (args .settings) in

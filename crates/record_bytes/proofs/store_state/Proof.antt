@@ -37,14 +37,17 @@ same-length c = search needs
 
 returns-2 : tie.Need-returns-2
 returns-2 c =
-    let good = c .before .before .before .before .before .before .before .before .good in
-    let args = c .before .before .before .before .before .before .before .before .args in
-    let if1 = c .before .before .before .before .before .before .if1 in
-    let state-bytes = c .before .before .before .before .before .state-bytes in
+    let c3 = c .before .before .before in
+    let c6 = c3 .before .before .before in
+    let good = c6 .before .before .good in
+    let args = c6 .before .before .args in
+    let if1 = c6 .if1 in
+    let state-bytes = c3 .before .before .state-bytes in
     let b = args .b .now in
     let s = args .s in
     let f = state-fit s _ (good .1 .0) in
-    let e = copied (take 63 (drop 29 b)) (stateBytes s) _ _ (state-bytes .ensures) (omega (arith, state-long s (f .request .uid), length-take 63 (drop 29 b))) (c .before .before .copy .ensures .1) in
+    let e = copied (take 63 (drop 29 b)) (stateBytes s) _ _ (state-bytes .ensures) (omega (arith, state-long s (f .request .uid), length-take 63 (drop 29 b)))
+    (c .before .before .copy .ensures .1) in
     (state-by b (omega (arith, if1 .left)) s _ e, f)
 
 pub store-state-spec : {M : Type 1} → statement M

@@ -18,7 +18,9 @@ copy-requires : tie.Need-copy-requires
 copy-requires c κs = search needs
 
 returns : tie.Need-returns
-returns c = c .before .copy .ensures .1 ∙ copied (c .before .before .before .before .args .b .now) (c .before .before .before .before .pre)
+returns c =
+    let c3 = c .before .before .before in
+    c .before .copy .ensures .1 ∙ copied (c3 .before .args .b .now) (c3 .before .pre)
 
 pub uid-of-spec : {M : Type 1} → statement M
 uid-of-spec = tie.close (tie.spec slice-aggregate-copy copy-requires returns)

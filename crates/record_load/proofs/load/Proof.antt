@@ -25,22 +25,46 @@ add-if1 : tie.Need-add-if1
 add-if1 c = search needs
 
 returns : tie.Need-returns
-returns c = let a = c .before .before .before .before .before .before .before .before .before .before .args in told-31 (a .b .now) (a .file .now) (c .before .before .before .before .before .before .before .read .result) (c .before .before .before .before .before .before .before .read .ensures) _ (c .before .before .before .answer .given .1) (c .if1 .taken)
+returns c =
+    let c3 = c .before .before .before in
+    let c6 = c3 .before .before .before in
+    let c9 = c6 .before .before .before in
+    let a = c9 .before .args in told-31 (a .b .now) (a .file .now) (c6 .before .read .result) (c6 .before .read .ensures) _
+    (c .before .before .before .answer .given .1) (c .if1 .taken)
 
 sub-write : tie.Need-sub-write
-sub-write c = let a = c .before .before .before .before .before .before .before .before .before .before .before .args in let w = found-is (a .file .now) (c .before .before .before .before .before .before .before .before .read .result) (c .before .before .before .before .before .before .before .before .read .ensures) _ (c .before .before .before .before .answer .given .1) in omega (arith, w .ordered)
+sub-write c =
+    let c3 = c .before .before .before in
+    let c6 = c3 .before .before .before in
+    let c9 = c6 .before .before .before in
+    let a = c9 .before .before .args in let w = found-is (a .file .now) (c6 .before .before .read .result) (c6 .before .before .read .ensures) _
+    (c3 .before .answer .given .1) in omega (arith, w .ordered)
 
 part-write-start : tie.Need-part-write-start
-part-write-start c = let a = c .before .before .before .before .before .before .before .before .before .before .before .args in let w = found-is (a .file .now) (c .before .before .before .before .before .before .before .before .read .result) (c .before .before .before .before .before .before .before .before .read .ensures) _ (c .before .before .before .before .answer .given .1) in omega (arith, w .ordered)
+part-write-start c =
+    let c3 = c .before .before .before in
+    let c6 = c3 .before .before .before in
+    let c9 = c6 .before .before .before in
+    let a = c9 .before .before .args in let w = found-is (a .file .now) (c6 .before .before .read .result) (c6 .before .before .read .ensures) _
+    (c3 .before .answer .given .1) in omega (arith, w .ordered)
 
 part-write-end : tie.Need-part-write-end
-part-write-end c = let a = c .before .before .before .before .before .before .before .before .before .before .before .args in let w = found-is (a .file .now) (c .before .before .before .before .before .before .before .before .read .result) (c .before .before .before .before .before .before .before .before .read .ensures) _ (c .before .before .before .before .answer .given .1) in omega (arith, w .inside)
+part-write-end c =
+    let c3 = c .before .before .before in
+    let c6 = c3 .before .before .before in
+    let c9 = c6 .before .before .before in
+    let a = c9 .before .before .args in let w = found-is (a .file .now) (c6 .before .before .read .result) (c6 .before .before .read .ensures) _
+    (c3 .before .answer .given .1) in omega (arith, w .inside)
 
 write-requires : tie.Need-write-requires
 unfolding part
 write-requires c κs =
-    let a = c .before .before .before .before .before .before .before .before .before .before .before .before .args in
-    let w = found-is (a .file .now) (c .before .before .before .before .before .before .before .before .before .read .result) (c .before .before .before .before .before .before .before .before .before .read .ensures) _ (c .before .before .before .before .before .answer .given .1) in
+    let c3 = c .before .before .before in
+    let c6 = c3 .before .before .before in
+    let c9 = c6 .before .before .before in
+    let c12 = c9 .before .before .before in
+    let a = c12 .args in
+    let w = found-is (a .file .now) (c9 .read .result) (c9 .read .ensures) _ (c3 .before .before .answer .given .1) in
     (record { most = known-most _ _ (w .known) .0; long = c .before .before .if1 .left }, w .fits, w .known)
 
 enum-told : tie.Need-enum-told
@@ -66,25 +90,47 @@ same-length c = search needs
 
 returns-2 : tie.Need-returns-2
 unfolding part
-returns-2 c = let a = c .before .before .before .before .before .before .before .before .before .before .before .before .before .before .before .args in told-0 (a .b .now) (a .file .now) (c .before .before .before .before .before .before .before .before .before .before .before .before .read .result) (c .before .before .before .before .before .before .before .before .before .before .before .before .read .ensures) _ (c .before .before .before .before .before .before .before .before .answer .given .1) (c .before .before .before .before .before .if1 .left) _ (c .before .before .write .ensures)
+returns-2 c =
+    let c3 = c .before .before .before in
+    let c6 = c3 .before .before .before in
+    let c9 = c6 .before .before .before in
+    let c12 = c9 .before .before .before in
+    let c15 = c12 .before .before .before in
+    let a = c15 .args in told-0 (a .b .now) (a .file .now) (c12 .read .result) (c12 .read .ensures) _ (c6 .before .before .answer .given .1)
+    (c3 .before .before .if1 .left) _ (c .before .before .write .ensures)
 
 same-length-2 : tie.Need-same-length-2
 same-length-2 c = search needs
 
 returns-3 : tie.Need-returns-3
-returns-3 c = let a = c .before .before .before .before .before .before .before .before .before .before .before .args in told-61 (a .b .now) (a .file .now) (c .before .before .before .before .before .before .before .before .read .result) (c .before .before .before .before .before .before .before .before .read .ensures) _ _ (c .before .before .refused .ensures .1) (c .before .before .before .before .enum-told .given .1) (c .before .before .refused .ensures .0)
+returns-3 c =
+    let c3 = c .before .before .before in
+    let c6 = c3 .before .before .before in
+    let c9 = c6 .before .before .before in
+    let a = c9 .before .before .args in told-61 (a .b .now) (a .file .now) (c6 .before .before .read .result) (c6 .before .before .read .ensures) _ _
+    (c .before .before .refused .ensures .1) (c3 .before .enum-told .given .1) (c .before .before .refused .ensures .0)
 
 same-length-3 : tie.Need-same-length-3
 same-length-3 c = search needs
 
 returns-4 : tie.Need-returns-4
-returns-4 c = let a = c .before .before .before .before .before .before .before .before .before .before .before .args in told-62 (a .b .now) (a .file .now) (c .before .before .before .before .before .before .before .before .read .result) (c .before .before .before .before .before .before .before .before .read .ensures) _ _ (c .before .before .refused2 .ensures .1) (c .before .before .before .before .enum-told2 .given .1) (c .before .before .refused2 .ensures .0)
+returns-4 c =
+    let c3 = c .before .before .before in
+    let c6 = c3 .before .before .before in
+    let c9 = c6 .before .before .before in
+    let a = c9 .before .before .args in told-62 (a .b .now) (a .file .now) (c6 .before .before .read .result) (c6 .before .before .read .ensures) _ _
+    (c .before .before .refused2 .ensures .1) (c3 .before .enum-told2 .given .1) (c .before .before .refused2 .ensures .0)
 
 same-length-4 : tie.Need-same-length-4
 same-length-4 c = search needs
 
 returns-5 : tie.Need-returns-5
-returns-5 c = let a = c .before .before .before .before .before .before .before .before .before .before .before .args in told-63 (a .b .now) (a .file .now) (c .before .before .before .before .before .before .before .before .read .result) (c .before .before .before .before .before .before .before .before .read .ensures) _ _ (c .before .before .refused3 .ensures .1) (c .before .before .before .before .enum-told3 .given .1) (c .before .before .refused3 .ensures .0)
+returns-5 c =
+    let c3 = c .before .before .before in
+    let c6 = c3 .before .before .before in
+    let c9 = c6 .before .before .before in
+    let a = c9 .before .before .args in told-63 (a .b .now) (a .file .now) (c6 .before .before .read .result) (c6 .before .before .read .ensures) _ _
+    (c .before .before .refused3 .ensures .1) (c3 .before .enum-told3 .given .1) (c .before .before .refused3 .ensures .0)
 
 pub load-spec : {M : Type 1} → statement M
 load-spec =

@@ -20,12 +20,18 @@ same-length c = search needs
 
 returns : tie.Need-returns
 returns c =
-    let args = c .before .before .before .before .before .before .before .before .before .before .before .before .before .before .before .args in
-    let pre = c .before .before .before .before .before .before .before .before .before .before .before .before .before .before .before .pre in
-    let clear = c .before .before .before .before .before .before .before .before .before .before .before .clear in
-    let fresh-state = c .before .before .before .before .before .before .before .before .fresh-state in
-    let store-head = c .before .before .before .before .before .before .store-head in
-    make-is (args .settings) (args .list .now) (args .b .now) pre (fresh-state .result) (store-head .ensures .2) (fresh-state .ensures) _ _ (clear .ensures) (store-head .ensures .0) _ (c .before .before .refill .ensures)
+    let c3 = c .before .before .before in
+    let c6 = c3 .before .before .before in
+    let c9 = c6 .before .before .before in
+    let c12 = c9 .before .before .before in
+    let c15 = c12 .before .before .before in
+    let args = c15 .args in
+    let pre = c15 .pre in
+    let clear = c9 .before .before .clear in
+    let fresh-state = c6 .before .before .fresh-state in
+    let store-head = c6 .store-head in
+    make-is (args .settings) (args .list .now) (args .b .now) pre (fresh-state .result) (store-head .ensures .2) (fresh-state .ensures) _ _ (clear .ensures)
+    (store-head .ensures .0) _ (c .before .before .refill .ensures)
 
 pub make-spec : {M : Type 1} → statement M
 make-spec =

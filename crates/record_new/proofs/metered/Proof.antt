@@ -25,8 +25,12 @@ same-length c = search needs
 
 returns : tie.Need-returns
 returns c =
-    let call = metered-calls (c .before .before .before .before .before .before .before .before .before .before .args .settings) (c .before .before .before .before .before .before .before .before .before .before .args .list .now) (c .before .before .before .before .before .before .before .before .before .before .args .b .now) in
-    told-refused call _ (c .before .before .before .before .before .before .before .profile .ensures) _ (c .before .before .before .before .before .number .ensures) (c .before .before .before .before .if1 .taken) (c .before .before .before .before .before .before .none .ensures) (c .before .before .clear .ensures)
+    let c3 = c .before .before .before in
+    let c6 = c3 .before .before .before in
+    let c9 = c6 .before .before .before in
+    let call = metered-calls (c9 .before .args .settings) (c9 .before .args .list .now) (c9 .before .args .b .now) in
+    told-refused call _ (c6 .before .profile .ensures) _ (c3 .before .before .number .ensures) (c3 .before .if1 .taken) (c6 .none .ensures)
+    (c .before .before .clear .ensures)
 
 sized-requires : tie.Need-sized-requires
 sized-requires c κs = search needs
@@ -36,12 +40,19 @@ same-length-2 c = search needs
 
 returns-2 : tie.Need-returns-2
 returns-2 c =
-    let call = metered-calls (c .before .before .before .before .before .before .before .before .before .args .settings) (c .before .before .before .before .before .before .before .before .before .args .list .now) (c .before .before .before .before .before .before .before .before .before .args .b .now) in
-    told-wrong call _ (c .before .before .before .before .before .before .profile .ensures) _ (c .before .before .before .before .number .ensures) (c .before .before .before .if1 .left) (sym (c .before .sized .ensures) ∙ not-true _ (c .if2 .taken)) (c .before .before .before .before .before .none .ensures)
+    let c3 = c .before .before .before in
+    let c6 = c3 .before .before .before in
+    let c9 = c6 .before .before .before in
+    let call = metered-calls (c9 .args .settings) (c9 .args .list .now) (c9 .args .b .now) in
+    told-wrong call _ (c6 .profile .ensures) _ (c3 .before .number .ensures) (c .before .before .before .if1 .left)
+    (sym (c .before .sized .ensures) ∙ not-true _ (c .if2 .taken)) (c3 .before .before .none .ensures)
 
 make-requires : tie.Need-make-requires
 make-requires c κs =
-    let args = c .before .before .before .before .before .before .before .before .before .before .args in
+    let c3 = c .before .before .before in
+    let c6 = c3 .before .before .before in
+    let c9 = c6 .before .before .before in
+    let args = c9 .before .args in
     sized-of (args .b .now) (args .settings .capacity) (sym (c .before .before .sized .ensures) ∙ not-false _ (c .before .if2 .left))
 
 same-length-3 : tie.Need-same-length-3
@@ -49,8 +60,13 @@ same-length-3 c = search needs
 
 returns-3 : tie.Need-returns-3
 returns-3 c =
-    let call = metered-calls (c .before .before .before .before .before .before .before .before .before .before .before .before .before .args .settings) (c .before .before .before .before .before .before .before .before .before .before .before .before .before .args .list .now) (c .before .before .before .before .before .before .before .before .before .before .before .before .before .args .b .now) in
-    told-made call _ (c .before .before .before .before .before .before .before .before .before .before .profile .ensures) _ (c .before .before .before .before .before .before .before .before .number .ensures) (c .before .before .before .before .before .before .before .if1 .left) (sym (c .before .before .before .before .before .sized .ensures) ∙ not-false _ (c .before .before .before .before .if2 .left)) (c .before .before .make .ensures)
+    let c3 = c .before .before .before in
+    let c6 = c3 .before .before .before in
+    let c9 = c6 .before .before .before in
+    let c12 = c9 .before .before .before in
+    let call = metered-calls (c12 .before .args .settings) (c12 .before .args .list .now) (c12 .before .args .b .now) in
+    told-made call _ (c9 .before .profile .ensures) _ (c6 .before .before .number .ensures) (c6 .before .if1 .left)
+    (sym (c3 .before .before .sized .ensures) ∙ not-false _ (c3 .before .if2 .left)) (c .before .before .make .ensures)
 
 pub metered-spec : {M : Type 1} → statement M
 metered-spec =

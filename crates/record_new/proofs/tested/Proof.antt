@@ -28,9 +28,11 @@ is-upgrading-requires c κs = search needs
 returns-3 : tie.Need-returns-3
 unfolding newOf
 returns-3 c =
-    let valid = c .before .before .before .before .before .before .valid in
-    let if1 = c .before .before .before .before .before .if1 in
-    let list-broken = c .before .before .before .before .list-broken in
+    let c3 = c .before .before .before in
+    let c6 = c3 .before .before .before in
+    let valid = c6 .valid in
+    let if1 = c3 .before .before .if1 in
+    let list-broken = c3 .before .list-broken in
     let v = sym (valid .ensures) ∙ not-false _ (if1 .left) in
     let l = sym (list-broken .ensures) ∙ c .before .before .before .if2 .left in
     let u = sym (c .before .is-upgrading .ensures) ∙ c .if3 .taken in
@@ -39,9 +41,11 @@ returns-3 c =
 returns-4 : tie.Need-returns-4
 unfolding newOf
 returns-4 c =
-    let valid = c .before .before .before .before .before .before .valid in
-    let if1 = c .before .before .before .before .before .if1 in
-    let list-broken = c .before .before .before .before .list-broken in
+    let c3 = c .before .before .before in
+    let c6 = c3 .before .before .before in
+    let valid = c6 .valid in
+    let if1 = c3 .before .before .if1 in
+    let list-broken = c3 .before .list-broken in
     let v = sym (valid .ensures) ∙ not-false _ (if1 .left) in
     let l = sym (list-broken .ensures) ∙ c .before .before .before .if2 .left in
     let u = sym (c .before .is-upgrading .ensures) ∙ c .if3 .left in

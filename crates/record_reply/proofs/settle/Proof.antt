@@ -19,8 +19,11 @@ same-length c = search needs
 returns : tie.Need-returns
 unfolding settledIn
 returns c =
-    let args = c .before .before .before .before .before .before .before .before .before .before .before .args in
-    let store-state = c .before .before .before .before .before .before .store-state in
+    let c3 = c .before .before .before in
+    let c6 = c3 .before .before .before in
+    let c9 = c6 .before .before .before in
+    let args = c9 .before .before .args in
+    let store-state = c6 .store-state in
     let v = args .verdict in
     let mid = ap (λ (b : List ℕ). refilledIn (args .capacity) (v .stores) (args .list .now) b) (store-state .ensures .0) in
     (ap (answered (v .answer)) (c .before .before .refill .ensures ∙ mid), store-state .ensures .1)

@@ -22,7 +22,9 @@ same-length : tie.Need-same-length
 same-length c = search needs
 
 returns : tie.Need-returns
-returns c = emptied (c .before .before .before .before .before .args .capacity) (c .before .before .before .before .before .args .b .now) (c .before .before .before .before .before .pre) _ (c .before .before .clear .ensures)
+returns c =
+    let c3 = c .before .before .before in
+    emptied (c3 .before .before .args .capacity) (c3 .before .before .args .b .now) (c3 .before .before .pre) _ (c .before .before .clear .ensures)
 
 pub empty-spec : {M : Type 1} → statement M
 empty-spec =

@@ -28,7 +28,9 @@ cast-n c = omega (arith, c .shared-slice-known3 .given 28)
 
 loop-holds : tie.Need-loop-holds Inv-loop μ-loop
 unfolding stashIn
-loop-holds c = begins _ _ _ (stashIn (c .before .before .before .before .args .b .now) (c .before .before .before .before .args .capacity)) (c .before .before .before .before .pre .1)
+loop-holds c =
+    let c3 = c .before .before .before in
+    begins _ _ _ (stashIn (c3 .before .args .b .now) (c3 .before .args .capacity)) (c3 .before .pre .1)
 
 mul-put-cookie : tie.Need-mul-put-cookie Inv-loop μ-loop
 mul-put-cookie c = let i = c .before .before .loop .inv in omega (arith, i .places, i .most)
@@ -38,11 +40,19 @@ add-put-cookie c = let i = c .before .before .loop .inv in omega (arith, i .plac
 
 put-cookie-requires : tie.Need-put-cookie-requires Inv-loop μ-loop
 put-cookie-requires c κs =
-    let l = c .before .before .loop in let a = c .before .before .before .before .before .before .before .args in let p = c .before .before .before .before .before .before .before .pre in let s = stashIn (a .b .now) (a .capacity) in
-    (omega (arith, l .inv .places, p .0 .long), row-whole (a .capacity) (a .b .now) (p .0) (l .place) (l .inv .places) (p .1), row-fits (a .capacity) (a .b .now) (p .0) (l .place) (l .inv .places) _ _ (fits-next _ _ _ s (p .2) _ _ (l .place) (l .n) (l .inv) (omega arith)))
+    let c3 = c .before .before .before in
+    let c6 = c3 .before .before .before in
+    let l = c .before .before .loop in let a = c6 .before .args in let p = c6 .before .pre in let s = stashIn (a .b .now) (a .capacity) in (
+      omega (arith, l .inv .places, p .0 .long),
+      row-whole (a .capacity) (a .b .now) (p .0) (l .place) (l .inv .places) (p .1),
+      row-fits (a .capacity)
+          (a .b .now) (p .0) (l .place) (l .inv .places) _ _ (fits-next _ _ _ s (p .2) _ _ (l .place) (l .n) (l .inv) (omega arith)),
+    )
 
 add-wrapped : tie.Need-add-wrapped Inv-loop μ-loop
-add-wrapped c = let i = c .before .before .before .before .before .loop .inv in omega (arith, i .places, i .most)
+add-wrapped c =
+    let c3 = c .before .before .before in
+    let i = c3 .before .before .loop .inv in omega (arith, i .places, i .most)
 
 wrapped-requires : tie.Need-wrapped-requires Inv-loop μ-loop
 wrapped-requires c κs = search needs
@@ -55,14 +65,21 @@ loop-less c = omega arith
 
 loop-again : tie.Need-loop-again Inv-loop μ-loop
 loop-again c =
-    let l = c .before .before .before .before .before .before .loop in let a = c .before .before .before .before .before .before .before .before .before .before .before .args in let p = c .before .before .before .before .before .before .before .before .before .before .before .pre in
-    writes-next _ _ _ (stashIn (a .b .now) (a .capacity)) (p .2) _ _ (l .place) (l .n) (l .inv) (omega arith) _ _ _ (row-put (a .capacity) (a .b .now) (p .0) (l .place) (l .inv .places) (c .before .before .before .put-cookie .ensures)) (c .wrapped .ensures)
+    let c3 = c .before .before .before in
+    let c6 = c3 .before .before .before in
+    let c9 = c6 .before .before .before in
+    let l = c6 .loop in let a = c9 .before .before .args in let p = c9 .before .before .pre in
+    writes-next _ _ _ (stashIn (a .b .now) (a .capacity)) (p .2) _ _ (l .place) (l .n) (l .inv) (omega arith) _ _ _
+    (row-put (a .capacity) (a .b .now) (p .0) (l .place) (l .inv .places) (c .before .before .before .put-cookie .ensures)) (c .wrapped .ensures)
 
 same-length : tie.Need-same-length Inv-loop μ-loop
 same-length c = c .before .loop .inv .long
 
 returns : tie.Need-returns Inv-loop μ-loop
-returns c = let l = c .before .loop in let a = c .before .before .before .before .before .before .args in written _ _ _ (stashIn (a .b .now) (a .capacity)) (c .before .before .before .before .before .before .pre .2) _ _ (l .place) (l .n) (l .inv) (omega arith)
+returns c =
+    let c3 = c .before .before .before in
+    let c6 = c3 .before .before .before in
+    let l = c .before .loop in let a = c6 .args in written _ _ _ (stashIn (a .b .now) (a .capacity)) (c6 .pre .2) _ _ (l .place) (l .n) (l .inv) (omega arith)
 
 pub put-cookies-spec : {M : Type 1} → statement M
 put-cookies-spec =

@@ -12,8 +12,10 @@ lay-settings-requires c κs = search needs
 
 put-stash-requires : tie.Need-put-stash-requires
 put-stash-requires c κs =
-    let p = c .before .before .before .before .before .before .before .pre in
-    let l = settings-record-long (c .before .before .before .before .before .before .before .args .settings) in
+    let c3 = c .before .before .before in
+    let c6 = c3 .before .before .before in
+    let p = c6 .before .pre in
+    let l = settings-record-long (c6 .before .args .settings) in
     let first = laid-put _ _ _ (c .before .before .before .lay-settings .ensures) (omega (arith, l, p .4)) in
     (p .0, p .1, p .2, p .3, omega (arith, l, p .4, first .ends, c .before .before .before .lay-settings .kept .0))
 
@@ -25,12 +27,26 @@ same-length c = search needs
 
 returns : tie.Need-returns
 returns c =
-    let a = c .before .before .before .before .before .before .before .before .before .before .before .before .before .before .args in
-    let p = c .before .before .before .before .before .before .before .before .before .before .before .before .before .before .pre in
+    let c3 = c .before .before .before in
+    let c6 = c3 .before .before .before in
+    let c9 = c6 .before .before .before in
+    let c12 = c9 .before .before .before in
+    let a = c12 .before .before .args in
+    let p = c12 .before .before .pre in
     let l = settings-record-long (a .settings) in
-    let first = laid-put _ _ _ (c .before .before .before .before .before .before .before .before .before .before .lay-settings .ensures) (omega (arith, l, p .4)) in
-    let stash = c .before .before .before .before .before .before .put-stash .ensures .1 in
-    let last = laid-put _ _ _ (c .before .before .lay-state .ensures) (omega (arith, l, state-records-long (a .state), p .4, first .ends, c .before .before .before .before .before .before .before .before .before .before .lay-settings .kept .0, c .before .before .before .before .before .before .put-stash .kept .0, c .before .before .before .before .before .before .put-stash .ensures .0)) in
+    let first = laid-put _ _ _ (c9 .before .lay-settings .ensures) (omega (arith, l, p .4)) in
+    let stash = c6 .put-stash .ensures .1 in
+    let last = laid-put _ _ _ (c .before .before .lay-state .ensures)
+    (omega (
+      arith,
+      l,
+      state-records-long (a .state),
+      p .4,
+      first .ends,
+      c9 .before .lay-settings .kept .0,
+      c6 .put-stash .kept .0,
+      c6 .put-stash .ensures .0,
+    )) in
     file-put (a .settings) (stashIn (a .b .now) (a .settings .capacity)) (a .state) refl first stash last (omega (arith, p .2, p .4))
 
 pub put-file-spec : {M : Type 1} → statement M

@@ -33,27 +33,43 @@ lay-requires-2 c κs = search needs
 
 put-cookies-requires : tie.Need-put-cookies-requires
 put-cookies-requires c κs =
-    let a = c .before .before .before .before .before .before .before .before .before .before .before .before .before .before .before .args in
-    let p = c .before .before .before .before .before .before .before .before .before .before .before .before .before .before .before .pre in
+    let c3 = c .before .before .before in
+    let c6 = c3 .before .before .before in
+    let c9 = c6 .before .before .before in
+    let c12 = c9 .before .before .before in
+    let c15 = c12 .before .before .before in
+    let a = c15 .args in
+    let p = c15 .pre in
     let l = stash-long (a .capacity) (stashIn (a .b .now) (a .capacity)) in
-    let head = laid-put _ _ _ (c .before .before .before .before .before .before .before .before .before .lay .ensures) (omega (arith, p .4)) in
-    let place = laid-put _ _ _ (c .before .before .before .lay2 .ensures) (omega (arith, l, p .2, p .4, head .ends, c .before .before .before .before .before .before .before .before .before .lay .kept .0)) in
-    (p .0, p .1, omega (arith, l, p .2, p .4, head .ends, c .before .before .before .before .before .before .before .before .before .lay .kept .0, place .ends, c .before .before .before .lay2 .kept .0))
+    let head = laid-put _ _ _ (c9 .lay .ensures) (omega (arith, p .4)) in
+    let place = laid-put _ _ _ (c .before .before .before .lay2 .ensures) (omega (arith, l, p .2, p .4, head .ends, c9 .lay .kept .0)) in
+    (p .0, p .1, omega (arith, l, p .2, p .4, head .ends, c9 .lay .kept .0, place .ends, c .before .before .before .lay2 .kept .0))
 
 same-length : tie.Need-same-length
-same-length c = omega (arith, c .before .before .before .before .before .before .before .before .before .before .before .before .lay .kept .0, c .before .before .before .before .before .before .lay2 .kept .0, c .before .before .put-cookies .kept .0)
+same-length c =
+    let c3 = c .before .before .before in
+    let c6 = c3 .before .before .before in
+    let c9 = c6 .before .before .before in
+    let c12 = c9 .before .before .before in
+    omega (arith, c12 .lay .kept .0, c6 .lay2 .kept .0, c .before .before .put-cookies .kept .0)
 
 returns : tie.Need-returns
 returns c =
-    let a = c .before .before .before .before .before .before .before .before .before .before .before .before .before .before .before .before .before .before .args in
-    let p = c .before .before .before .before .before .before .before .before .before .before .before .before .before .before .before .before .before .before .pre in
+    let c3 = c .before .before .before in
+    let c6 = c3 .before .before .before in
+    let c9 = c6 .before .before .before in
+    let c12 = c9 .before .before .before in
+    let c15 = c12 .before .before .before in
+    let c18 = c15 .before .before .before in
+    let a = c18 .args in
+    let p = c18 .pre in
     let s = stashIn (a .b .now) (a .capacity) in
     let l = stash-long (a .capacity) s in
-    let head = laid-put _ _ _ (c .before .before .before .before .before .before .before .before .before .before .before .before .lay .ensures) (omega (arith, p .4)) in
-    let place = laid-put _ _ _ (c .before .before .before .before .before .before .lay2 .ensures) (omega (arith, l, p .2, p .4, head .ends, c .before .before .before .before .before .before .before .before .before .before .before .before .lay .kept .0)) in
+    let head = laid-put _ _ _ (c12 .lay .ensures) (omega (arith, p .4)) in
+    let place = laid-put _ _ _ (c6 .lay2 .ensures) (omega (arith, l, p .2, p .4, head .ends, c12 .lay .kept .0)) in
     let cookies = c .before .before .put-cookies .ensures in (
       omega (arith, p .2, l, head .ends, place .ends, cookies .ends),
-      stash-put (a .capacity) s (c .before .before .before .before .before .before .before .before .before .before .before .before .before .before .before .head .ensures) (p .2) (ap (λ (x : ℕ). x ∷ []) (sym (reads (a .capacity) (a .b .now)))) head place cookies
+      stash-put (a .capacity) s (c15 .head .ensures) (p .2) (ap (λ (x : ℕ). x ∷ []) (sym (reads (a .capacity) (a .b .now)))) head place cookies
           (omega (arith, p .2, p .4, l)),
     )
 

@@ -41,7 +41,9 @@ add-be16-at-2 : tie.Need-add-be16-at-2 Inv-loop μ-loop
 add-be16-at-2 c = let i = c .before .loop .inv in omega (arith, i .places, i .most)
 
 be16-at-requires : tie.Need-be16-at-requires Inv-loop μ-loop
-be16-at-requires c κs = let i = c .before .loop .inv in omega (arith, i .places, i .most, c .before .before .before .before .before .pre .0 .long)
+be16-at-requires c κs =
+    let c3 = c .before .before .before in
+    let i = c .before .loop .inv in omega (arith, i .places, i .most, c3 .before .before .pre .0 .long)
 
 add-sum : tie.Need-add-sum Inv-loop μ-loop
 add-sum c = let i = c .before .before .loop .inv in omega (arith, i .small, i .few)
@@ -53,7 +55,8 @@ stored-bytes-requires : tie.Need-stored-bytes-requires Inv-loop μ-loop
 stored-bytes-requires c κs = search needs
 
 add-sum-2 : tie.Need-add-sum-2 Inv-loop μ-loop
-add-sum-2 c = let i = c .before .before .before .loop .inv in omega (arith, i .small, i .few, stored-bounds (c .before .be16-at .result), c .stored-bytes .ensures)
+add-sum-2 c =
+    let i = c .before .before .before .loop .inv in omega (arith, i .small, i .few, stored-bounds (c .before .be16-at .result), c .stored-bytes .ensures)
 
 add-wrapped : tie.Need-add-wrapped Inv-loop μ-loop
 add-wrapped c = let i = c .before .before .before .loop .inv in omega (arith, i .places, i .most)
@@ -69,11 +72,19 @@ loop-less c = omega arith
 
 loop-again : tie.Need-loop-again Inv-loop μ-loop
 loop-again c =
-    let l = c .before .before .before .before .loop in let a = c .before .before .before .before .before .before .before .before .args in
-    sum-next _ (stashIn (a .b .now) (a .capacity)) (c .before .before .before .before .before .before .before .before .pre .1) _ (l .place) _ (l .inv) (omega arith) _ _ (c .before .stored-bytes .ensures ∙ ap stored (row-len (a .capacity) (a .b .now) (c .before .before .before .before .before .before .before .before .pre .0) (l .place) (l .inv .places) _ (c .before .before .be16-at .ensures))) (c .wrapped .ensures)
+    let c3 = c .before .before .before in
+    let c6 = c3 .before .before .before in
+    let l = c3 .before .loop in let a = c6 .before .before .args in
+    sum-next _ (stashIn (a .b .now) (a .capacity)) (c6 .before .before .pre .1) _ (l .place) _ (l .inv) (omega arith) _ _
+    (c .before .stored-bytes .ensures ∙ ap stored
+    (row-len (a .capacity) (a .b .now) (c6 .before .before .pre .0) (l .place) (l .inv .places) _ (c .before .before .be16-at .ensures)))
+    (c .wrapped .ensures)
 
 returns : tie.Need-returns Inv-loop μ-loop
-returns c = let l = c .before .loop in let a = c .before .before .before .before .before .args in summed _ (stashIn (a .b .now) (a .capacity)) (c .before .before .before .before .before .pre .1) _ (l .place) (l .n) (l .inv) (omega arith)
+returns c =
+    let c3 = c .before .before .before in
+    let l = c .before .loop in let a = c3 .before .before .args in
+    summed _ (stashIn (a .b .now) (a .capacity)) (c3 .before .before .pre .1) _ (l .place) (l .n) (l .inv) (omega arith)
 
 pub stash-length-spec : {M : Type 1} → statement M
 stash-length-spec =

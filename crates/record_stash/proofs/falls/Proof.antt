@@ -21,25 +21,29 @@ cast-held c = omega (arith, c .shared-slice-known3 .given 28)
 
 returns : tie.Need-returns
 returns c =
-    let args = c .before .before .before .before .args in
+    let c3 = c .before .before .before in
+    let args = c3 .before .args in
     sym (none-falls (args .cap) (args .b .now) (c .if1 .taken))
 
 mul-be16-at : tie.Need-mul-be16-at
 mul-be16-at c =
-    let args = c .before .before .before .before .args in
-    let pre = c .before .before .before .before .pre in
+    let c3 = c .before .before .before in
+    let args = c3 .before .args in
+    let pre = c3 .before .pre in
     let w = within (args .cap) (getD (args .b .now) 27 0) (getD (args .b .now) 28 0) (pre .1) in omega (arith, w)
 
 add-be16-at : tie.Need-add-be16-at
 add-be16-at c =
-    let args = c .before .before .before .before .args in
-    let pre = c .before .before .before .before .pre in
+    let c3 = c .before .before .before in
+    let args = c3 .before .args in
+    let pre = c3 .before .pre in
     let w = within (args .cap) (getD (args .b .now) 27 0) (getD (args .b .now) 28 0) (pre .1) in omega (arith, w)
 
 add-be16-at-2 : tie.Need-add-be16-at-2
 add-be16-at-2 c =
-    let args = c .before .before .before .before .args in
-    let pre = c .before .before .before .before .pre in
+    let c3 = c .before .before .before in
+    let args = c3 .before .args in
+    let pre = c3 .before .pre in
     let w = within (args .cap) (getD (args .b .now) 27 0) (getD (args .b .now) 28 0) (pre .1) in omega (arith, w)
 
 be16-at-requires : tie.Need-be16-at-requires
@@ -47,8 +51,9 @@ be16-at-requires c κs = search needs
 
 returns-2 : tie.Need-returns-2
 returns-2 c =
-    let args = c .before .before .before .before .before .args in
-    let pre = c .before .before .before .before .before .pre in
+    let c3 = c .before .before .before in
+    let args = c3 .before .before .args in
+    let pre = c3 .before .before .pre in
     let w = within (args .cap) (getD (args .b .now) 27 0) (getD (args .b .now) 28 0) (pre .1) in
     one-falls (args .cap) (args .b .now) (pre .0) (c .before .if1 .left) (w .1) _ (c .be16-at .ensures)
 

@@ -45,12 +45,18 @@ same-length c = search needs
 
 returns : tie.Need-returns
 returns c =
-    let pre = c .before .before .before .before .before .before .before .before .before .before .before .before .before .before .before .before .pre in
-    let args = c .before .before .before .before .before .before .before .before .before .before .before .before .before .before .before .before .args in
-    let copy = c .before .before .before .before .before .before .before .before .before .before .before .before .copy in
-    let clear = c .before .before .before .before .before .before .before .before .clear in
-    let be16-bytes = c .before .before .before .before .before .be16-bytes in
-    row-kept (args .row .now) (args .kept .now) (args .len) (pre .0) (pre .1) _ refl _ (copy .ensures .1) _ (clear .ensures) _ (be16-bytes .ensures) _ (c .before .before .copy2 .ensures .1)
+    let c3 = c .before .before .before in
+    let c6 = c3 .before .before .before in
+    let c9 = c6 .before .before .before in
+    let c12 = c9 .before .before .before in
+    let c15 = c12 .before .before .before in
+    let pre = c15 .before .pre in
+    let args = c15 .before .args in
+    let copy = c12 .copy in
+    let clear = c6 .before .before .clear in
+    let be16-bytes = c3 .before .before .be16-bytes in
+    row-kept (args .row .now) (args .kept .now) (args .len) (pre .0) (pre .1) _ refl _ (copy .ensures .1) _ (clear .ensures) _ (be16-bytes .ensures) _
+    (c .before .before .copy2 .ensures .1)
 
 pub fill-row-spec : {M : Type 1} → statement M
 fill-row-spec =

@@ -23,8 +23,9 @@ zeros-from-requires c κs = search needs
 
 returns : tie.Need-returns
 returns c =
-    let args = c .before .before .before .before .args in
-    let pre = c .before .before .before .before .pre in
+    let c3 = c .before .before .before in
+    let args = c3 .before .args in
+    let pre = c3 .before .pre in
     c .zeros-from .ensures ∙ padded-none-is (args .b .now) (args .at) _ (args .at + 724 - args .at) (pre .1) (c .before .before .if1 .taken) (omega arith)
 
 sub-zeros-from-2 : tie.Need-sub-zeros-from-2
@@ -44,8 +45,9 @@ zeros-from-requires-2 c κs = search needs
 
 returns-2 : tie.Need-returns-2
 returns-2 c =
-    let args = c .before .before .before .before .before .args in
-    let pre = c .before .before .before .before .before .pre in
+    let c3 = c .before .before .before in
+    let args = c3 .before .before .args in
+    let pre = c3 .before .before .pre in
     c .zeros-from2 .ensures ∙ rw (c .before .stored-bytes .ensures) (padded-is (args .b .now) (args .at) _ (args .at + 724 - args .at) (pre .1) (omega arith))
 
 pub padded-at-spec : {M : Type 1} → statement M

@@ -35,7 +35,8 @@ array-write-lens c = search needs
 
 padded-at-requires : tie.Need-padded-at-requires Inv-loop μ-loop
 padded-at-requires c κs =
-    let pre = c .before .before .before .before .pre in
+    let c3 = c .before .before .before in
+    let pre = c3 .before .pre in
     (omega (arith, pre .long), c .length-at .ensures)
 
 both-requires : tie.Need-both-requires Inv-loop μ-loop
@@ -43,7 +44,9 @@ both-requires c κs = search needs
 
 add-at : tie.Need-add-at Inv-loop μ-loop
 add-at c =
-    let pre = c .before .before .before .before .before .before .pre in
+    let c3 = c .before .before .before in
+    let c6 = c3 .before .before .before in
+    let pre = c6 .pre in
     omega (arith, pre .long, pre .most)
 
 add-i : tie.Need-add-i Inv-loop μ-loop
@@ -54,9 +57,11 @@ loop-less c = omega arith
 
 loop-again : tie.Need-loop-again Inv-loop μ-loop
 loop-again c =
-    let args = c .before .before .before .before .before .before .args in
-    let pre = c .before .before .before .before .before .before .pre in
-    let loop = c .before .before .before .before .loop in
+    let c3 = c .before .before .before in
+    let c6 = c3 .before .before .before in
+    let args = c6 .args in
+    let pre = c6 .pre in
+    let loop = c3 .before .loop in
     let b = args .b .now in
     let cap = args .cap in
     let ahead : Bool → Bool = λ t. t && allPadded (slotsIn b (loop .at + 726) (cap - (loop .i + 1))) in (
@@ -71,7 +76,8 @@ returns c =
     let args = c .before .before .before .args in
     let b = args .b .now in
     let cap = args .cap in
-    let p : c .before .loop .padded ≡ allPadded (slotsIn b 92 cap) = sym (c .before .loop .inv .3 ∙ padded-end b (c .before .loop .at) cap (c .before .loop .i) (c .before .loop .padded) (omega arith)) in
+    let p : c .before .loop .padded ≡ allPadded (slotsIn b 92 cap) = sym
+    (c .before .loop .inv .3 ∙ padded-end b (c .before .loop .at) cap (c .before .loop .i) (c .before .loop .padded) (omega arith)) in
     let l = c .before .loop .inv .2 ∙ lens-all b cap (c .before .loop .i) (omega arith) in
     λ j. record { padded = p j; lens = l j }
 

@@ -24,7 +24,8 @@ returns c =
 
 shared-slice-read-read : tie.Need-shared-slice-read-read
 shared-slice-read-read c =
-    let args = c .before .before .before .before .args in
+    let c3 = c .before .before .before in
+    let args = c3 .before .args in
     let s = sized-of (args .b .now) (args .capacity) (sym (c .before .before .sized .ensures) ∙ not-false _ (c .before .if1 .left)) in omega (arith, s .long)
 
 cast-read : tie.Need-cast-read
@@ -32,22 +33,28 @@ cast-read c = omega (arith, c .shared-slice-known2 .given 27)
 
 shared-slice-read-held : tie.Need-shared-slice-read-held
 shared-slice-read-held c =
-    let args = c .before .before .before .before .before .args in
-    let s = sized-of (args .b .now) (args .capacity) (sym (c .before .before .before .sized .ensures) ∙ not-false _ (c .before .before .if1 .left)) in omega (arith, s .long)
+    let c3 = c .before .before .before in
+    let args = c3 .before .before .args in
+    let s = sized-of (args .b .now) (args .capacity) (sym (c .before .before .before .sized .ensures) ∙ not-false _ (c .before .before .if1 .left)) in
+    omega (arith, s .long)
 
 cast-held : tie.Need-cast-held
 cast-held c = omega (arith, c .shared-slice-known3 .given 28)
 
 sub-zero-rows : tie.Need-sub-zero-rows
 sub-zero-rows c =
-    let args = c .before .before .before .before .before .before .args in
-    let sized = c .before .before .before .before .sized in
+    let c3 = c .before .before .before in
+    let c6 = c3 .before .before .before in
+    let args = c6 .args in
+    let sized = c3 .before .sized in
     let s = sized-of (args .b .now) (args .capacity) (sym (sized .ensures) ∙ not-false _ (c .before .before .before .if1 .left)) in omega (arith, s .long)
 
 part-zero-rows-start : tie.Need-part-zero-rows-start
 part-zero-rows-start c =
-    let args = c .before .before .before .before .before .before .args in
-    let sized = c .before .before .before .before .sized in
+    let c3 = c .before .before .before in
+    let c6 = c3 .before .before .before in
+    let args = c6 .args in
+    let sized = c3 .before .sized in
     let s = sized-of (args .b .now) (args .capacity) (sym (sized .ensures) ∙ not-false _ (c .before .before .before .if1 .left)) in omega (arith, s .long)
 
 part-zero-rows-end : tie.Need-part-zero-rows-end
@@ -61,15 +68,19 @@ seen-empty-requires c κs = search needs
 
 returns-2 : tie.Need-returns-2
 returns-2 c =
-    let args = c .before .before .before .before .before .before .before .before .before .before .args in
-    let sized = c .before .before .before .before .before .before .before .before .sized in
-    let if1 = c .before .before .before .before .before .before .before .if1 in
+    let c3 = c .before .before .before in
+    let c6 = c3 .before .before .before in
+    let c9 = c6 .before .before .before in
+    let args = c9 .before .args in
+    let sized = c6 .before .before .sized in
+    let if1 = c6 .before .if1 in
     let b = args .b .now in
     let cap = args .capacity in
     let e = sym (sized .ensures) ∙ not-false _ (if1 .left) in
     let s = sized-of b cap e in
-    let z : zeros (drop 92 b) ≡ true = ap zeros (sym (take-all (length b - 92) (drop 92 b) (omega (arith, length-drop 92 b)))) ∙ sym (c .before .before .zero-rows .ensures) ∙ c .before .if3 .taken in
-    let none : getD b 28 0 ≡ 0 = c .before .before .before .before .if2 .taken in
+    let z : zeros (drop 92 b) ≡ true = ap zeros (sym (take-all (length b - 92) (drop 92 b) (omega (arith, length-drop 92 b))))
+    ∙ sym (c .before .before .zero-rows .ensures) ∙ c .before .if3 .taken in
+    let none : getD b 28 0 ≡ 0 = c3 .before .if2 .taken in
     c .seen-empty .ensures
     ∙ (λ i. seenFrom cap (getD b 27 0) (sym none i) (sym (empty-padded b cap s z) i) (sym (empty-lens b cap s z) i))
     ∙ seen-in b cap
@@ -77,8 +88,10 @@ returns-2 c =
 
 read-rows-requires : tie.Need-read-rows-requires
 read-rows-requires c κs =
-    let args = c .before .before .before .before .before .before .args in
-    let sized = c .before .before .before .before .sized in
+    let c3 = c .before .before .before in
+    let c6 = c3 .before .before .before in
+    let args = c6 .args in
+    let sized = c3 .before .sized in
     sized-of (args .b .now) (args .capacity) (sym (sized .ensures) ∙ not-false _ (c .before .before .before .if1 .left))
 
 seen-from-requires : tie.Need-seen-from-requires
@@ -86,9 +99,12 @@ seen-from-requires c κs = search needs
 
 returns-3 : tie.Need-returns-3
 returns-3 c =
-    let args = c .before .before .before .before .before .before .before .before .before .args in
-    let sized = c .before .before .before .before .before .before .before .sized in
-    let if1 = c .before .before .before .before .before .before .if1 in
+    let c3 = c .before .before .before in
+    let c6 = c3 .before .before .before in
+    let c9 = c6 .before .before .before in
+    let args = c9 .args in
+    let sized = c6 .before .sized in
+    let if1 = c6 .if1 in
     let read-rows = c .before .before .read-rows in
     let b = args .b .now in
     c .seen-from .ensures

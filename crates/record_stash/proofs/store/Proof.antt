@@ -25,19 +25,26 @@ in-range-requires c κs = search needs
 
 returns : tie.Need-returns
 returns c =
-    let args = c .before .before .before .before .before .before .args in
-    let pre = c .before .before .before .before .before .before .pre in
+    let c3 = c .before .before .before in
+    let c6 = c3 .before .before .before in
+    let args = c6 .args in
+    let pre = c6 .pre in
     out-by (args .capacity) (args .b .now) (args .cookie .now) pre (sym (c .before .in-range .ensures) ∙ not-true _ (c .if1 .taken))
 
 returns-2 : tie.Need-returns-2
 returns-2 c =
-    let pre = c .before .before .before .before .before .before .before .pre in
-    let args = c .before .before .before .before .before .before .before .args in
-    long-by (args .capacity) (args .b .now) (args .cookie .now) pre (sym (c .before .before .in-range .ensures) ∙ not-false _ (c .before .if1 .left)) (c .if2 .taken)
+    let c3 = c .before .before .before in
+    let c6 = c3 .before .before .before in
+    let pre = c6 .before .pre in
+    let args = c6 .before .args in
+    long-by (args .capacity) (args .b .now) (args .cookie .now) pre (sym (c .before .before .in-range .ensures) ∙ not-false _ (c .before .if1 .left))
+    (c .if2 .taken)
 
 falls-requires : tie.Need-falls-requires
 falls-requires c κs =
-    let pre = c .before .before .before .before .before .before .before .before .pre in
+    let c3 = c .before .before .before in
+    let c6 = c3 .before .before .before in
+    let pre = c6 .before .before .pre in
     (pre, sym (c .before .before .before .in-range .ensures) ∙ not-false _ (c .before .before .if1 .left))
 
 stored-bytes-requires : tie.Need-stored-bytes-requires
@@ -48,16 +55,24 @@ cast-put c = search needs
 
 slice-aggregate-put : tie.Need-slice-aggregate-put
 slice-aggregate-put c =
-    let args = c .before .before .before .before .before .before .before .before .before .before .before .before .args in
+    let c3 = c .before .before .before in
+    let c6 = c3 .before .before .before in
+    let c9 = c6 .before .before .before in
+    let c12 = c9 .before .before .before in
+    let args = c12 .args in
     let stored-bytes = c .before .before .stored-bytes in
     let s = stored-bounds (length (args .cookie .now)) in omega (arith, s, stored-bytes .ensures, length-take (stored-bytes .result) (args .cookie .now))
 
 put-requires : tie.Need-put-requires
 put-requires c κs =
-    let pre = c .before .before .before .before .before .before .before .before .before .before .before .before .pre in
-    let args = c .before .before .before .before .before .before .before .before .before .before .before .before .args in
-    let in-range = c .before .before .before .before .before .before .before .in-range in
-    let if1 = c .before .before .before .before .before .before .if1 in
+    let c3 = c .before .before .before in
+    let c6 = c3 .before .before .before in
+    let c9 = c6 .before .before .before in
+    let c12 = c9 .before .before .before in
+    let pre = c12 .pre in
+    let args = c12 .args in
+    let in-range = c6 .before .in-range in
+    let if1 = c6 .if1 in
     let stored-bytes = c .before .before .stored-bytes in
     let s = stored-bounds (length (args .cookie .now)) in
     (pre, sym (in-range .ensures) ∙ not-false _ (if1 .left), omega (arith, s, stored-bytes .ensures, length-take (stored-bytes .result) (args .cookie .now)))
@@ -67,14 +82,20 @@ same-length c = search needs
 
 returns-3 : tie.Need-returns-3
 returns-3 c =
-    let pre = c .before .before .before .before .before .before .before .before .before .before .before .before .before .before .before .pre in
-    let args = c .before .before .before .before .before .before .before .before .before .before .before .before .before .before .before .args in
-    let in-range = c .before .before .before .before .before .before .before .before .before .before .in-range in
-    let if1 = c .before .before .before .before .before .before .before .before .before .if1 in
-    let if2 = c .before .before .before .before .before .before .before .before .if2 in
-    let falls = c .before .before .before .before .before .before .falls in
-    let stored-bytes = c .before .before .before .before .before .stored-bytes in
-    put-by (args .capacity) (args .b .now) (args .cookie .now) pre (sym (in-range .ensures) ∙ not-false _ (if1 .left)) (if2 .left) _ (stored-bytes .ensures) _ _ (c .before .before .put .ensures) (falls .ensures)
+    let c3 = c .before .before .before in
+    let c6 = c3 .before .before .before in
+    let c9 = c6 .before .before .before in
+    let c12 = c9 .before .before .before in
+    let c15 = c12 .before .before .before in
+    let pre = c15 .pre in
+    let args = c15 .args in
+    let in-range = c9 .before .in-range in
+    let if1 = c9 .if1 in
+    let if2 = c6 .before .before .if2 in
+    let falls = c6 .falls in
+    let stored-bytes = c3 .before .before .stored-bytes in
+    put-by (args .capacity) (args .b .now) (args .cookie .now) pre (sym (in-range .ensures) ∙ not-false _ (if1 .left)) (if2 .left) _
+    (stored-bytes .ensures) _ _ (c .before .before .put .ensures) (falls .ensures)
 
 pub store-spec : {M : Type 1} → statement M
 store-spec =

@@ -46,10 +46,13 @@ same-length c = search needs
 
 returns : tie.Need-returns
 returns c =
-    let args = c .before .before .before .before .before .before .args in
-    let pre = c .before .before .before .before .before .before .pre in
+    let c3 = c .before .before .before in
+    let c6 = c3 .before .before .before in
+    let args = c6 .args in
+    let pre = c6 .pre in
     let at = 92 + args .place * 726 in
-    becomes-by (args .cap) (args .b .now) (pre .0) (args .place) (pre .1) (keptSlot (args .len) (args .kept .now)) (kept-fits (args .len) (args .kept .now) (omega arith) (pre .4))
+    becomes-by (args .cap) (args .b .now) (pre .0) (args .place) (pre .1) (keptSlot (args .len) (args .kept .now))
+    (kept-fits (args .len) (args .kept .now) (omega arith) (pre .4))
     (args .read) (args .held) at (at + 726 - at) refl (omega arith) _ (c .before .before .fill-row .ensures)
 
 pub store-at-spec : {M : Type 1} → statement M

@@ -32,16 +32,21 @@ list-whole-requires c κs = tt
 
 returns : tie.Need-returns Inv-loop μ-loop
 returns c =
-    let args = c .before .before .before .before .before .args in
-    let pre = c .before .before .before .before .before .pre in
-    broken (args .capacity) (args .list .now) (args .b .now) _ pre (sym (c .before .list-whole .ensures) ∙ not-true _ (c .if1 .taken)) (c .before .before .none .ensures)
+    let c3 = c .before .before .before in
+    let args = c3 .before .before .args in
+    let pre = c3 .before .before .pre in
+    broken (args .capacity) (args .list .now) (args .b .now) _ pre (sym (c .before .list-whole .ensures) ∙ not-true _ (c .if1 .taken))
+    (c .before .before .none .ensures)
 
 loop-holds : tie.Need-loop-holds Inv-loop μ-loop
 loop-holds c =
-    let args = c .before .before .before .before .before .args in
-    let pre = c .before .before .before .before .before .pre in
-    let slice-known = c .before .before .before .before .slice-known in
-    begins (args .capacity) (args .list .now) (args .b .now) _ pre (λ i. omega (arith, slice-known .given i)) (λ i. omega (arith, c .before .before .before .shared-slice-known .given i)) (omega arith) (sym (c .before .list-whole .ensures) ∙ not-false _ (c .if1 .left)) (c .before .before .none .ensures)
+    let c3 = c .before .before .before in
+    let args = c3 .before .before .args in
+    let pre = c3 .before .before .pre in
+    let slice-known = c3 .before .slice-known in
+    begins (args .capacity) (args .list .now) (args .b .now) _ pre (λ i. omega (arith, slice-known .given i))
+    (λ i. omega (arith, c .before .before .before .shared-slice-known .given i)) (omega arith)
+    (sym (c .before .list-whole .ensures) ∙ not-false _ (c .if1 .left)) (c .before .before .none .ensures)
 
 entry-at-requires : tie.Need-entry-at-requires Inv-loop μ-loop
 entry-at-requires c κs = tt
@@ -54,7 +59,9 @@ same-length c = c .before .before .loop .inv .long
 
 returns-2 : tie.Need-returns-2 Inv-loop μ-loop
 returns-2 c =
-    let args = c .before .before .before .before .before .before .before .before .args in
+    let c3 = c .before .before .before in
+    let c6 = c3 .before .before .before in
+    let args = c6 .before .before .args in
     let loop = c .before .before .loop in
     let e = c .before .entry-at in
     let s = stashIn (loop .b) (args .capacity) in
@@ -64,52 +71,72 @@ returns-2 c =
 
 sub-store : tie.Need-sub-store Inv-loop μ-loop
 sub-store c =
-    let entry-at = c .before .before .before .before .entry-at in
+    let c3 = c .before .before .before in
+    let entry-at = c3 .before .entry-at in
     let w = placed _ _ _ _ (sym (entry-at .ensures) ∙ c .before .before .start .given .1) in omega arith
 
 part-store-start : tie.Need-part-store-start Inv-loop μ-loop
 part-store-start c =
-    let entry-at = c .before .before .before .before .entry-at in
+    let c3 = c .before .before .before in
+    let entry-at = c3 .before .entry-at in
     let w = placed _ _ _ _ (sym (entry-at .ensures) ∙ c .before .before .start .given .1) in omega arith
 
 part-store-end : tie.Need-part-store-end Inv-loop μ-loop
 part-store-end c =
-    let entry-at = c .before .before .before .before .entry-at in
+    let c3 = c .before .before .before in
+    let entry-at = c3 .before .entry-at in
     let w = placed _ _ _ _ (sym (entry-at .ensures) ∙ c .before .before .start .given .1) in omega arith
 
 store-requires : tie.Need-store-requires Inv-loop μ-loop
 store-requires c κs =
-    let loop = c .before .before .before .before .before .before .loop in
+    let c3 = c .before .before .before in
+    let c6 = c3 .before .before .before in
+    let loop = c6 .loop in
     loop .inv .kept .sized
 
 plus-requires : tie.Need-plus-requires Inv-loop μ-loop
 unfolding part
 plus-requires c κs =
-    let args = c .before .before .before .before .before .before .before .before .before .before .before .before .before .before .before .args in
-    let shared-slice-known = c .before .before .before .before .before .before .before .before .before .before .before .before .before .shared-slice-known in
-    let loop = c .before .before .before .before .before .before .before .before .before .loop in
-    let entry-at = c .before .before .before .before .before .before .before .before .entry-at in
-    let start = c .before .before .before .before .before .before .start in
+    let c3 = c .before .before .before in
+    let c6 = c3 .before .before .before in
+    let c9 = c6 .before .before .before in
+    let c12 = c9 .before .before .before in
+    let c15 = c12 .before .before .before in
+    let args = c15 .args in
+    let shared-slice-known = c12 .before .shared-slice-known in
+    let loop = c9 .loop in
+    let entry-at = c6 .before .before .entry-at in
+    let start = c6 .start in
     let z : Bytes (args .list .now) = λ i. omega (arith, shared-slice-known .given i) in
-    fits-more (args .capacity) (args .b .now) (loop .b) (args .list .now) (loop .at) (loop .dropped) (loop .inv) z _ _ (sym (entry-at .ensures) ∙ start .given .1) _ (c .before .before .store .ensures .1)
+    fits-more (args .capacity) (args .b .now) (loop .b) (args .list .now) (loop .at) (loop .dropped) (loop .inv) z _ _
+    (sym (entry-at .ensures) ∙ start .given .1) _ (c .before .before .store .ensures .1)
 
 loop-less : tie.Need-loop-less Inv-loop μ-loop
 loop-less c =
-    let entry-at = c .before .before .before .before .before .before .before .before .before .entry-at in
-    let start = c .before .before .before .before .before .before .before .start in
+    let c3 = c .before .before .before in
+    let c6 = c3 .before .before .before in
+    let c9 = c6 .before .before .before in
+    let entry-at = c9 .entry-at in
+    let start = c6 .before .start in
     let w = placed _ _ _ _ (sym (entry-at .ensures) ∙ start .given .1) in omega arith
 
 loop-again : tie.Need-loop-again Inv-loop μ-loop
 unfolding part
 loop-again c =
-    let args = c .before .before .before .before .before .before .before .before .before .before .before .before .before .before .before .before .args in
-    let shared-slice-known = c .before .before .before .before .before .before .before .before .before .before .before .before .before .before .shared-slice-known in
-    let loop = c .before .before .before .before .before .before .before .before .before .before .loop in
-    let entry-at = c .before .before .before .before .before .before .before .before .before .entry-at in
-    let start = c .before .before .before .before .before .before .before .start in
+    let c3 = c .before .before .before in
+    let c6 = c3 .before .before .before in
+    let c9 = c6 .before .before .before in
+    let c12 = c9 .before .before .before in
+    let c15 = c12 .before .before .before in
+    let args = c15 .before .args in
+    let shared-slice-known = c12 .before .before .shared-slice-known in
+    let loop = c9 .before .loop in
+    let entry-at = c9 .entry-at in
+    let start = c6 .before .start in
     let store = c .before .before .before .store in
     let z : Bytes (args .list .now) = λ i. omega (arith, shared-slice-known .given i) in
-    goes-on (args .capacity) (args .b .now) (loop .b) (args .list .now) (loop .at) (loop .dropped) (loop .inv) z _ _ (sym (entry-at .ensures) ∙ start .given .1) _ _ _ (store .ensures .0) (store .ensures .1) (c .plus .ensures) (store .kept .0)
+    goes-on (args .capacity) (args .b .now) (loop .b) (args .list .now) (loop .at) (loop .dropped) (loop .inv) z _ _
+    (sym (entry-at .ensures) ∙ start .given .1) _ _ _ (store .ensures .0) (store .ensures .1) (c .plus .ensures) (store .kept .0)
 
 pub store-list-spec : {M : Type 1} → statement M
 store-list-spec =

@@ -24,25 +24,37 @@ has-cookie-requires c κs = search needs
 
 mul-give : tie.Need-mul-give
 mul-give c =
-    let args = c .before .before .before .before .before .before .before .args in
-    let h = has (args .capacity) (getD (args .b .now) 27 0) (getD (args .b .now) 28 0) (sym (c .before .before .has-cookie .ensures) ∙ c .before .if1 .taken) in omega (arith, h)
+    let c3 = c .before .before .before in
+    let c6 = c3 .before .before .before in
+    let args = c6 .before .args in
+    let h = has (args .capacity) (getD (args .b .now) 27 0) (getD (args .b .now) 28 0)
+    (sym (c .before .before .has-cookie .ensures) ∙ c .before .if1 .taken) in omega (arith, h)
 
 add-give : tie.Need-add-give
 add-give c =
-    let args = c .before .before .before .before .before .before .before .args in
-    let h = has (args .capacity) (getD (args .b .now) 27 0) (getD (args .b .now) 28 0) (sym (c .before .before .has-cookie .ensures) ∙ c .before .if1 .taken) in omega (arith, h)
+    let c3 = c .before .before .before in
+    let c6 = c3 .before .before .before in
+    let args = c6 .before .args in
+    let h = has (args .capacity) (getD (args .b .now) 27 0) (getD (args .b .now) 28 0)
+    (sym (c .before .before .has-cookie .ensures) ∙ c .before .if1 .taken) in omega (arith, h)
 
 give-requires : tie.Need-give-requires
 give-requires c κs =
-    let args = c .before .before .before .before .before .before .before .before .args in
-    let pre = c .before .before .before .before .before .before .before .before .pre in
-    let h = has (args .capacity) (getD (args .b .now) 27 0) (getD (args .b .now) 28 0) (sym (c .before .before .before .has-cookie .ensures) ∙ c .before .before .if1 .taken) in omega (arith, h, pre .long)
+    let c3 = c .before .before .before in
+    let c6 = c3 .before .before .before in
+    let args = c6 .before .before .args in
+    let pre = c6 .before .before .pre in
+    let h = has (args .capacity) (getD (args .b .now) 27 0) (getD (args .b .now) 28 0)
+    (sym (c .before .before .before .has-cookie .ensures) ∙ c .before .before .if1 .taken) in omega (arith, h, pre .long)
 
 add-wrapped : tie.Need-add-wrapped
 add-wrapped c =
-    let args = c .before .before .before .before .before .before .before .before .before .before .before .args in
-    let has-cookie = c .before .before .before .before .before .before .has-cookie in
-    let if1 = c .before .before .before .before .before .if1 in
+    let c3 = c .before .before .before in
+    let c6 = c3 .before .before .before in
+    let c9 = c6 .before .before .before in
+    let args = c9 .before .before .args in
+    let has-cookie = c6 .has-cookie in
+    let if1 = c3 .before .before .if1 in
     let h = has (args .capacity) (getD (args .b .now) 27 0) (getD (args .b .now) 28 0) (sym (has-cookie .ensures) ∙ if1 .taken) in omega (arith, h)
 
 wrapped-requires : tie.Need-wrapped-requires
@@ -50,9 +62,13 @@ wrapped-requires c κs = search needs
 
 sub-store-at : tie.Need-sub-store-at
 sub-store-at c =
-    let args = c .before .before .before .before .before .before .before .before .before .before .before .before .before .args in
-    let has-cookie = c .before .before .before .before .before .before .before .before .has-cookie in
-    let if1 = c .before .before .before .before .before .before .before .if1 in
+    let c3 = c .before .before .before in
+    let c6 = c3 .before .before .before in
+    let c9 = c6 .before .before .before in
+    let c12 = c9 .before .before .before in
+    let args = c12 .before .args in
+    let has-cookie = c6 .before .before .has-cookie in
+    let if1 = c6 .before .if1 in
     let h = has (args .capacity) (getD (args .b .now) 27 0) (getD (args .b .now) 28 0) (sym (has-cookie .ensures) ∙ if1 .taken) in omega (arith, h)
 
 sub-store-at-2 : tie.Need-sub-store-at-2
@@ -66,10 +82,15 @@ part-store-at-end c = search needs
 
 store-at-requires : tie.Need-store-at-requires
 store-at-requires c κs =
-    let args = c .before .before .before .before .before .before .before .before .before .before .before .before .before .before .before .args in
-    let pre = c .before .before .before .before .before .before .before .before .before .before .before .before .before .before .before .pre in
-    let has-cookie = c .before .before .before .before .before .before .before .before .before .before .has-cookie in
-    let if1 = c .before .before .before .before .before .before .before .before .before .if1 in
+    let c3 = c .before .before .before in
+    let c6 = c3 .before .before .before in
+    let c9 = c6 .before .before .before in
+    let c12 = c9 .before .before .before in
+    let c15 = c12 .before .before .before in
+    let args = c15 .args in
+    let pre = c15 .pre in
+    let has-cookie = c9 .before .has-cookie in
+    let if1 = c9 .if1 in
     let h = has (args .capacity) (getD (args .b .now) 27 0) (getD (args .b .now) 28 0) (sym (has-cookie .ensures) ∙ if1 .taken) in
     let n = next-lt (args .capacity) (getD (args .b .now) 27 0) (h .1) in
     (pre, h .1, omega (arith, h, n, c .before .before .before .wrapped .ensures), omega (arith, h), omega arith)
@@ -82,18 +103,27 @@ same-length-2 c = search needs
 
 returns : tie.Need-returns
 returns c =
-    let args = c .before .before .before .before .before .before .before .before .before .before .before .before .before .before .before .before .before .before .args in
-    let pre = c .before .before .before .before .before .before .before .before .before .before .before .before .before .before .before .before .before .before .pre in
-    let has-cookie = c .before .before .before .before .before .before .before .before .before .before .before .before .before .has-cookie in
-    let if1 = c .before .before .before .before .before .before .before .before .before .before .before .before .if1 in
-    let give = c .before .before .before .before .before .before .before .before .before .give in
-    let wrapped = c .before .before .before .before .before .before .wrapped in
-    taken-by (args .capacity) (args .b .now) (pre) (args .buffer .now) (sym (has-cookie .ensures) ∙ if1 .taken) _ _ _ (wrapped .ensures) (c .before .before .store-at .ensures) (give .ensures)
+    let c3 = c .before .before .before in
+    let c6 = c3 .before .before .before in
+    let c9 = c6 .before .before .before in
+    let c12 = c9 .before .before .before in
+    let c15 = c12 .before .before .before in
+    let c18 = c15 .before .before .before in
+    let args = c18 .args in
+    let pre = c18 .pre in
+    let has-cookie = c12 .before .has-cookie in
+    let if1 = c12 .if1 in
+    let give = c9 .give in
+    let wrapped = c6 .wrapped in
+    taken-by (args .capacity) (args .b .now) (pre) (args .buffer .now) (sym (has-cookie .ensures) ∙ if1 .taken) _ _ _ (wrapped .ensures)
+    (c .before .before .store-at .ensures) (give .ensures)
 
 returns-2 : tie.Need-returns-2
 returns-2 c =
-    let args = c .before .before .before .before .before .before .args in
-    let pre = c .before .before .before .before .before .before .pre in
+    let c3 = c .before .before .before in
+    let c6 = c3 .before .before .before in
+    let args = c6 .args in
+    let pre = c6 .pre in
     left-by (args .capacity) (args .b .now) (pre) (args .buffer .now) (sym (c .before .has-cookie .ensures) ∙ c .if1 .left)
 
 pub take-oldest-spec : {M : Type 1} → statement M

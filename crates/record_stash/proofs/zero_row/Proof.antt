@@ -16,7 +16,9 @@ zeros-from-requires : tie.Need-zeros-from-requires
 zeros-from-requires c κs = search needs
 
 returns : tie.Need-returns
-returns c = c .zeros-from .ensures ∙ ap zeros (take-all 726 (c .before .before .before .before .args .b .now) (omega arith))
+returns c =
+    let c3 = c .before .before .before in
+    c .zeros-from .ensures ∙ ap zeros (take-all 726 (c3 .before .args .b .now) (omega arith))
 
 zeros-from-requires-2 : tie.Need-zeros-from-requires-2
 zeros-from-requires-2 c κs = search needs

@@ -46,8 +46,10 @@ loop-less c = omega arith
 
 loop-again : tie.Need-loop-again Inv-loop μ-loop
 loop-again c =
-    let loop = c .before .before .before .before .loop in
-    let b = c .before .before .before .before .before .before .args .b .now in
+    let c3 = c .before .before .before in
+    let c6 = c3 .before .before .before in
+    let loop = c3 .before .loop in
+    let b = c6 .args .b .now in
     let ahead : Bool → Bool = λ t. t && zeros (drop (loop .at + 1452) b) in
     let more = zeros-more b (loop .at) (loop .at + 1452) (loop .all) (c .before .zeros-from .result) (omega arith) (c .before .zeros-from .ensures) in
     (omega arith, loop .inv .1 ∙ more ∙ ap ahead (sym (c .both .ensures)))
@@ -69,8 +71,10 @@ both-requires-2 c κs = search needs
 
 returns : tie.Need-returns Inv-loop μ-loop
 returns c =
-    let loop = c .before .before .before .before .loop in
-    let b = c .before .before .before .before .before .before .args .b .now in
+    let c3 = c .before .before .before in
+    let c6 = c3 .before .before .before in
+    let loop = c3 .before .loop in
+    let b = c6 .args .b .now in
     c .both2 .ensures ∙ zeros-rest b (loop .at) (loop .all) (c .before .zero-row .result) (omega arith) (c .before .zero-row .ensures) ∙ sym (loop .inv .1)
 
 pub zero-rows-spec : {M : Type 1} → statement M

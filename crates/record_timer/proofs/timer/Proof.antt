@@ -14,7 +14,9 @@ same-length c = search needs
 
 returns : tie.Need-returns
 returns c =
-    let args = c .before .before .before .before .before .before .args in
+    let c3 = c .before .before .before in
+    let c6 = c3 .before .before .before in
+    let args = c6 .args in
     let open-record = c .before .before .open-record in
     let input = timerInput (args .time) (args .desired) (args .id) (args .uid) in
     refused (args .b .now) input (args .buffer .now) (open-record .result) (open-record .ensures) (not-true _ (c .if1 .taken))
@@ -39,16 +41,24 @@ same-length-3 c = search needs
 
 returns-2 : tie.Need-returns-2
 returns-2 c =
-    let args = c .before .before .before .before .before .before .before .before .before .before .before .before .before .before .before .before .before .before .before .before .before .before .before .args in
-    let slice-known = c .before .before .before .before .before .before .before .before .before .before .before .before .before .before .before .before .before .before .before .before .before .before .slice-known in
-    let open-record = c .before .before .before .before .before .before .before .before .before .before .before .before .before .before .before .before .before .before .before .open-record in
-    let if1 = c .before .before .before .before .before .before .before .before .before .before .before .before .before .before .before .before .before .if1 in
-    let see = c .before .before .before .before .before .before .before .before .before .before .before .before .before .see in
-    let decide = c .before .before .before .before .before .before .before .before .before .before .before .before .decide in
-    let store-state = c .before .before .before .before .before .before .before .before .before .store-state in
-    let take = c .before .before .before .before .take in
+    let c3 = c .before .before .before in
+    let c6 = c3 .before .before .before in
+    let c9 = c6 .before .before .before in
+    let c12 = c9 .before .before .before in
+    let c15 = c12 .before .before .before in
+    let c18 = c15 .before .before .before in
+    let c21 = c18 .before .before .before in
+    let args = c21 .before .before .args in
+    let slice-known = c21 .before .slice-known in
+    let open-record = c18 .before .open-record in
+    let if1 = c15 .before .before .if1 in
+    let see = c12 .before .see in
+    let decide = c12 .decide in
+    let store-state = c9 .store-state in
+    let take = c3 .before .take in
     let input = timerInput (args .time) (args .desired) (args .id) (args .uid) in
-    told (args .b .now) input (args .buffer .now) (λ i. omega (arith, slice-known .given i)) (open-record .result) (open-record .ensures) (not-false _ (if1 .left))
+    told (args .b .now) input (args .buffer .now) (λ i. omega (arith, slice-known .given i)) (open-record .result) (open-record .ensures)
+    (not-false _ (if1 .left))
     (decide .result) (store-state .ensures .1) _ (store-state .ensures .0) (see .result) (see .ensures) (decide .ensures) _ _ (take .ensures)
 
 pub timer-spec : {M : Type 1} → statement M

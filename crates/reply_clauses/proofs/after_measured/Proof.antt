@@ -17,7 +17,9 @@ none-requires c κs = search needs
 returns : tie.Need-returns
 unfolding afterMeasured
 returns c =
-    rw (c .before .before .before .before .before .before .before .received-packet .ensures, c .before .before .before .raised .ensures, c .before .none .ensures)
+    let c3 = c .before .before .before in
+    let c6 = c3 .before .before .before in
+    rw (c6 .before .received-packet .ensures, c .before .before .before .raised .ensures, c .before .none .ensures)
 
 pub after-measured-spec : {M : Type 1} → statement M
 after-measured-spec =

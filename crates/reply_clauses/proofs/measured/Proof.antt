@@ -21,7 +21,8 @@ returns : tie.Need-returns
 unfolding measurementOf
 returns c =
     let k = c .before .before .before in
-    let reply = k .before .before .before .before .before .args .reply in
+    let k3 = k .before .before .before in
+    let reply = k3 .before .before .args .reply in
     let fits : SFits w8 (reply .precision) = record { sfits = c .struct-told .given .1 .1 .1 .1 .1 .0 .1 } in
     rw (k .before .before .delay .ensures, k .before .offset .ensures, k .local-time .ensures, toZ-ofZ fits)
 

@@ -34,7 +34,15 @@ returns-4 : tie.Need-returns-4
 unfolding afterOf
 returns-4 c =
     let e = c .before .before .before in
-    rw (c .after-rate-kiss .ensures, c .before .before .stepped2 .ensures, ne-eqb _ _ (e .before .before .if1 .left), le-ltb _ _ (e .before .if2 .left), le-ltb _ _ (e .if3 .left), eq-eqb _ _ (c .before .if4 .taken))
+    rw (
+      c .after-rate-kiss .ensures,
+      c .before .before .stepped2 .ensures,
+      ne-eqb _ _ (e .before .before .if1 .left),
+      le-ltb _ _
+          (e .before .if2 .left),
+      le-ltb _ _ (e .if3 .left),
+      eq-eqb _ _ (c .before .if4 .taken),
+    )
 
 after-denial-requires : tie.Need-after-denial-requires
 after-denial-requires c κs = search needs
@@ -42,14 +50,32 @@ after-denial-requires c κs = search needs
 returns-5 : tie.Need-returns-5
 unfolding afterOf
 returns-5 c =
-    let e = c .before .before .before .before in
-    rw (c .after-denial .ensures, c .before .before .before .stepped2 .ensures, ne-eqb _ _ (e .before .before .if1 .left), le-ltb _ _ (e .before .if2 .left), le-ltb _ _ (e .if3 .left), ne-eqb _ _ (c .before .before .if4 .left), eq-eqb _ _ (c .before .if5 .taken))
+    let c3 = c .before .before .before in
+    let e = c3 .before in
+    rw (
+      c .after-denial .ensures,
+      c .before .before .before .stepped2 .ensures,
+      ne-eqb _ _ (e .before .before .if1 .left),
+      le-ltb _ _
+          (e .before .if2 .left),
+      le-ltb _ _ (e .if3 .left),
+      ne-eqb _ _ (c .before .before .if4 .left),
+      eq-eqb _ _ (c .before .if5 .taken),
+    )
 
 returns-6 : tie.Need-returns-6
 unfolding afterOf
 returns-6 c =
     let e = c .before .before .before in
-    rw (c .before .before .stepped2 .ensures, ne-eqb _ _ (e .before .before .if1 .left), le-ltb _ _ (e .before .if2 .left), le-ltb _ _ (e .if3 .left), ne-eqb _ _ (c .before .if4 .left), ne-eqb _ _ (c .if5 .left))
+    rw (
+      c .before .before .stepped2 .ensures,
+      ne-eqb _ _ (e .before .before .if1 .left),
+      le-ltb _ _ (e .before .if2 .left),
+      le-ltb _ _
+          (e .if3 .left),
+      ne-eqb _ _ (c .before .if4 .left),
+      ne-eqb _ _ (c .if5 .left),
+    )
 
 pub after-spec : {M : Type 1} → statement M
 after-spec =

@@ -31,7 +31,12 @@ unfolding judgeOf
 returns-3 c =
     let v = c .before .before .before in
     let l = v .before .before .before in
-    rw (sym (l .before .list-broken .ensures) ∙ l .if1 .left, sym (v .before .expects .ensures) ∙ not-false _ (v .if2 .left), sym (c .before .never-sent .ensures) ∙ c .if3 .taken)
+    rw (
+      sym (l .before .list-broken .ensures) ∙ l .if1 .left,
+      sym (v .before .expects .ensures)
+          ∙ not-false _ (v .if2 .left),
+      sym (c .before .never-sent .ensures) ∙ c .if3 .taken,
+    )
 
 already-measured-requires : tie.Need-already-measured-requires
 already-measured-requires c κs = search needs
@@ -109,4 +114,6 @@ returns-7 c =
     ) (c .matched .ensures _)
 
 pub judge-spec : {M : Type 1} → statement M
-judge-spec = tie.close (tie.spec list-broken-requires returns expects-requires returns-2 never-sent-requires returns-3 already-measured-requires returns-4 expired-requires returns-5 answers-requires returns-6 matched-requires returns-7)
+judge-spec =
+    tie.close (tie.spec list-broken-requires returns expects-requires returns-2 never-sent-requires returns-3 already-measured-requires returns-4
+    expired-requires returns-5 answers-requires returns-6 matched-requires returns-7)

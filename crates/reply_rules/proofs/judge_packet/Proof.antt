@@ -12,7 +12,9 @@ use Rattle.reply_rules.proofs.judge_packet.Tie as tie
 
 -- what was read, with the request's own unique identifier
 was-read : (c : tie.After-read-reply) →
-    let a = c .before .before .before .before .before .before .before .before .args in
+    let c3 = c .before .before .before in
+    let c6 = c3 .before .before .before in
+    let a = c6 .before .before .args in
     c .read-reply .result ≡ readWith (a .settings) (a .s) (a .packet .now) (a .end) (a .decrypted .now)
 was-read c = c .read-reply .ensures ∙ rw (c .before .awaited .ensures) (read-awaited _ _ _ _ _ _)
 
@@ -54,7 +56,8 @@ returns-3 c =
     let d = c .before .before .before in
     let k = d .before .before in
     let w = k .before .before .before in
-    let a = w .before .before .before .before .before .args in
+    let w3 = w .before .before .before in
+    let a = w3 .before .before .args in
     let j = c .before .judge in
     rw (sym (w .before .whole-seen .ensures) ∙ not-false _ (w .if1 .left), sym (was-read k) ∙ d .reply .given .1)
     (c .told .ensures ∙ ap (toldOf (a .settings) (a .s) _) (j .ensures) ∙ sym (judged-told (a .settings) (a .s) _ _))

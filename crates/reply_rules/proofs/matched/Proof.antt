@@ -9,7 +9,7 @@ use Rattle.reply_rules.proofs.matched.Statement.{statement}
 use Rattle.reply_rules.proofs.matched.Tie as tie
 
 -- the kiss is neither RATE nor a denial
-neither : (c : tie.Else2) → (c .before .before .before .before .args .reply .kisses .deny || c .before .before .before .before .args .reply .kisses .rstr) ≡ false
+neither : (c : tie.Else2) → let c3 = c .before .before .before in (c3 .before .args .reply .kisses .deny || c3 .before .args .reply .kisses .rstr) ≡ false
 neither c = sym (c .before .denies .ensures) ∙ c .if2 .left
 
 returns : tie.Need-returns
@@ -56,7 +56,16 @@ returns-7 c s =
     let t = c .before .before in
     let n = t .before .before in
     let k = n .before .before in
-    rw (k .before .before .if1 .left, neither k, n .before .if4 .left, n .if5 .left, le-ltb _ _ (t .if6 .left), not-true (k .before .before .before .before .args .reply .server) (c .if7 .taken))
+    let k3 = k .before .before .before in
+    rw (
+      k .before .before .if1 .left,
+      neither k,
+      n .before .if4 .left,
+      n .if5 .left,
+      le-ltb _ _ (t .if6 .left),
+      not-true (k3 .before .args .reply .server)
+          (c .if7 .taken),
+    )
 
 measured-requires : tie.Need-measured-requires
 measured-requires c κs = search needs
@@ -68,7 +77,17 @@ returns-8 c s =
     let t = m .before .before in
     let n = t .before .before in
     let k = n .before .before in
-    rw (c .measured .ensures, k .before .before .if1 .left, neither k, n .before .if4 .left, n .if5 .left, le-ltb _ _ (t .if6 .left), not-false (k .before .before .before .before .args .reply .server) (m .if7 .left))
+    let k3 = k .before .before .before in
+    rw (
+      c .measured .ensures,
+      k .before .before .if1 .left,
+      neither k,
+      n .before .if4 .left,
+      n .if5 .left,
+      le-ltb _ _ (t .if6 .left),
+      not-false
+          (k3 .before .args .reply .server) (m .if7 .left),
+    )
 
 pub matched-spec : {M : Type 1} → statement M
 matched-spec = tie.close (tie.spec returns denies-requires returns-2 returns-3 returns-4 returns-5 returns-6 returns-7 measured-requires returns-8)

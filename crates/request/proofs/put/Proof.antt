@@ -42,7 +42,8 @@ loop-less c = omega arith
 
 loop-again : tie.Need-loop-again Inv-loop μ-loop
 loop-again c =
-    let a = c .before .before .before .before .before .args in
+    let c3 = c .before .before .before in
+    let a = c3 .before .before .args in
     let l = c .before .before .loop in
     let f = filled (a .n) (now (a .bytes)) in
     let long = length-filled (a .n) (now (a .bytes)) (omega arith) in
@@ -55,7 +56,8 @@ same-length c = c .before .loop .inv .2
 returns : tie.Need-returns Inv-loop μ-loop
 unfolding placed
 returns c =
-    let a = c .before .before .before .before .args in
+    let c3 = c .before .before .before in
+    let a = c3 .before .args in
     let l = c .before .loop in
     let long = length-filled (a .n) (now (a .bytes)) (omega arith) in
     let e : l .i ≡ length (filled (a .n) (now (a .bytes))) = omega (arith, long) in

@@ -49,9 +49,14 @@ same-length c = search needs
 returns : tie.Need-returns
 returns c =
     let p3 = c .before .before in
-    let p2 = p3 .before .before .before .before in
-    let p1 = p2 .before .before .before .before .before .before in
-    let s = p1 .before .before .before .before .before .before in
+    let p33 = p3 .before .before .before in
+    let p2 = p33 .before in
+    let p23 = p2 .before .before .before in
+    let p26 = p23 .before .before .before in
+    let p1 = p26 in
+    let p13 = p1 .before .before .before in
+    let p16 = p13 .before .before .before in
+    let s = p16 in
     let a = s .args in (
       refl,
       field-placed (now (a .out)) (now (a .body)) (a .at) (a .kind) (a .len) (s .pre .0) (s .pre .1)

@@ -31,7 +31,8 @@ slice-aggregate-put-field c = refl
 
 put-field-requires : tie.Need-put-field-requires Inv-loop μ-loop
 put-field-requires c κs =
-    let s = c .before .before .before .before .before in
+    let c3 = c .before .before .before in
+    let s = c3 .before .before in
     let l = c .before .before .before .loop in
     let room = turn-room (l .i) (s .args .n) (s .args .len) (c .before .before .loop-test .taken) in
     (omega (arith, room, l .inv .1, l .inv .3, s .pre .0), s .pre .1, s .pre .2)

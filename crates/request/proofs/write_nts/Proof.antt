@@ -44,7 +44,8 @@ long c =
 
 returns : tie.Need-returns
 returns c =
-    let a = c .before .before .before .before .args in
+    let c3 = c .before .before .before in
+    let a = c3 .before .args in
     too-long (withFields (a .t1) (a .uid) (now (a .cookie)) (a .asked)) (now (a .out)) _ (long (c .before)) (c .if1 .taken)
 
 slice-aggregate-put : tie.Need-slice-aggregate-put
@@ -67,7 +68,8 @@ same-length c = search needs
 returns-2 : tie.Need-returns-2
 returns-2 c =
     let g = c .before .before in
-    let k = g .before .before .before .before in
+    let g3 = g .before .before .before in
+    let k = g3 .before in
     let t = k .before .before .before in
     let f = t .before in
     let s = f .before .before .before in
@@ -75,7 +77,8 @@ returns-2 c =
     let head : length (a .t1) ≡ 48 = search needs in
     let size : length (a .uid) ≡ 32 = search needs in
     let r = fits (withFields (a .t1) (a .uid) (now (a .cookie)) (a .asked)) (now (a .out)) _ (long f) (t .if1 .left) (g .put-fields .last .0)
-    (packet-placed (a .uid) (now (a .cookie)) (a .asked) size (holds s .1) (a .t1) head (f .field-length .result) (f .field-length .ensures) (now (a .out)) (k .put .last .0) (g .put-fields .last .0)
+    (packet-placed (a .uid) (now (a .cookie)) (a .asked) size (holds s .1) (a .t1) head (f .field-length .result) (f .field-length .ensures) (now (a .out))
+    (k .put .last .0) (g .put-fields .last .0)
     (t .if1 .left) (k .put .ensures) (g .put-fields .ensures .1)) in
     (ap Written (g .put-fields .ensures .0) ∙ r .0, r .1)
 

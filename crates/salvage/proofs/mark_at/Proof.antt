@@ -28,13 +28,15 @@ be16-at-requires c κs = search needs
 returns-3 : tie.Need-returns-3
 unfolding markAt recordMarkAt
 returns-3 c =
-    let a = c .before .before .before .before .before .args in
+    let c3 = c .before .before .before in
+    let a = c3 .before .before .args in
     simp (le-leb (a .at + 2) (length (now (a .list))) (omega arith), ne-eqb (recordMarkAt (now (a .list)) (a .at)) 0xC00E (λ e. omega arith))
 
 returns-4 : tie.Need-returns-4
 unfolding markAt recordMarkAt
 returns-4 c =
-    let a = c .before .before .before .before .before .args in
+    let c3 = c .before .before .before in
+    let a = c3 .before .before .args in
     simp (le-leb (a .at + 2) (length (now (a .list))) (omega arith), eq-eqb (recordMarkAt (now (a .list)) (a .at)) 0xC00E (omega arith))
 
 pub mark-at-spec : {M : Type 1} → statement M

@@ -19,7 +19,8 @@ followed-requires : tie.Need-followed-requires
 followed-requires c κs = search needs
 
 -- the entry that the pattern bound
-here : (k : tie.After-end) → let g = k .end .given .0 in let a = k .before .before .before .before .args in entryAt (now (a .list)) (a .at) ≡ Cookie (g .0) (g .1 .0)
+here : (k : tie.After-end) → let k3 = k .before .before .before in let g = k .end .given .0 in let a = k3 .before .args in
+    entryAt (now (a .list)) (a .at) ≡ Cookie (g .0) (g .1 .0)
 here k = sym (k .before .before .entry-at .ensures) ∙ k .end .given .1
 
 returns : tie.Need-returns

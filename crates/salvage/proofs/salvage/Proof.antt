@@ -19,22 +19,29 @@ use Rattle.salvage.proofs.salvage.Statement.{statement}
 use Rattle.salvage.proofs.salvage.Tie as tie
 
 abbrev Inv-loop : tie.InvT-loop
-Inv-loop list out₀ places₀ at₀ to₀ kept₀ skipped₀ gaps₀ in-gap₀ out places at to kept skipped gaps in-gap = Along list out₀ out places at to kept skipped gaps in-gap
+Inv-loop list out₀ places₀ at₀ to₀ kept₀ skipped₀ gaps₀ in-gap₀ out places at to kept skipped gaps in-gap = Along list out₀ out places at to kept skipped gaps
+    in-gap
 
 abbrev μ-loop : tie.MeasureT-loop
 μ-loop list out₀ places₀ at₀ to₀ kept₀ skipped₀ gaps₀ in-gap₀ out places at to kept skipped gaps in-gap = length list - at
 
 -- the record that the pattern bound
 here : (k : tie.After-end Inv-loop μ-loop) →
-    recordAt (now (k .before .before .before .before .before .before .before .before .args .list)) (k .before .before .before .before .loop .at) ≡ Record (k .end .given .0 .0)
+    let k3 = k .before .before .before in
+    let k6 = k3 .before .before .before in
+    recordAt (now (k6 .before .before .args .list)) (k3 .before .loop .at) ≡ Record (k .end .given .0 .0)
 here k = sym (k .before .before .record-at .ensures) ∙ k .end .given .1
 
 found : (k : tie.After-end Inv-loop μ-loop) →
-    Kept (now (k .before .before .before .before .before .before .before .before .args .list)) (k .before .before .before .before .loop .at) (k .end .given .0 .0)
+    let k3 = k .before .before .before in
+    let k6 = k3 .before .before .before in
+    Kept (now (k6 .before .before .args .list)) (k3 .before .loop .at) (k .end .given .0 .0)
 found k = is-kept _ _ _ (here k)
 
 inside : (k : tie.After-end Inv-loop μ-loop) →
-    k .before .before .before .before .loop .at < length (now (k .before .before .before .before .before .before .before .before .args .list))
+    let k3 = k .before .before .before in
+    let k6 = k3 .before .before .before in
+    k3 .before .loop .at < length (now (k6 .before .before .args .list))
 inside k = omega arith
 
 refused-requires : tie.Need-refused-requires Inv-loop μ-loop
@@ -43,7 +50,8 @@ refused-requires c κs = search needs
 returns : tie.Need-returns Inv-loop μ-loop
 unfolding salvageOf bufferOf
 returns c =
-    let a = c .before .before .before .before .args in
+    let c3 = c .before .before .before in
+    let a = c3 .before .args in
     let t = lt-ltb (length (now (a .out))) (length (now (a .list))) (omega arith) in
     (c .refused .ensures ∙ rw t, rw t)
 
@@ -69,21 +77,32 @@ put-bytes-requires : tie.Need-put-bytes-requires Inv-loop μ-loop
 unfolding part
 put-bytes-requires c κs =
     let k = c .before .before .before in
-    let i = k .before .before .before .before .loop .inv in
+    let k3 = k .before .before .before in
+    let i = k3 .before .loop .inv in
     let h = inside k in
     omega (arith, fits _ _ _ _ _ _ _ _ _ _ i _ h (here k) (omega arith), record-long _ _ _ _ _ _ _ _ _ _ i _ h (here k))
 
 add-kept : tie.Need-add-kept Inv-loop μ-loop
-add-kept c = omega (arith, c .before .before .before .before .before .before .before .before .before .before .loop .inv .keptFew)
+add-kept c =
+    let c3 = c .before .before .before in
+    let c6 = c3 .before .before .before in
+    let c9 = c6 .before .before .before in
+    omega (arith, c9 .before .loop .inv .keptFew)
 
 loop-less : tie.Need-loop-less Inv-loop μ-loop
-loop-less c = let k = found (c .before .before .before .before .before .before) in omega (arith, k .headed, k .within)
+loop-less c =
+    let c3 = c .before .before .before in
+    let c6 = c3 .before .before .before in
+    let k = found (c6) in omega (arith, k .headed, k .within)
 
 loop-again : tie.Need-loop-again Inv-loop μ-loop
 unfolding part
 loop-again c =
-    let k = c .before .before .before .before .before .before in
-    let i = k .before .before .before .before .loop .inv in
+    let c3 = c .before .before .before in
+    let c6 = c3 .before .before .before in
+    let k = c6 in
+    let k3 = k .before .before .before in
+    let i = k3 .before .loop .inv in
     let h = inside k in
     let r = c .before .before .put-bytes in
     let n = record-long _ _ _ _ _ _ _ _ _ _ i _ h (here k) in
@@ -99,10 +118,15 @@ array-write-places : tie.Need-array-write-places Inv-loop μ-loop
 array-write-places c = search needs
 
 add-gaps : tie.Need-add-gaps Inv-loop μ-loop
-add-gaps c = omega (arith, c .before .before .before .before .before .before .loop .inv .gapsFew)
+add-gaps c =
+    let c3 = c .before .before .before in
+    let c6 = c3 .before .before .before in
+    omega (arith, c6 .loop .inv .gapsFew)
 
 add-skipped : tie.Need-add-skipped Inv-loop μ-loop
-add-skipped c = omega (arith, c .before .before .before .before .before .loop .inv .skippedFew)
+add-skipped c =
+    let c3 = c .before .before .before in
+    omega (arith, c3 .before .before .loop .inv .skippedFew)
 
 add-at : tie.Need-add-at Inv-loop μ-loop
 add-at c = search needs
@@ -114,7 +138,8 @@ loop-again-2 : tie.Need-loop-again-2 Inv-loop μ-loop
 loop-again-2 c =
     let i = c .before .before .before .before .before .loop .inv in
     let e = sym (c .before .before .before .record-at .ensures) ∙ c .before .enum-told .given .1 in
-    let h : c .before .before .before .before .before .loop .at < length (now (c .before .before .before .before .before .before .before .before .before .args .list)) = omega arith in
+    let h : c .before .before .before .before .before .loop .at < length
+    (now (c .before .before .before .before .before .before .before .before .before .args .list)) = omega arith in
     ⊎-elim
     (λ w.
     ⊎-elim

@@ -56,7 +56,8 @@ returns c =
     let d = k .before .before .before .before in
     let a = d .before .before .before .before .before .args in
     let s : length (a .slot .bytes) ≡ 724 = search needs in
-    handed-is (a .slot) (a .buffer .now) (k .copy .last .1 .0) (d .least .result) s (d .least .ensures ∙ rw (d .before .stored-bytes .ensures)) (k .copy .ensures .1)
+    handed-is (a .slot) (a .buffer .now) (k .copy .last .1 .0) (d .least .result) s (d .least .ensures ∙ rw (d .before .stored-bytes .ensures))
+    (k .copy .ensures .1)
 
 pub hand-out-spec : {M : Type 1} → statement M
 hand-out-spec =

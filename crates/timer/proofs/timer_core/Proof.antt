@@ -23,8 +23,10 @@ returns c =
     let k = c .before .before in
     let d = k .before .before in
     let s = d .before .before in
-    let a = s .before .before .before .before .args in
-    told (a .a) (timerInput (a .time) (a .desired) (a .id) (a .uid)) (a .buffer .now) (s .seen .result) (d .decide .result) (k .decided .result) (k .decided .last .1 .1 .0)
+    let s3 = s .before .before .before in
+    let a = s3 .before .args in
+    told (a .a) (timerInput (a .time) (a .desired) (a .id) (a .uid)) (a .buffer .now) (s .seen .result) (d .decide .result) (k .decided .result)
+    (k .decided .last .1 .1 .0)
     (s .seen .ensures) (d .decide .ensures) (k .decided .ensures .0) (k .decided .ensures .1)
 
 pub timer-core-spec : {M : Type 1} → statement M

@@ -14,13 +14,15 @@ use Rattle.timer_rules.proofs.decide.Tie as tie
 whole : (c : tie.Else1) → let a = c .before .before .args in wholeSeen (a .settings) (a .seen) (a .s) ≡ true
 whole c = sym (c .before .whole-seen .ensures) ∙ not-false _ (c .if1 .left)
 
-roomy : (c : tie.Else2) → let a = c .before .before .before .before .args in shortBuffer (a .settings) (a .room) ≡ false
+roomy : (c : tie.Else2) → let c3 = c .before .before .before in let a = c3 .before .args in shortBuffer (a .settings) (a .room) ≡ false
 roomy c = sym (c .before .short-buffer .ensures) ∙ c .if2 .left
 
-over : (c : tie.Then3) → let a = c .before .before .before .before .before .before .args in startupOver (a .settings) (a .s) ≡ true
+over : (c : tie.Then3) → let c3 = c .before .before .before in let c6 = c3 .before .before .before in let a = c6 .args in
+    startupOver (a .settings) (a .s) ≡ true
 over c = sym (c .before .startup-over .ensures) ∙ c .if3 .taken
 
-going : (c : tie.Else3) → let a = c .before .before .before .before .before .before .args in startupOver (a .settings) (a .s) ≡ false
+going : (c : tie.Else3) → let c3 = c .before .before .before in let c6 = c3 .before .before .before in let a = c6 .args in
+    startupOver (a .settings) (a .s) ≡ false
 going c = sym (c .before .startup-over .ensures) ∙ c .if3 .left
 
 whole-seen-requires : tie.Need-whole-seen-requires

@@ -33,10 +33,14 @@ returns-7 : tie.Need-returns-7
 returns-7 c = exactly (c .before .before .before .args .len) 2 (omega arith) (omega arith) (omega arith)
 
 returns-8 : tie.Need-returns-8
-returns-8 c = exactly (c .before .before .before .before .args .len) 1 (omega arith) (omega arith) (omega arith)
+returns-8 c =
+    let c3 = c .before .before .before in
+    exactly (c3 .before .args .len) 1 (omega arith) (omega arith) (omega arith)
 
 returns-9 : tie.Need-returns-9
-returns-9 c = exactly (c .before .before .before .before .args .len) 0 (omega arith) (omega arith) (omega arith)
+returns-9 c =
+    let c3 = c .before .before .before in
+    exactly (c3 .before .args .len) 0 (omega arith) (omega arith) (omega arith)
 
 pub fit-spec : {M : Type 1} → statement M
 fit-spec = tie.close (tie.spec returns returns-2 returns-3 returns-4 returns-5 returns-6 returns-7 returns-8 returns-9)

@@ -23,7 +23,8 @@ agrees-requires c κs = search needs
 returns : tie.Need-returns
 unfolding uidMatches
 returns c =
-    let a = c .before .before .before .before .args in
+    let c3 = c .before .before .before in
+    let a = c3 .before .args in
     let m = joined-match (a .authenticated) (a .encrypted) (cond (a .ntsn) (a .untrusted) Absent) in
     rw (c .before .joined2 .ensures, c .before .before .looked-at .ensures, c .before .before .before .joined .ensures, ← m) at (c .agrees .ensures)
 

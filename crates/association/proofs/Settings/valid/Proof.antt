@@ -16,10 +16,12 @@ limits-valid-requires c κs = search needs
 
 -- the limits, once they are tested
 tested : (c : tie.After-limits-valid) →
-    let s = c .before .before .before .before .before .args .self in
+    let c3 = c .before .before .before in
+    let s = c3 .before .before .args .self in
     c .limits-valid .result ≡ limitsValid (s .min .0) (s .max .0)
 tested c =
-    let s = c .before .before .before .before .before .args .self in
+    let c3 = c .before .before .before in
+    let s = c3 .before .before .args .self in
     let f : SFits w8 (s .min .0) = record { sfits = c .before .before .struct-told .given .0 .1 } in
     let g : SFits w8 (s .max .0) = record { sfits = c .before .struct-told2 .given .0 .1 } in
     c .limits-valid .ensures ∙ (λ i. limitsValid (toZ-ofZ f i) (toZ-ofZ g i))
@@ -48,7 +50,8 @@ unfolding settingsValid
 returns-3 c =
     let b = c .before .before in
     let k = b .before .before .before in
-    sym (passes _ (sym (tested (k .before)) ∙ not-false _ (k .if1 .left)) ∙ passes _ (sym (b .before .between .ensures) ∙ not-false _ (b .if2 .left)) ∙ fails _ (sym (c .before .between2 .ensures) ∙ not-true _ (c .if3 .taken)))
+    sym (passes _ (sym (tested (k .before)) ∙ not-false _ (k .if1 .left)) ∙ passes _ (sym (b .before .between .ensures) ∙ not-false _ (b .if2 .left))
+    ∙ fails _ (sym (c .before .between2 .ensures) ∙ not-true _ (c .if3 .taken)))
 
 cast-between-2 : tie.Need-cast-between-2
 cast-between-2 c = search needs
@@ -62,7 +65,8 @@ returns-4 c =
     let d = c .before .before in
     let b = d .before .before in
     let k = b .before .before .before in
-    sym (passes _ (sym (tested (k .before)) ∙ not-false _ (k .if1 .left)) ∙ passes _ (sym (b .before .between .ensures) ∙ not-false _ (b .if2 .left)) ∙ passes _ (sym (d .before .between2 .ensures) ∙ not-false _ (d .if3 .left)) ∙ sym (c .between3 .ensures))
+    sym (passes _ (sym (tested (k .before)) ∙ not-false _ (k .if1 .left)) ∙ passes _ (sym (b .before .between .ensures) ∙ not-false _ (b .if2 .left))
+    ∙ passes _ (sym (d .before .between2 .ensures) ∙ not-false _ (d .if3 .left)) ∙ sym (c .between3 .ensures))
 
 pub valid-spec : {M : Type 1} → statement M
 valid-spec =

@@ -32,11 +32,12 @@ padded-requires c κs = tt
 
 returns : tie.Need-returns Inv-loop μ-loop
 returns c =
-    let s = c .before .before .before .before .before .args .t1 in
-    let i = c .before .before .before .before .loop .i in
+    let c3 = c .before .before .before in
+    let s = c3 .before .before .args .t1 in
+    let i = c3 .before .loop .i in
     let l : length (s .slots) ≡ 8 = search (needs, length-mapped) in
     let f : padded (slotAt (s .slots) i) ≡ false = sym (c .before .padded .ensures) ∙ not-true _ (c .if1 .taken) in
-    sym (c .before .before .before .before .loop .inv .1 ∙ rw (padded-step (s .slots) i (omega arith), f))
+    sym (c3 .before .loop .inv .1 ∙ rw (padded-step (s .slots) i (omega arith), f))
 
 add-i : tie.Need-add-i Inv-loop μ-loop
 add-i c = omega arith
@@ -46,11 +47,12 @@ loop-less c = omega arith
 
 loop-again : tie.Need-loop-again Inv-loop μ-loop
 loop-again c =
-    let s = c .before .before .before .before .before .args .t1 in
-    let i = c .before .before .before .before .loop .i in
+    let c3 = c .before .before .before in
+    let s = c3 .before .before .args .t1 in
+    let i = c3 .before .loop .i in
     let l : length (s .slots) ≡ 8 = search (needs, length-mapped) in
     let f : padded (slotAt (s .slots) i) ≡ true = sym (c .before .padded .ensures) ∙ not-false _ (c .if1 .left) in
-    (omega arith, c .before .before .before .before .loop .inv .1 ∙ rw (padded-step (s .slots) i (omega arith), f))
+    (omega arith, c3 .before .loop .inv .1 ∙ rw (padded-step (s .slots) i (omega arith), f))
 
 returns-2 : tie.Need-returns-2 Inv-loop μ-loop
 returns-2 c =

@@ -21,12 +21,13 @@ is-ntsn-requires c κs = search needs
 returns : tie.Need-returns
 unfolding kissesOf
 returns c =
+    let c3 = c .before .before .before in
     simp (
       c .is-ntsn .ensures,
       c .before .is-rstr .ensures,
       c .before .before .is-deny .ensures,
       c .before .before .before .is-rate .ensures,
-      eq-eqb _ _ (c .before .before .before .before .if1 .taken),
+      eq-eqb _ _ (c3 .before .if1 .taken),
     )
 
 returns-2 : tie.Need-returns-2

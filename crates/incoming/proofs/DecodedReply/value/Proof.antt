@@ -17,7 +17,9 @@ none-requires c κs = search needs
 returns : tie.Need-returns
 unfolding decodedOf
 returns c =
-    let k = c .before .before .before .before .before .before .before .before in
+    let c3 = c .before .before .before in
+    let c6 = c3 .before .before .before in
+    let k = c6 .before .before in
     let fit : SFits w8 (k .before .args .self .precision) = search needs in
     rw (c .before .none .ensures, k .is-response .ensures, toZ-ofZ fit)
 

@@ -5,23 +5,25 @@ import shutil
 import socket
 import subprocess
 import time
+from typing import Optional
 
 
-def program():
+def program() -> Optional[str]:
     named = os.environ.get('CHRONYD')
     return named or shutil.which('chronyd') or next((p for p in ('/usr/sbin/chronyd', '/sbin/chronyd') if os.access(p, os.X_OK)), None)
 
 
-def lacks():
+def lacks() -> str:
     """what is missing, in a sentence, or nothing"""
-    if not program() or not os.access(program(), os.X_OK):
+    named = program()
+    if not named or not os.access(named, os.X_OK):
         return 'there is no chronyd (Debian: apt-get install chrony; or name the program in CHRONYD)'
     if not shutil.which('openssl'):
         return 'there is no openssl, which makes the server\'s certificate (Debian: apt-get install openssl)'
     return ''
 
 
-def has_ipv6():
+def has_ipv6() -> bool:
     """whether this machine has ::1"""
     try:
         with socket.socket(socket.AF_INET6, socket.SOCK_DGRAM) as s:
@@ -31,7 +33,7 @@ def has_ipv6():
         return False
 
 
-def free_port(kind):
+def free_port(kind: int) -> int:
     with socket.socket(socket.AF_INET, kind) as s:
         s.bind(('127.0.0.1', 0))
         return s.getsockname()[1]
@@ -40,7 +42,7 @@ def free_port(kind):
 class Chronyd:
     """The server, in a folder that the caller removes; `port` takes NTP, `nts_port` key exchanges, and `certificate` vouches for them."""
 
-    def __init__(self, folder, stratum=3):
+    def __init__(self, folder: str, stratum: int = 3) -> None:
         self.folder = os.path.join(folder, 'chronyd')
         os.makedirs(os.path.join(self.folder, 'keys'))
         self.port, self.nts_port = free_port(socket.SOCK_DGRAM), free_port(socket.SOCK_STREAM)
@@ -60,10 +62,10 @@ class Chronyd:
         # -x leaves the clock alone, -U asks for no privileges, -d stays in the foreground; as root it would else become another user, who cannot read the folder.
         user = ['-u', 'root'] if os.getuid() == 0 else ['-U']
         self.log = open(os.path.join(self.folder, 'log'), 'wb')
-        self.process = subprocess.Popen([program(), '-x', '-d', '-f', conf] + user, stdin=subprocess.DEVNULL, stdout=self.log, stderr=subprocess.STDOUT)
+        self.process = subprocess.Popen([program() or 'chronyd', '-x', '-d', '-f', conf] + user, stdin=subprocess.DEVNULL, stdout=self.log, stderr=subprocess.STDOUT)
         self.wait()
 
-    def wait(self):
+    def wait(self) -> None:
         """until it answers"""
         asked = bytes([0x23]) + bytes(39) + b'are you?'
         with socket.socket(socket.AF_INET, socket.SOCK_DGRAM) as s:
@@ -82,7 +84,7 @@ class Chronyd:
         with open(os.path.join(self.folder, 'log'), 'rb') as f:
             raise RuntimeError('chronyd does not answer: ' + f.read().decode('utf-8', 'replace').strip()[-300:])
 
-    def stop(self):
+    def stop(self) -> None:
         if self.process.poll() is None:
             self.process.terminate()
             try:
