@@ -418,7 +418,8 @@ uint32_t reckonstile_profile(struct reckonstile_settings settings, const uint8_t
    the settings. `id` and `uid` are fresh random bits (uid is used only with NTS). With NTS the cookie to send is written to the buffer, which must have 724
    bytes or more; without NTS a room of 0 is enough.
    In this order: 32 the record is not whole; 31 with NTS, room under 724; 22 stop talking to the source; 21 make a new association; 23, 24 with NTS, no cookie
-   or one too large: exchange keys; 20 send. After 32, 31, 22 and 21 the record is unchanged. The buffer is written only on 20 with NTS. */
+   or one too large: exchange keys; 20 send. After 32, 31, 22 and 21 the record is unchanged. 23 and 24 count the poll as tried, and leave the pending request
+   and the last poll as they were; 24 takes the cookie out. The buffer is written only on 20 with NTS. */
 struct reckonstile_timer_answer reckonstile_timer(uint8_t *record, size_t size, uint64_t time, int8_t desired, uint64_t id, struct reckonstile_uid uid,
                                                   uint8_t *buffer, size_t room);
 
