@@ -7,6 +7,7 @@ use ntp_proto::v5::{BloomFilter, ServerId};
 use ntp_proto::*;
 use std::net::SocketAddr;
 use std::panic::{AssertUnwindSafe, catch_unwind};
+use std::sync::atomic::{AtomicBool, Ordering};
 
 /// The number that stands for a panic of the crate; RULES has none such.
 pub const PANIC: u8 = 255;
@@ -51,10 +52,12 @@ pub struct Drawn {
     pub v5: Option<Decoded>,
     /// Type and body of each field of a V4 packet that the crate could decode, but for the 0404 fields.
     pub fields: Option<Vec<(u16, Vec<u8>)>>,
-    /// Without NTS no rule reads the cookie list; then every other reply hands over one that is broken.
+    /// Without NTS no rule reads the cookie list; then every other reply hands over one that is broken, where `BROKEN_LISTS` says so.
     pub broken_list: bool,
 }
 
+/// Whether there are such replies: beside the library, and not in the logs that `compare` writes and the sample keeps.
+pub static BROKEN_LISTS: AtomicBool = AtomicBool::new(false);
 /// A list that is broken: its only head is cut off.
 pub const BROKEN_LIST: [u8; 3] = [0xC0, 0x0E, 0];
 
@@ -217,7 +220,7 @@ impl Exec {
                 set_now(*now);
                 FakeCipher::force_fail(*fail);
                 let mut drawn = catch_unwind(AssertUnwindSafe(|| self.draw(packet))).unwrap_or_default();
-                drawn.broken_list = !self.nts && t4 % 2 == 1;
+                drawn.broken_list = BROKEN_LISTS.load(Ordering::Relaxed) && !self.nts && t4 % 2 == 1;
                 let before = self.held();
                 let mut answer = self.reply(*now, *t1, *t4, packet);
                 if answer.number == 0 {

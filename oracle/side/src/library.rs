@@ -3,7 +3,7 @@ use crate::ffi::{self, Association, Decoded, Field, Loaded, Made, Replied, Setti
 use crate::identifiers::ReferenceId;
 use crate::wrong::Wrong;
 use driver::both::Step;
-use driver::exec::{Drawn, BROKEN_LIST};
+use driver::exec::{Drawn, BROKEN_LIST, BROKEN_LISTS};
 use driver::requests::Request;
 use driver::rules::Rules;
 use driver::state::*;
@@ -11,6 +11,7 @@ use driver::whole::{self, HEAD, ROW};
 use driver::{handover, rules};
 use ntp_proto::tls_utils::identifier_of;
 use std::mem::MaybeUninit;
+use std::sync::atomic::Ordering;
 
 /// Bytes before and behind what is lent, which no call may touch.
 pub const BESIDE: usize = 16;
@@ -121,6 +122,7 @@ pub fn untouched(bytes: &[u8]) -> bool {
 
 impl Library {
     pub fn new(metered: bool, wrong: Option<Wrong>) -> Self {
+        BROKEN_LISTS.store(true, Ordering::Relaxed);
         Library { bytes: vec![], settings: Settings::default(), buffer: vec![], metered, wrong, pokes: vec![] }
     }
 
