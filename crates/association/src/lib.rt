@@ -13,7 +13,6 @@ ghost use mathlib.Core.Path.{_≡_};
 ghost use mathlib.Core.Bool.{_&&_, _||_};
 ghost use lib.Dec.{eqb};
 ghost use Rattle.words.specs.Bytes.{zeros};
-ghost use Rattle.cookielist.specs.List.{listBroken};
 ghost use Rattle.association.specs.Settings.{within, limitsValid, settingsValid};
 ghost use Rattle.association.specs.Record.{noPending, effortValid, versionsValid, pendingValid, wholeSeen, wholeOf, blankOf, freshOf};
 ghost use Rattle.association.specs.New.{numberOf, newOf};
@@ -206,17 +205,6 @@ fn versions_valid(start: Version, spoken: Version) -> bool
     !spoken.is_upgrading()
 }
 
-// Whether a first cookie list is broken, which matters with NTS only.
-pub fn list_broken(nts: bool, list: &[u8]) -> bool
-    ensures { λ r. ⌜ r ≡ listBroken nts (now (list .entry)) ⌝ }
-{
-    if nts {
-        !cookielist::list_whole(list)
-    } else {
-        false
-    }
-}
-
 // Whether a record is whole, given its settings, the summary of its stash, and its state.
 // promise: whole.2, no8.6, no14.3 (and by it every call)
 pub fn whole_seen(settings: Settings, seen: Seen, state: State) -> bool
@@ -346,7 +334,7 @@ impl Association {
                 association: blank,
             };
         }
-        if list_broken(settings.nts, list) {
+        if cookielist::list_broken(settings.nts, list) {
             let blank = Association::blank();
             return NewOut {
                 answer: NewAnswer::BrokenList,

@@ -73,7 +73,7 @@ fn tested(settings: Settings, list: &[u8]) -> NewAnswer
     if !settings.valid() {
         return NewAnswer::BadSettings;
     }
-    if association::list_broken(settings.nts, list) {
+    if cookielist::list_broken(settings.nts, list) {
         return NewAnswer::BrokenList;
     }
     let start = settings.start;

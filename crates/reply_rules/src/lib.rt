@@ -17,7 +17,6 @@ ghost use Rattle.incoming.specs.declared.ReplyRead.the-variants.{Decoded};
 ghost use Rattle.incoming.specs.Incoming.{decodedOf};
 ghost use Rattle.reply_rules.specs.Answer.{numberOf};
 ghost use Rattle.reply_clauses.specs.After.{arrival};
-ghost use Rattle.cookielist.specs.List.{listBroken};
 ghost use Rattle.reply_rules.specs.Judge.{judgeOf, verdictOf, readWith};
 ghost use Rattle.reply_rules.specs.Told.{Matched, afterOf, storesOf, toldOf};
 
@@ -52,17 +51,6 @@ pub struct Verdict {
 
 // The largest stratum of a server.
 const MAX_STRATUM: u8 = 16;
-
-// A cookie list counts only with NTS.
-fn list_broken(nts: bool, list: &[u8]) -> bool
-    ensures { λ r. ⌜ r ≡ listBroken nts (now (list .entry)) ⌝ }
-{
-    if nts {
-        !cookielist::list_whole(list)
-    } else {
-        false
-    }
-}
 
 // The answer to a matching reply: 5 to 11 in order, otherwise 0.
 fn matched(
@@ -117,7 +105,7 @@ fn judge(
 ) -> ReplyAnswer
     ensures { λ r. ⌜ r ≡ judgeOf settings s reply (arrival (now (list .entry)) t1 t4 time) .answer ⌝ }
 {
-    if list_broken(settings.nts, list) {
+    if cookielist::list_broken(settings.nts, list) {
         return ReplyAnswer::BrokenList;
     }
     let version = s.version;
