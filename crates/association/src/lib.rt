@@ -205,6 +205,35 @@ fn versions_valid(start: Version, spoken: Version) -> bool
     !spoken.is_upgrading()
 }
 
+impl State {
+    // The state of a new association.
+    pub fn fresh(settings: Settings) -> State
+        ensures { λ r. ⌜ r ≡ freshOf settings .state ⌝ }
+    {
+        let version = settings.start;
+        let min = settings.min;
+        let request = Pending::none(false);
+        State {
+            effort: Effort {
+                reach: Reach::never(),
+                tries: 0,
+                unanswered: 8,
+            },
+            version,
+            polls: Polls {
+                last: min,
+                remote: min,
+            },
+            source: Source {
+                stratum: 16,
+                refid: ReferenceId::NONE,
+                denial: false,
+            },
+            request,
+        }
+    }
+}
+
 // Whether a record is whole, given its settings, the summary of its stash, and its state.
 // promise: whole.2, no8.6, no14.3 (and by it every call)
 pub fn whole_seen(settings: Settings, seen: Seen, state: State) -> bool
@@ -293,30 +322,11 @@ impl Association {
         ensures { λ r. ⌜ r ≡ freshOf settings ⌝ }
     {
         let stash = CookieStash::new();
-        let version = settings.start;
-        let min = settings.min;
-        let request = Pending::none(false);
+        let state = State::fresh(settings);
         Association {
             settings,
             stash,
-            state: State {
-                effort: Effort {
-                    reach: Reach::never(),
-                    tries: 0,
-                    unanswered: 8,
-                },
-                version,
-                polls: Polls {
-                    last: min,
-                    remote: min,
-                },
-                source: Source {
-                    stratum: 16,
-                    refid: ReferenceId::NONE,
-                    denial: false,
-                },
-                request,
-            },
+            state,
         }
     }
 
@@ -326,27 +336,11 @@ impl Association {
         ensures { λ r. ⌜ r ≡ newOf settings (now (list .entry)) ⌝ }
     {
         let none = Dropped::none();
-        if !settings.valid() {
+        let answer = NewAnswer::tested(settings, list);
+        if answer.number() != 0 {
             let blank = Association::blank();
             return NewOut {
-                answer: NewAnswer::BadSettings,
-                dropped: none,
-                association: blank,
-            };
-        }
-        if cookielist::list_broken(settings.nts, list) {
-            let blank = Association::blank();
-            return NewOut {
-                answer: NewAnswer::BrokenList,
-                dropped: none,
-                association: blank,
-            };
-        }
-        let start = settings.start;
-        if start.is_upgrading() {
-            let blank = Association::blank();
-            return NewOut {
-                answer: NewAnswer::Retired,
+                answer,
                 dropped: none,
                 association: blank,
             };
@@ -359,13 +353,13 @@ impl Association {
             made.stash = stash;
             let dropped = stored.dropped;
             return NewOut {
-                answer: NewAnswer::Made,
+                answer,
                 dropped,
                 association: made,
             };
         }
         NewOut {
-            answer: NewAnswer::Made,
+            answer,
             dropped: none,
             association: made,
         }
@@ -380,6 +374,24 @@ pub enum NewAnswer {
 }
 
 impl NewAnswer {
+    // What `new` answers for settings and first list.
+    // promise: whole.4, no12.1, no14.1
+    pub fn tested(settings: Settings, list: &[u8]) -> NewAnswer
+        ensures { λ r. ⌜ r ≡ newOf settings (now (list .entry)) .answer ⌝ }
+    {
+        if !settings.valid() {
+            return NewAnswer::BadSettings;
+        }
+        if cookielist::list_broken(settings.nts, list) {
+            return NewAnswer::BrokenList;
+        }
+        let start = settings.start;
+        if start.is_upgrading() {
+            return NewAnswer::Retired;
+        }
+        NewAnswer::Made
+    }
+
     // promise: whole.4
     pub fn number(self) -> u8
         ensures { λ r. ⌜ r ≡ numberOf self ⌝ }
