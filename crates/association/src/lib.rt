@@ -131,7 +131,7 @@ impl Settings {
 impl Effort {
     // Whether the number of unanswered polls is the one that the register implies.
     // promise: whole.2, no8.6
-    pub fn valid(self) -> bool
+    fn valid(self) -> bool
         ensures { λ r. ⌜ r ≡ effortValid self ⌝ }
     {
         let reach = self.reach;
