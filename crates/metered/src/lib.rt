@@ -88,7 +88,7 @@ pub fn profile(settings: Settings, list: &[u8]) -> ProfileAnswer
     if !settings.valid() {
         return ProfileAnswer::BadSettings;
     }
-    if association::list_broken(settings.nts, list) {
+    if cookielist::list_broken(settings.nts, list) {
         return ProfileAnswer::BrokenList;
     }
     let min = settings.min;

@@ -1,8 +1,8 @@
 -- `list_broken` meets its contract: the list is read with NTS only.
 -- Assumes nothing.
 use borrow.Author.Needs.{needs}
-use Rattle.association.proofs.list_broken.Statement.{statement}
-use Rattle.association.proofs.list_broken.Tie as tie
+use Rattle.cookielist.proofs.list_broken.Statement.{statement}
+use Rattle.cookielist.proofs.list_broken.Tie as tie
 
 list-whole-requires : tie.Need-list-whole-requires
 list-whole-requires c κs = search needs

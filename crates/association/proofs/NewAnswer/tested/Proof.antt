@@ -1,9 +1,11 @@
+-- `NewAnswer::tested` meets its contract: the settings, with NTS the list, and the start version, each tested by its function.
+-- Assumes nothing.
 use mathlib.Core.Path.{sym, _∙_}
 use borrow.Author.Tests.{not-true, not-false}
 use Rattle.association.specs.New.{newOf}
 use borrow.Author.Needs.{needs}
-use Rattle.record_new.proofs.tested.Statement.{statement}
-use Rattle.record_new.proofs.tested.Tie as tie
+use Rattle.association.proofs.NewAnswer.tested.Statement.{statement}
+use Rattle.association.proofs.NewAnswer.tested.Tie as tie
 
 valid-requires : tie.Need-valid-requires
 valid-requires c κs = search needs
