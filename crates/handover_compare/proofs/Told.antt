@@ -18,8 +18,8 @@ use Rattle.handover_file.specs.Answers.{over, loadOf}
 use Rattle.handover_read.specs.declared.FileRead.{FileRead}
 use Rattle.handover_read.specs.Reading.{readOf}
 use Rattle.handover_read.proofs.Within.{answer-is}
-use Rattle.handover_save.specs.Put.{Put}
-use Rattle.handover_save.proofs.Laid.{laid-over}
+use Rattle.words.specs.Put.{Put}
+use Rattle.words.proofs.Put.{laid-over}
 use Rattle.compare_fields.specs.declared.Field.{Field}
 use Rattle.compare_fields.specs.declared.Groups.{Groups}
 use Rattle.compare_fields.specs.Fields.{differing, listOf, listBytes}
