@@ -62,7 +62,7 @@ pub data Reached (l : List ℕ) : ℕ → ℕ → Type 0 where
 
 -- from an offset, the reader reaches one at which the list is rejected with 33
 -- promise: 3.12
-pub record Refused (l : List ℕ) (at : ℕ) : Type 0 where
+pub record ListRefused (l : List ℕ) (at : ℕ) : Type 0 where
   pub place : ℕ
   pub reached : Reached l at place
   pub number : refusalOf (entryAt l place) ≡ some 33
