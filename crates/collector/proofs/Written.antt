@@ -4,22 +4,29 @@
 use mathlib.Core.Path.{_≡_, refl, ap}
 use mathlib.Core.Bool.{Bool, true, false, cond}
 use mathlib.Core.List.{List, _∷_, _++_}
-use Prim.Native.Nat.{ℕ, _≤_}
+use Prim.Native.Nat.{ℕ, _+_, _≤_, _<_}
 use native.Mathlib.Omega.{arith}
 use lib.Dec.{leb, eqb, lit≤}
 use lib.ListN.{length, take, drop}
 use lib.Seq.{take-at, drop-at}
 use Rattle.words.specs.Bytes.{part}
-use Rattle.words.proofs.Bytes.{Bytes, length-part}
+use Rattle.words.proofs.Bytes.{Bytes, bytes-part, length-part, be-below}
 use Rattle.cookielist.specs.List.{AllShort}
 use Rattle.cookielist.specs.List.{cookiesIn, whole}
 use Rattle.cookielist.proofs.RoundTrip.{list-read}
 use Rattle.fields.specs.Walk.{walkOf, decryptedWalk, whole as unbroken, fieldsOf, bodiesOf}
-use Rattle.fields.proofs.Walks.{walk-induction}
+use Rattle.fields.specs.Field.{lengthAt}
+use Rattle.fields.proofs.Walks.{Placed, walk-induction}
 use Rattle.collector.specs.Collector.{cookieKind, cookiesOf, listIn, collectOf, leftIn, bufferOf, numberOf}
 use Rattle.collector.specs.declared.Collected.{Collected}
 use Rattle.collector.specs.declared.Collected.the-variants.{Done, Broken, TooLong}
-use Rattle.collector.proofs.Records.{body-short}
+
+-- a body's length fits its record's two bytes
+body-short : (p : List ℕ) → Bytes p → (at least start len next : ℕ) → Placed p at least start len next → len < 65536
+unfolding lengthAt
+body-short p bytes at least start len next w =
+    let two : length (part p (at + 2) 2) ≡ 2 = length-part p (at + 2) 2 (omega arith) in
+    omega (arith, w .size, rw two at (be-below (part p (at + 2) 2) (bytes-part p (at + 2) 2 bytes)))
 
 short-unless : (t : Bool) (b : List ℕ) (bs : List (List ℕ)) → length b ≤ 65535 → AllShort bs → AllShort (cond t (b ∷ bs) bs)
 short-unless true b bs h q = (h, q)

@@ -6,10 +6,7 @@ use cookielist::RECORD_MARK;
 use fields::Step;
 use fields::Walked;
 ghost use mathlib.Core.Path.{_≡_};
-ghost use mathlib.Core.List.{_++_};
-ghost use Prim.Native.Nat.{_+_, _≤_, _<_};
-ghost use lib.ListN.{length, take, drop};
-ghost use Rattle.cookielist.specs.List.{recordOf};
+ghost use lib.ListN.{length};
 ghost use Rattle.collector.specs.Collector.{listIn, collectOf, bufferOf, numberOf};
 
 // The type of a field that carries a cookie.
@@ -58,24 +55,6 @@ fn list_length(decrypted: &[u8]) -> usize
     }
 }
 
-// Writes a record of the list at an offset, and returns the offset after it.
-fn put_record(out: &mut [u8], to: usize, body: &[u8]) -> usize
-    requires { ⌜ (to + 4 + length (now body) ≤ length (now out)) × (length (now body) < 65536) ⌝ }
-    ensures { λ r. ⌜ (r ≡ to + 4 + length (now (body .entry))) ×
-        (now (out .exit) ≡ take to (now (out .entry)) ++ recordOf (now (body .entry)) ++ drop (to + 4 + length (now (body .entry))) (now (out .entry))) ⌝ }
-{
-    let n = body.len();
-    let mark = words::be16_bytes(RECORD_MARK);
-    let len = words::be16_bytes(n as u16);
-    out[to] = mark[0];
-    out[to + 1] = mark[1];
-    out[to + 2] = len[0];
-    out[to + 3] = len[1];
-    let from = to + HEAD_BYTES;
-    bytes::copy(body, &mut out[from..]);
-    from + n
-}
-
 // Writes the list of the cookies to the start of the buffer. Rejects broken fields first, then a list longer than the buffer.
 // promise: 7.9
 pub fn collect(decrypted: &[u8], out: &mut [u8]) -> Collected
@@ -102,7 +81,7 @@ pub fn collect(decrypted: &[u8], out: &mut [u8]) -> Collected
         };
         if kind == COOKIE_KIND {
             let end = start + len;
-            to = put_record(out, to, &decrypted[start..end]);
+            to = words::lay_record(out, to, RECORD_MARK, &decrypted[start..end]);
         }
         at = next;
     }

@@ -2,6 +2,7 @@
 -- Assumes nothing.
 use mathlib.Core.Path.{refl}
 use Rattle.words.specs.Bytes.{be, part, zeros}
+use Rattle.words.specs.Put.{recordOf}
 use Rattle.reach.specs.Register.{trailing}
 use Rattle.header.specs.Header.{bytesOf}
 use Rattle.request.specs.Extension.{filled, fieldLength, extensionBytes}
@@ -15,7 +16,7 @@ use Rattle.association.specs.Settings.{settingsValid}
 use Rattle.association.specs.Record.{noPending, effortValid, versionsValid, pendingValid, idleValid, wholeSeen, wholeOf}
 use Rattle.handover_groups.specs.Settings.{settingsBytes, settingsOf, settingsKnown}
 use Rattle.handover_groups.specs.State.{effortBytes, effortOf, versionBytes, versionOf, versionKnown, pollsBytes, pollsOf, sourceBytes, sourceOf, sourceKnown}
-use Rattle.handover_file.specs.Sections.{recordOf, bodyLength, found}
+use Rattle.handover_file.specs.Sections.{bodyLength, found}
 use Rattle.handover_file.specs.Cookies.{cookieBytes, stashBytes, lenOf, firstOf, runOf, stashFits, heldIn, stashKnown, slotFor, emptyAt, stashOf}
 use Rattle.handover_file.specs.File.{fileOf, known, recordIn, retired, settledSettings, settledState, settled}
 use Rattle.handover_file.specs.Answers.{loadIn, loadOf}

@@ -11,7 +11,7 @@ use Rattle.time_types.specs.Poll.{interval}
 use Rattle.time_types.specs.Time.{timestamp, duration}
 use Rattle.timer_rules.specs.declared.TimerAnswer.{TimerAnswer}
 use Rattle.timer_rules.specs.declared.TimerAnswer.the-variants as T
-use Rattle.incoming.specs.Incoming.{leapCode}
+use Rattle.incoming.specs.Incoming.{leapPrinted}
 use Rattle.reply_clauses.specs.declared.Measurement.{Measurement}
 use Rattle.reply_rules.specs.declared.ReplyAnswer.{ReplyAnswer}
 use Rattle.reply_rules.specs.declared.ReplyAnswer.the-variants as R
@@ -81,7 +81,7 @@ measuredAs m =
     record {
       number = 0;
       measured = 1;
-      leap = leapCode (m .leap);
+      leap = leapPrinted (m .leap);
       stratum = m .stratum;
       precision = m .precision;
       delay = m .delay;

@@ -11,7 +11,7 @@ use lib.ListN.{length}
 use Rattle.fields.specs.Field.{stepAt, refusalOf}
 use Rattle.fields.specs.Walk.{walkOf, packetWalk, decryptedWalk, walkedOf, onStep}
 use Rattle.fields.specs.Walk as walk
-use Rattle.fields.specs.Sound.{Reached, here, past, Refused}
+use Rattle.fields.specs.Sound.{Reached, here, past, WalkRefused}
 use Rattle.fields.specs.declared.Step.{Step}
 use Rattle.fields.specs.declared.Step.the-variants.{Field, End, Broken}
 use Rattle.fields.proofs.Walks.{placed, walk-turn}
@@ -36,8 +36,8 @@ module _ (p : List ℕ) (least tail : ℕ) (h : 4 ≤ least) where
   says {at} n here q = says-at at n (stepAt p at least tail) refl q
   says {at} n (past e r) q = ap (λ w. walk.refusalOf (walkedOf w)) (turn at _ e) ∙ says n r q
 
-  on : (at n : ℕ) → ((next : ℕ) → at + 4 ≤ next → next ≤ length p → Says next n → Refused p least tail next n) → (s : Step) → stepAt p at least tail ≡ s →
-      Says at n → Refused p least tail at n
+  on : (at n : ℕ) → ((next : ℕ) → at + 4 ≤ next → next ≤ length p → Says next n → WalkRefused p least tail next n) → (s : Step) → stepAt p at least tail ≡ s →
+      Says at n → WalkRefused p least tail at n
   on at n later (Field kind start len next) e q =
       let w = placed p at least tail h kind start len next e in
       let r = later next (omega arith) (w .within) (sym (ap (λ w. walk.refusalOf (walkedOf w)) (turn at (Field kind start len next) e)) ∙ q) in
@@ -45,17 +45,17 @@ module _ (p : List ℕ) (least tail : ℕ) (h : 4 ≤ least) where
   on at n later End e q = absurd (no-number n (sym (ap (λ w. walk.refusalOf (walkedOf w)) (turn at End e)) ∙ q))
   on at n later Broken e q = record { place = at; reached = here; number = ap refusalOf e ∙ sym (ap (λ w. walk.refusalOf (walkedOf w)) (turn at Broken e)) ∙ q }
 
-  upto : (m at n : ℕ) → length p - at ≤ m → Says at n → Refused p least tail at n
+  upto : (m at n : ℕ) → length p - at ≤ m → Says at n → WalkRefused p least tail at n
   upto zero at n k = on at n (λ next a b. absurd (omega arith)) (stepAt p at least tail) refl
   upto (suc m) at n k = on at n (λ next a b. upto m next n (omega arith)) (stepAt p at least tail) refl
 
-  pub walk-refused : (at n : ℕ) → (walk.refusalOf (walkedOf (walkOf p at least tail)) ≡ some n) ↔ Refused p least tail at n
+  pub walk-refused : (at n : ℕ) → (walk.refusalOf (walkedOf (walkOf p at least tail)) ≡ some n) ↔ WalkRefused p least tail at n
   walk-refused at n = (upto (length p - at) at n (omega arith), λ r. says n (r .reached) (r .number))
 
 -- promise: 7.5
-pub packet-refused : (p : List ℕ) (n : ℕ) → (walk.refusalOf (walkedOf (packetWalk p)) ≡ some n) ↔ Refused p 16 24 48 n
+pub packet-refused : (p : List ℕ) (n : ℕ) → (walk.refusalOf (walkedOf (packetWalk p)) ≡ some n) ↔ WalkRefused p 16 24 48 n
 packet-refused p n = walk-refused p 16 24 (lit≤ tt) 48 n
 
 -- promise: 7.5 (1 exactly if the walk reaches an offset with a broken field)
-pub decrypted-refused : (p : List ℕ) (n : ℕ) → (walk.refusalOf (walkedOf (decryptedWalk p)) ≡ some n) ↔ Refused p 4 0 0 n
+pub decrypted-refused : (p : List ℕ) (n : ℕ) → (walk.refusalOf (walkedOf (decryptedWalk p)) ≡ some n) ↔ WalkRefused p 4 0 0 n
 decrypted-refused p n = walk-refused p 4 0 (lit≤ tt) 0 n

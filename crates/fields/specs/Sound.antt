@@ -51,7 +51,7 @@ pub data Reached (p : List ℕ) (least tail : ℕ) : ℕ → ℕ → Type 0 wher
 
 -- from an offset, the walk reaches one at which it is rejected with a number
 -- promise: 7.5
-pub record Refused (p : List ℕ) (least tail at n : ℕ) : Type 0 where
+pub record WalkRefused (p : List ℕ) (least tail at n : ℕ) : Type 0 where
   pub place : ℕ
   pub reached : Reached p least tail at place
   pub number : refusalOf (stepAt p place least tail) ≡ some n

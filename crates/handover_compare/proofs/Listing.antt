@@ -8,8 +8,8 @@ use native.Mathlib.Omega.{arith}
 use native.Mathlib.Numerals.{add-one}
 use lib.ListN.{length, getD, drop, length-append, drop-of-length-le}
 use lib.Seq.{drop-cons}
-use Rattle.handover_save.specs.Put.{laidAt, Put}
-use Rattle.handover_save.proofs.Laid.{laid-none, laid-on, put-put, put-long}
+use Rattle.words.specs.Put.{laidAt, Put}
+use Rattle.words.proofs.Put.{laid-none, laid-on, put-put, put-long}
 use Rattle.compare_fields.specs.declared.Field.{Field}
 use Rattle.compare_fields.specs.declared.Groups.{Groups}
 use Rattle.compare_fields.specs.Fields.{differing, listBytes, entryBytes}

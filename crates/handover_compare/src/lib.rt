@@ -13,7 +13,7 @@ ghost use lib.ListN.{length};
 ghost use mathlib.Core.List.{_∷_, []};
 ghost use Rattle.compare_fields.specs.Fields.{differing, entryBytes, listBytes};
 ghost use Rattle.compare_fields.specs.Steps.{allOf};
-ghost use Rattle.handover_save.specs.Put.{Put};
+ghost use Rattle.words.specs.Put.{Put};
 ghost use Rattle.handover_file.specs.Cookies.{stashFits, stashKnown};
 ghost use Rattle.handover_compare.specs.Answer.{compareNumber};
 ghost use Rattle.handover_compare.specs.Made.{madeOf};
@@ -127,7 +127,7 @@ fn put_field(out: &mut [u8], at: usize, f: Field) -> usize
         return at;
     }
     let e = entry(f);
-    handover_save::lay(out, at, &e)
+    words::lay(out, at, &e)
 }
 
 // Writes the entries of eight fields.

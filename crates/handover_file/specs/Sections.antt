@@ -7,7 +7,8 @@ use mathlib.Core.Bool.{Bool, true, cond}
 use mathlib.Core.List.{List, [], _∷_, _++_}
 use lib.Dec.{ltb, eqb}
 use lib.ListN.{length, drop}
-use Rattle.words.specs.Bytes.{be, part, toBe}
+use Rattle.words.specs.Bytes.{be, part}
+use Rattle.words.specs.Put.{recordOf}
 
 -- a record of the file: its mark, and the test of its body (62 if it fails)
 pub record Shape : Type 0 where
@@ -15,10 +16,6 @@ pub record Shape : Type 0 where
   pub fits : List ℕ → Bool
 
 -- ---- the writer
-
--- promise: no6.1
-unfoldable pub recordOf : ℕ → List ℕ → List ℕ
-recordOf m b = toBe 2 m ++ (toBe 2 (length b) ++ b)
 
 -- promise: no6.1
 abbrev pub joined : List Shape → List (List ℕ) → List ℕ

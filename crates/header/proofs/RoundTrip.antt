@@ -78,25 +78,25 @@ view p = go (ltb (length p) 48) (eqb (versionBits p) 3) (eqb (versionBits p) 4) 
     go false false false es et eu = other (eqb-false _ 3 et) (eqb-false _ 4 eu)
 
 -- fewer than 48 bytes, or version bits that are neither 3 nor 4
-abbrev pub Refused : List ℕ → Type 0
-Refused p = (length p < 48) ⊎ ((versionBits p ≡ 3 → ⊥) × (versionBits p ≡ 4 → ⊥))
+abbrev pub HeaderRefused : List ℕ → Type 0
+HeaderRefused p = (length p < 48) ⊎ ((versionBits p ≡ 3 → ⊥) × (versionBits p ≡ 4 → ⊥))
 
 -- the number 1, and no other, is that of bytes that are not decodable
 refused-by : (r : HeaderRead) (n : ℕ) → refusalOf r ≡ some n → (n ≡ 1) × (r ≡ Undecodable)
 refused-by (Decoded h) n e = let z : _≡_ {A = ℕ} 0 1 = cc in absurd (omega arith)
 refused-by Undecodable n e = (cc, refl)
 
-undecodable : (p : List ℕ) → headerOf p ≡ Undecodable → Refused p
+undecodable : (p : List ℕ) → headerOf p ≡ Undecodable → HeaderRefused p
 undecodable p e = go (subst (Read p) e (view p))
   where
-    go : Read p Undecodable → Refused p
+    go : Read p Undecodable → HeaderRefused p
     go (short h) = inl h
     go (other a b) = inr (a, b)
 
-then-refused : (p : List ℕ) → Refused p → headerOf p ≡ Undecodable
+then-refused : (p : List ℕ) → HeaderRefused p → headerOf p ≡ Undecodable
 then-refused p f = go (headerOf p) (view p) f
   where
-    go : (r : HeaderRead) → Read p r → Refused p → r ≡ Undecodable
+    go : (r : HeaderRead) → Read p r → HeaderRefused p → r ≡ Undecodable
     go _ (short h) f = refl
     go _ (other a b) f = refl
     go _ (read v l e) (inl h) = absurd (omega arith)
@@ -105,7 +105,7 @@ then-refused p f = go (headerOf p) (view p) f
 
 -- the reader refuses with number 1 of RULES exactly what is refused, and with no other number
 -- promise: 6.1 (1 exactly if too short or of another version), 6.2, 6.4
-pub refused : (p : List ℕ) (n : ℕ) → (refusalOf (headerOf p) ≡ some n) ↔ ((n ≡ 1) × Refused p)
+pub refused : (p : List ℕ) (n : ℕ) → (refusalOf (headerOf p) ≡ some n) ↔ ((n ≡ 1) × HeaderRefused p)
 refused p n = (
   λ e. (let b = refused-by (headerOf p) n e in (b .0, undecodable p (b .1))),
   λ f. ap refusalOf (then-refused p (f .1)) ∙ ap some (sym (f .0)),

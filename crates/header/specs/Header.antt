@@ -6,7 +6,6 @@ use mathlib.Core.List.{List, _∷_, _++_}
 use mathlib.Core.Option.{Option, none, some}
 use lib.Dec.{ltb, eqb}
 use lib.ListN.{length, getD}
-use lib.Seq.{paste}
 use Rattle.words.specs.Bytes.{be, part, toBe}
 use Rattle.words.specs.Signed.{signed, unsigned}
 use Rattle.identifiers.specs.Names.{named}
@@ -125,7 +124,3 @@ bytesOf h =
     ++ toBe 8 (h .origin .0)
     ++ toBe 8 (h .receive .0)
     ++ toBe 8 (h .transmit .0))
-
--- bytes from an offset on replaced by others; only private functions of the writers, here and in `request`, cite it
-unfoldable pub placed : List ℕ → ℕ → List ℕ → List ℕ
-placed out at bytes = paste out at bytes (length bytes)

@@ -7,8 +7,9 @@ use time_types::PollInterval;
 ghost use mathlib.Core.Path.{_≡_};
 ghost use Prim.Native.Nat.{_+_, _≤_, _<_};
 ghost use lib.ListN.{length};
+ghost use Rattle.words.specs.Put.{laidAt};
 ghost use Rattle.words.specs.Bytes.{be, part, toBe};
-ghost use Rattle.header.specs.Header.{leapOf, modeOf, leapCode, modeCode, versionCode, firstByte, fields, headerOf, placed, bytesOf};
+ghost use Rattle.header.specs.Header.{leapOf, modeOf, leapCode, modeCode, versionCode, firstByte, fields, headerOf, bytesOf};
 ghost use Rattle.header.specs.Kiss.{kissesOf};
 
 pub const HEADER_BYTES: usize = 48;
@@ -201,32 +202,21 @@ pub fn read_header(p: &[u8]) -> HeaderRead
     }
 }
 
-// The array with some of its bytes replaced, from an offset on.
-fn put(mut out: [u8; 48], at: usize, bytes: &[u8]) -> [u8; 48]
-    requires { ⌜ at + length (now bytes) ≤ 48 ⌝ }
-    ensures { λ r. ⌜ r ≡ placed out at (now (bytes .entry)) ⌝ }
+// The array with a word replaced, big-endian, from an offset on.
+fn put32(mut out: [u8; 48], at: usize, x: u32) -> [u8; 48]
+    requires { ⌜ at + 4 ≤ 48 ⌝ }
+    ensures { λ r. ⌜ r ≡ laidAt out at (toBe 4 x) ⌝ }
 {
-    let mut i = 0;
-    while i < bytes.len() {
-        out[at + i] = bytes[i];
-        i += 1;
-    }
+    words::lay(&mut out, at, &words::be32_bytes(x));
     out
 }
 
-// The array with a word replaced, big-endian, from an offset on.
-fn put32(out: [u8; 48], at: usize, x: u32) -> [u8; 48]
-    requires { ⌜ at + 4 ≤ 48 ⌝ }
-    ensures { λ r. ⌜ r ≡ placed out at (toBe 4 x) ⌝ }
-{
-    put(out, at, &words::be32_bytes(x))
-}
-
-fn put64(out: [u8; 48], at: usize, x: u64) -> [u8; 48]
+fn put64(mut out: [u8; 48], at: usize, x: u64) -> [u8; 48]
     requires { ⌜ at + 8 ≤ 48 ⌝ }
-    ensures { λ r. ⌜ r ≡ placed out at (toBe 8 x) ⌝ }
+    ensures { λ r. ⌜ r ≡ laidAt out at (toBe 8 x) ⌝ }
 {
-    put(out, at, &words::be64_bytes(x))
+    words::lay(&mut out, at, &words::be64_bytes(x));
+    out
 }
 
 fn first_byte(leap: Leap, version: HeaderVersion, mode: Mode) -> u8

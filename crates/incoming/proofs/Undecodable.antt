@@ -21,7 +21,7 @@ use Rattle.incoming.specs.declared.Reply.{Reply}
 use Rattle.incoming.specs.declared.ReplyRead.{ReplyRead}
 use Rattle.incoming.specs.declared.ReplyRead.the-variants.{Decoded, Undecodable}
 use Rattle.incoming.specs.Incoming.{endValid, decryptedValid, bytesRead, onHeader, readOf, refusalOf}
-use Rattle.incoming.specs.Refused.{Refused}
+use Rattle.incoming.specs.Refused.{PacketRefused}
 
 -- a test is not both true and false
 not-both : (t : Bool) → t ≡ true → t ≡ false → ⊥
@@ -49,19 +49,19 @@ is-broken (ends at) e = absurd (not-both true refl e)
 is-broken broken e = refl
 
 module _ (nts : Bool) (p : List ℕ) (end : ℕ) (decrypted : List ℕ) where
-  end-refused : (v : HeaderVersion) → versionBits p ≡ versionCode v → endValid v p end ≡ false → Refused nts p end decrypted
+  end-refused : (v : HeaderVersion) → versionBits p ≡ versionCode v → endValid v p end ≡ false → PacketRefused nts p end decrypted
   end-refused V3 e f = inr (inl (e, eqb-false end 48 f))
   end-refused V4 e f = inr (inr (inl (e, λ q. not-both (isPlace p end) (place-iff p end .1 q) f)))
 
-  decrypted-refused : decryptedValid nts decrypted ≡ false → Refused nts p end decrypted
+  decrypted-refused : decryptedValid nts decrypted ≡ false → PacketRefused nts p end decrypted
   decrypted-refused f = by nts refl f
     where
-      by : (b : Bool) → nts ≡ b → decryptedValid b decrypted ≡ false → Refused nts p end decrypted
+      by : (b : Bool) → nts ≡ b → decryptedValid b decrypted ≡ false → PacketRefused nts p end decrypted
       by true e f = inr (inr (inr (e, is-broken (decryptedWalk decrypted) f)))
       by false e f = absurd (not-both true refl f)
 
   -- of what is refused and has a header that is read, the end or the decrypted fields do not hold
-  which-fails : (v : HeaderVersion) → versionBits p ≡ versionCode v → (headerOf p ≡ H.Undecodable → ⊥) → Refused nts p end decrypted
+  which-fails : (v : HeaderVersion) → versionBits p ≡ versionCode v → (headerOf p ≡ H.Undecodable → ⊥) → PacketRefused nts p end decrypted
       → (endValid v p end ≡ false) ⊎ (decryptedValid nts decrypted ≡ false)
   which-fails v e n (inl h) = absurd (n h)
   which-fails V3 e n (inr (inl f)) = inl (ne-eqb end 48 (f .1))
@@ -74,16 +74,16 @@ module _ (nts : Bool) (p : List ℕ) (end : ℕ) (decrypted : List ℕ) where
       no-place false q = refl
   which-fails v e n (inr (inr (inr f))) = inr (rw (f .0) (not-whole (decryptedWalk decrypted) (f .1)))
 
-  undecodable : (uid : List ℕ) → (readOf nts uid p end decrypted ≡ Undecodable) ↔ Refused nts p end decrypted
+  undecodable : (uid : List ℕ) → (readOf nts uid p end decrypted ≡ Undecodable) ↔ PacketRefused nts p end decrypted
   unfolding readOf bytesRead fields
   undecodable uid = (there (headerOf p) (view p) refl, back (headerOf p) (view p) refl)
     where
-      there : (r : HeaderRead) → Read p r → headerOf p ≡ r → onHeader (bytesRead nts uid p end decrypted) r ≡ Undecodable → Refused nts p end decrypted
+      there : (r : HeaderRead) → Read p r → headerOf p ≡ r → onHeader (bytesRead nts uid p end decrypted) r ≡ Undecodable → PacketRefused nts p end decrypted
       there _ (short l) e q = inl e
       there _ (other a b) e q = inl e
       there _ (read v l b) e q = ⊎-elim (end-refused v b) decrypted-refused (one-fails (endValid v p end) (decryptedValid nts decrypted) _ q)
 
-      back : (r : HeaderRead) → Read p r → headerOf p ≡ r → Refused nts p end decrypted → onHeader (bytesRead nts uid p end decrypted) r ≡ Undecodable
+      back : (r : HeaderRead) → Read p r → headerOf p ≡ r → PacketRefused nts p end decrypted → onHeader (bytesRead nts uid p end decrypted) r ≡ Undecodable
       back _ (short l) e q = refl
       back _ (other a b) e q = refl
       back _ (read v l b) e q = then-refused (endValid v p end) (decryptedValid nts decrypted) _
@@ -91,7 +91,7 @@ module _ (nts : Bool) (p : List ℕ) (end : ℕ) (decrypted : List ℕ) where
 
   -- the byte form is refused with number 1 of RULES exactly there, and with no other number
   -- promise: 7.7 (the byte form has 1 exactly if its header, its end or, with NTS, its decrypted fields are not valid; `refusalOf`)
-  pub refused : (uid : List ℕ) (n : ℕ) → (refusalOf (readOf nts uid p end decrypted) ≡ some n) ↔ ((n ≡ 1) × Refused nts p end decrypted)
+  pub refused : (uid : List ℕ) (n : ℕ) → (refusalOf (readOf nts uid p end decrypted) ≡ some n) ↔ ((n ≡ 1) × PacketRefused nts p end decrypted)
   refused uid n = (
     λ e. (let b = refused-by (readOf nts uid p end decrypted) n e in (b .0, undecodable uid .0 (b .1))),
     λ f. ap refusalOf (undecodable uid .1 (f .1)) ∙ ap some (sym (f .0)),

@@ -33,12 +33,12 @@ use Rattle.incoming.specs.declared.DecodedMode.the-variants.{Request, Re
 use Rattle.incoming.specs.declared.DecodedReply.{DecodedReply}
 
 -- the leap kinds as a program prints them
-abbrev pub leapCode : NtpLeapIndicator → ℕ
-leapCode I.NoWarning = 0
-leapCode I.Leap61 = 1
-leapCode I.Leap59 = 2
-leapCode I.Unknown = 3
-leapCode I.Unsynchronized = 4
+abbrev pub leapPrinted : NtpLeapIndicator → ℕ
+leapPrinted I.NoWarning = 0
+leapPrinted I.Leap61 = 1
+leapPrinted I.Leap59 = 2
+leapPrinted I.Unknown = 3
+leapPrinted I.Unsynchronized = 4
 
 -- a header's leap kinds among those of a measurement
 abbrev pub leapOf : Leap → NtpLeapIndicator

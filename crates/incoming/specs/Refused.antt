@@ -12,8 +12,8 @@ use Rattle.fields.specs.Walk.{decryptedWalk, walkedOf}
 use Rattle.fields.specs.Sound.{Place}
 
 -- the header is not decodable; the authenticated end is no place (V3 has only 48, V4 those of a walk that ends); or, with NTS, the decrypted fields are broken
-abbrev pub Refused : Bool → List ℕ → ℕ → List ℕ → Type 0
-Refused nts p end decrypted =
+abbrev pub PacketRefused : Bool → List ℕ → ℕ → List ℕ → Type 0
+PacketRefused nts p end decrypted =
     (headerOf p ≡ Undecodable)
     ⊎ (((versionBits p ≡ 3) × (end ≡ 48 → ⊥))
     ⊎ (((versionBits p ≡ 4) × (Place p end → ⊥))

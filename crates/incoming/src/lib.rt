@@ -15,7 +15,7 @@ use time_types::NtpTimestamp;
 use time_types::PollInterval;
 use uid_groups::Uid;
 ghost use mathlib.Core.Path.{_≡_};
-ghost use Rattle.incoming.specs.Incoming.{leapCode, leapOf, isServer, isResponse, endValid, decryptedValid};
+ghost use Rattle.incoming.specs.Incoming.{leapPrinted, leapOf, isServer, isResponse, endValid, decryptedValid};
 ghost use Rattle.incoming.specs.Incoming.{groupOf, encryptedOf, valueOf, readOf, decodedOf};
 
 // The leap kinds of a measurement: a header's four, and Unknown, which only the decoded form can carry.
@@ -83,7 +83,7 @@ pub struct DecodedReply {
 impl NtpLeapIndicator {
     // The kind as a number, for a program to print.
     pub fn code(self) -> u8
-        ensures { λ r. ⌜ r ≡ leapCode self ⌝ }
+        ensures { λ r. ⌜ r ≡ leapPrinted self ⌝ }
     {
         match self {
             NtpLeapIndicator::NoWarning => 0,

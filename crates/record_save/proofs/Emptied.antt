@@ -16,7 +16,7 @@ use Rattle.cookiestash.specs.Whole.{WholeSlot, Whole}
 use Rattle.cookiestash.specs.Queue.{seen}
 use Rattle.cookiestash.proofs.Stored.{stored-bounds}
 use Rattle.handover_file.specs.Cookies.{cookieBytes, emptyAt}
-use Rattle.handover_save.specs.Put.{Put}
+use Rattle.words.specs.Put.{Put}
 use Rattle.record_stash.specs.Rows.{slotIn, slotsIn, stashIn, Sized}
 use Rattle.record_stash.specs.Slots.{Becomes}
 use Rattle.record_stash.proofs.Mid.{part-same, mid-below, mid-inside, mid-long}

@@ -24,7 +24,8 @@ use Rattle.handover_file.specs.declared.SaveAnswer.{SaveAnswer}
 use Rattle.handover_file.specs.declared.SaveAnswer.the-variants.{Saved, NotWhole, ShortBuffer}
 use Rattle.handover_file.specs.Cookies.{stashBytes, emptyAt}
 use Rattle.handover_file.specs.Answers.{saved, handed, handedOf}
-use Rattle.handover_save.specs.Put.{Put, groupsFile}
+use Rattle.words.specs.Put.{Put}
+use Rattle.handover_save.specs.Groups.{groupsFile}
 use Rattle.handover_save.proofs.Saved.{not-whole-by, short-by, saved-by}
 use Rattle.record_stash.specs.Rows.{stashIn, Sized}
 use Rattle.record_stash.specs.Slots.{Becomes, seenIn}

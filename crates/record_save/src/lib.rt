@@ -9,9 +9,9 @@ ghost use Prim.Native.Nat.{_+_, _≤_};
 ghost use lib.ListN.{length, getD};
 ghost use Rattle.cookiestash.specs.Whole.{WholeSlot, Whole};
 ghost use Rattle.cookiestash.specs.Queue.{seen, cookies};
-ghost use Rattle.handover_file.specs.Sections.{recordOf};
+ghost use Rattle.words.specs.Put.{Put, recordOf};
 ghost use Rattle.handover_file.specs.Cookies.{cookieBytes, cookiesBytes, stashBytes, emptyAt};
-ghost use Rattle.handover_save.specs.Put.{Put, groupsFile};
+ghost use Rattle.handover_save.specs.Groups.{groupsFile};
 ghost use Rattle.record_stash.specs.Rows.{slotIn, stashIn, Sized};
 ghost use Rattle.record_stash.specs.Slots.{Becomes};
 ghost use Rattle.record_save.specs.Save.{gave, saveCall};
@@ -28,10 +28,10 @@ fn put_cookie(out: &mut [u8], at: usize, b: &[u8], from: usize) -> usize
 {
     let len = words::be16_at(b, from + 724);
     let h = words::be16_bytes(len);
-    let to = handover_save::lay(out, at, &h);
+    let to = words::lay(out, at, &h);
     let n = cookiestash::stored_bytes(len as usize);
     let end = from + n;
-    handover_save::lay(out, to, &b[from..end])
+    words::lay(out, to, &b[from..end])
 }
 
 // Writes the cookies, oldest first.
@@ -78,10 +78,10 @@ fn put_stash(out: &mut [u8], at: usize, b: &[u8], capacity: u8, len: usize) -> u
     ensures { λ r. ⌜ (r ≡ at + (4 + len))
         × (Put (now (out .entry)) at (recordOf 0x5354 (stashBytes capacity (stashIn (now (b .entry)) capacity))) r (now (out .exit))) ⌝ }
 {
-    let h = handover_save::head(handover_save::STASH_MARK, len as u16);
-    let to = handover_save::lay(out, at, &h);
+    let h = words::be16_pair(handover_save::STASH_MARK, len as u16);
+    let to = words::lay(out, at, &h);
     let read = [b[27]];
-    let to = handover_save::lay(out, to, &read);
+    let to = words::lay(out, to, &read);
     put_cookies(out, to, b, capacity)
 }
 

@@ -9,14 +9,16 @@ use native.Mathlib.Omega.{arith}
 use lib.Dec.{leb}
 use lib.ListN.{length, drop, replicate, length-append}
 use borrow.Author.Tests.{leb-true}
+use Rattle.words.specs.Put.{laidAt}
+use Rattle.words.proofs.Put.{laid-on, laid-over}
 use Rattle.words.proofs.Tests.{both}
 use Rattle.header.specs.declared.Header.{Header}
-use Rattle.header.specs.Header.{bytesOf, placed}
+use Rattle.header.specs.Header.{bytesOf}
 use Rattle.uid_groups.specs.Matching.{uidKind}
 use Rattle.collector.specs.Collector.{cookieKind}
-use Rattle.request.specs.Extension.{extension, filled, fieldLength, extensionBytes, allBytes}
+use Rattle.request.specs.Extension.{extension, fieldLength, extensionBytes, allBytes}
 use Rattle.request.specs.Request.{askValid, carrying, placeholder, fieldsFor, withFields}
-use Rattle.request.proofs.Placing.{placed-behind, placed-front, filled-full, length-extension, length-placeholders}
+use Rattle.request.proofs.Placing.{length-extension, length-placeholders}
 
 -- ---- a field's length: it covers head and body, is at least 16 and a multiple of four
 
@@ -98,10 +100,10 @@ module _ (uid cookie : List ℕ) (asked : ℕ) (size : length uid ≡ 32) (some 
   abbrev FieldsPlaced : ℕ → Type 0
   FieldsPlaced n =
       (out a b c : List ℕ) → 84 + asked * n ≤ length out
-      → a ≡ placed out 48 (extensionBytes (extension uidKind 36 uid))
-      → b ≡ placed a 84 (extensionBytes (extension cookieKind n cookie))
-      → c ≡ placed b (84 + n) (allBytes (replicate (asked - 1) (placeholder n)))
-      → c ≡ placed out 48 (allBytes (fieldsFor uid cookie asked))
+      → a ≡ laidAt out 48 (extensionBytes (extension uidKind 36 uid))
+      → b ≡ laidAt a 84 (extensionBytes (extension cookieKind n cookie))
+      → c ≡ laidAt b (84 + n) (allBytes (replicate (asked - 1) (placeholder n)))
+      → c ≡ laidAt out 48 (allBytes (fieldsFor uid cookie asked))
 
   at-len : FieldsPlaced len
   unfolding fieldsFor others fieldLength
@@ -110,11 +112,11 @@ module _ (uid cookie : List ℕ) (asked : ℕ) (size : length uid ≡ 32) (some 
       let k = extensionBytes (carrying cookieKind cookie) in
       let both-long : length (u ++ k) ≡ 36 + len = length-append u k ∙ omega (arith, uid-long, length-carrying cookieKind cookie) in
       let rest = first-and-rest asked len some in
-      let first : a ≡ placed out 48 u = ea ∙ ap (λ (n : ℕ). placed out 48 (extensionBytes (extension uidKind n uid))) (sym (ap fieldLength size)) in
+      let first : a ≡ laidAt out 48 u = ea ∙ ap (λ (n : ℕ). laidAt out 48 (extensionBytes (extension uidKind n uid))) (sym (ap fieldLength size)) in
       let at : 84 ≡ 48 + length u = omega (arith, uid-long) in
-      let second : b ≡ placed out 48 (u ++ k) = eb ∙ rw (at, first) (placed-behind out u 48 (omega (arith, uid-long)) k) in
+      let second : b ≡ laidAt out 48 (u ++ k) = eb ∙ rw (at, first) (laid-on out 48 u (omega (arith, uid-long)) k) in
       let next : 84 + len ≡ 48 + length (u ++ k) = omega (arith, both-long) in
-      ec ∙ rw (next, second) (placed-behind out (u ++ k) 48 (omega (arith, both-long, rest)) others) ∙ ap (placed out 48) (append-assoc u k others)
+      ec ∙ rw (next, second) (laid-on out 48 (u ++ k) (omega (arith, both-long, rest)) others) ∙ ap (laidAt out 48) (append-assoc u k others)
 
   pub fields-placed : (n : ℕ) → n ≡ len → FieldsPlaced n
   fields-placed n e = subst FieldsPlaced (sym e) at-len
@@ -127,11 +129,11 @@ module _ (uid cookie : List ℕ) (asked : ℕ) (size : length uid ≡ 32) (some 
     length-packet = length-append front (allBytes (fieldsFor uid cookie asked)) ∙ omega (arith, length-fields)
 
     pub packet-placed : (n : ℕ) → n ≡ len → (out a b : List ℕ) → 84 + asked * n ≤ length out
-        → a ≡ placed out 0 (filled 48 front) → b ≡ placed a 48 (allBytes (fieldsFor uid cookie asked)) →
+        → a ≡ laidAt out 0 front → b ≡ laidAt a 48 (allBytes (fieldsFor uid cookie asked)) →
         b ≡ withFields front uid cookie asked ++ drop (84 + asked * n) out
     unfolding withFields
     packet-placed n e out a b room ea eb =
         let fs = allBytes (fieldsFor uid cookie asked) in
-        let first : a ≡ placed out 0 front = ea ∙ ap (placed out 0) (filled-full 48 front head) in
         let at : 48 ≡ 0 + length front = omega (arith, head) in
-        eb ∙ rw (first, at) (placed-behind out front 0 (omega (arith, head)) fs) ∙ placed-front out (front ++ fs) (84 + asked * n) (length-packet ∙ rw e)
+        let long : length (front ++ fs) ≡ 84 + asked * n = length-packet ∙ rw e in
+        eb ∙ rw (ea, at) (laid-on out 0 front (omega (arith, head)) fs) ∙ laid-over out (front ++ fs) ∙ rw long

@@ -16,8 +16,9 @@ use version::SendKind;
 ghost use mathlib.Core.Path.{_≡_};
 ghost use mathlib.Core.Bool.{true};
 ghost use Prim.Native.Nat.{_+_, _*_, _-_, _≤_, _<_};
-ghost use lib.ListN.{length, getD, replicate};
-ghost use Rattle.header.specs.Header.{placed, bytesOf};
+ghost use lib.ListN.{length, replicate};
+ghost use Rattle.words.specs.Put.{laidAt};
+ghost use Rattle.header.specs.Header.{bytesOf};
 ghost use Rattle.request.specs.Extension.{extension, filled, fieldLength, extensionBytes, allBytes};
 ghost use Rattle.request.specs.Request.{isV5, hasNts, askValid, reftimeOf, headerFor, placeholder, fieldsFor, withFields};
 ghost use Rattle.request.specs.Answer.{numberOf, answerFor, bufferFor, requestOf, bufferOf};
@@ -141,20 +142,16 @@ fn request_header(kind: SendKind, poll: PollInterval, id: u64, upgrademark: u64)
     }
 }
 
-fn byte_or_zero(bytes: &[u8], i: usize) -> u8
-    ensures { λ r. ⌜ r ≡ getD (now (bytes .entry)) i 0 ⌝ }
-{
-    if i < bytes.len() { bytes[i] } else { 0 }
-}
-
 // Writes bytes, then zeros, n bytes in all, from an offset on.
-fn put(out: &mut [u8], at: usize, bytes: &[u8], n: usize)
+fn put_filled(out: &mut [u8], at: usize, bytes: &[u8], n: usize)
     requires { ⌜ (at + n ≤ length (now out)) × (length (now bytes) ≤ n) ⌝ }
-    ensures { λ _. ⌜ now (out .exit) ≡ placed (now (out .entry)) at (filled n (now (bytes .entry))) ⌝ }
+    ensures { λ _. ⌜ now (out .exit) ≡ laidAt (now (out .entry)) at (filled n (now (bytes .entry))) ⌝ }
 {
+    let to = words::lay(out, at, bytes);
+    let rest = n - bytes.len();
     let mut i = 0;
-    while i < n {
-        out[at + i] = byte_or_zero(bytes, i);
+    while i < rest {
+        out[to + i] = 0;
         i += 1;
     }
 }
@@ -162,18 +159,17 @@ fn put(out: &mut [u8], at: usize, bytes: &[u8], n: usize)
 // Writes a field of this length, head included, with its body filled up with zeros. Returns the offset after it.
 fn put_field(out: &mut [u8], at: usize, kind: u16, len: usize, body: &[u8]) -> usize
     requires { ⌜ (at + len ≤ length (now out)) × (length (now body) + 4 ≤ len) × (len < 65536) ⌝ }
-    ensures { λ r. ⌜ (r ≡ at + len) × (now (out .exit) ≡ placed (now (out .entry)) at (extensionBytes (extension kind len (now (body .entry))))) ⌝ }
+    ensures { λ r. ⌜ (r ≡ at + len) × (now (out .exit) ≡ laidAt (now (out .entry)) at (extensionBytes (extension kind len (now (body .entry))))) ⌝ }
 {
-    put(out, at, &words::be16_bytes(kind), 2);
-    put(out, at + 2, &words::be16_bytes(len as u16), 2);
-    put(out, at + HEAD, body, len - HEAD);
+    let to = words::lay(out, at, &words::be16_pair(kind, len as u16));
+    put_filled(out, to, body, len - HEAD);
     at + len
 }
 
 // Writes n placeholders of a length, one after another. Returns the offset after them.
 fn put_placeholders(out: &mut [u8], first: usize, len: usize, n: usize) -> usize
     requires { ⌜ (first + n * len ≤ length (now out)) × (4 ≤ len) × (len < 65536) ⌝ }
-    ensures { λ r. ⌜ (r ≡ first + n * len) × (now (out .exit) ≡ placed (now (out .entry)) first (allBytes (replicate n (placeholder len)))) ⌝ }
+    ensures { λ r. ⌜ (r ≡ first + n * len) × (now (out .exit) ≡ laidAt (now (out .entry)) first (allBytes (replicate n (placeholder len)))) ⌝ }
 {
     let mut at = first;
     let mut i = 0;
@@ -193,7 +189,7 @@ fn header_bytes(kind: SendKind, poll: PollInterval, id: u64, upgrademark: u64) -
 // Writes the fields after the header; `len` is the length of the cookie's field. Returns the offset after them.
 fn put_fields(out: &mut [u8], uid: [u8; 32], cookie: &[u8], len: usize, asked: usize) -> usize
     requires { ⌜ (84 + asked * len ≤ length (now out)) × (len ≡ fieldLength (length (now cookie))) × (length (now cookie) ≤ 724) × (1 ≤ asked) ⌝ }
-    ensures { λ r. ⌜ (r ≡ 84 + asked * len) × (now (out .exit) ≡ placed (now (out .entry)) 48 (allBytes (fieldsFor uid (now (cookie .entry)) asked))) ⌝ }
+    ensures { λ r. ⌜ (r ≡ 84 + asked * len) × (now (out .exit) ≡ laidAt (now (out .entry)) 48 (allBytes (fieldsFor uid (now (cookie .entry)) asked))) ⌝ }
 {
     let first = put_field(out, HEADER_BYTES, UID_KIND, UID_FIELD, &uid);
     let second = put_field(out, first, COOKIE_KIND, len, cookie);
@@ -207,7 +203,7 @@ fn write_plain(front: [u8; 48], out: &mut [u8]) -> Requested
     if out.len() < HEADER_BYTES {
         return Requested::ShortBuffer;
     }
-    put(out, 0, &front, HEADER_BYTES);
+    words::lay(out, 0, &front);
     Requested::Written(HEADER_BYTES)
 }
 
@@ -222,7 +218,7 @@ fn write_nts(front: [u8; 48], uid: [u8; 32], cookie: &[u8], asked: u8, out: &mut
     if out.len() < IN_FRONT + new * len {
         return Requested::ShortBuffer;
     }
-    put(out, 0, &front, HEADER_BYTES);
+    words::lay(out, 0, &front);
     Requested::Written(put_fields(out, uid, cookie, len, new))
 }
 

@@ -12,13 +12,14 @@ use lib.ListN.{length, take, drop, length-drop}
 use lib.Seq.{take-length}
 use denote.Ref.{now}
 use Rattle.words.specs.Bytes.{part}
+use Rattle.words.proofs.Put.{laid-put}
 use Rattle.fields.specs.Field.{decryptedStep}
 use Rattle.fields.specs.Walk.{decryptedWalk, whole}
 use Rattle.fields.specs.declared.Step.the-variants.{Field}
 use Rattle.fields.proofs.Walks.{Placed}
 use Rattle.fields.proofs.Sound.{whole-of, not-whole}
 use Rattle.collector.specs.Collector.{listIn, collectOf, bufferOf}
-use Rattle.collector.proofs.Records.{list-from-start, here, length-body, stop-turn, body-short, Along, pass, fits, advance}
+use Rattle.collector.proofs.Records.{list-from-start, here, stop-turn, Along, pass, fits, advance}
 use Rattle.collector.proofs.collect.Statement.{statement}
 use Rattle.collector.proofs.collect.Tie as tie
 
@@ -71,14 +72,6 @@ body-is : (k : tie.After-kind Inv-loop μ-loop) →
     take (g .1 .0 + g .1 .1 .0 - g .1 .0) (drop (g .1 .0) p) ≡ part p (g .1 .0) (g .1 .1 .0)
 unfolding part
 body-is k = rw add-sub-cancel-left
-
-small : (k : tie.After-kind Inv-loop μ-loop) → k .kind .given .0 .1 .1 .0 < 65536
-small k =
-    let l = k .before .before .before in
-    let l3 = l .before .before .before in
-    let l6 = l3 .before .before .before in
-    let known = l6 .before .shared-slice-known in
-    body-short (decrypted l) (λ i. omega (arith, known .given i)) _ _ _ _ _ (at-field k)
 
 decrypted-walk-requires : tie.Need-decrypted-walk-requires Inv-loop μ-loop
 decrypted-walk-requires c κs = search needs
@@ -144,21 +137,17 @@ returns-3 c =
 add-end : tie.Need-add-end Inv-loop μ-loop
 add-end c = let w = at-field (c .before .before) in omega arith
 
-sub-put-record : tie.Need-sub-put-record Inv-loop μ-loop
-sub-put-record c = omega arith
+sub-lay-record : tie.Need-sub-lay-record Inv-loop μ-loop
+sub-lay-record c = omega arith
 
-part-put-record-start : tie.Need-part-put-record-start Inv-loop μ-loop
-part-put-record-start c = omega arith
+part-lay-record-start : tie.Need-part-lay-record-start Inv-loop μ-loop
+part-lay-record-start c = omega arith
 
-part-put-record-end : tie.Need-part-put-record-end Inv-loop μ-loop
-part-put-record-end c = let w = at-field (c .before .before .before) in omega arith
+part-lay-record-end : tie.Need-part-lay-record-end Inv-loop μ-loop
+part-lay-record-end c = let w = at-field (c .before .before .before) in omega arith
 
-put-record-requires : tie.Need-put-record-requires Inv-loop μ-loop
-put-record-requires c κs =
-    let c3 = c .before .before .before in
-    let k = c3 .before in
-    let l = k .before .before .before in
-    rw (body-is k, length-body _ _ _ _ _ _ (step k)) (fits _ _ _ _ _ _ _ _ _ (l .loop .inv) (step k) (c .before .before .if2 .taken) (room l), small k)
+lay-record-requires : tie.Need-lay-record-requires Inv-loop μ-loop
+lay-record-requires c κs = search needs
 
 loop-less : tie.Need-loop-less Inv-loop μ-loop
 loop-less c =
@@ -171,11 +160,11 @@ loop-again c =
     let c3 = c .before .before .before in
     let c6 = c3 .before .before .before in
     let k = c6 .before in
-    let r = c .before .before .put-record in
-    let z = length-body _ _ _ _ _ _ (step k) in
-    advance _ _ _ _ _ _ _ _ _ (k .before .before .before .loop .inv) (step k) (c3 .before .before .if2 .taken) (r .last .0) (r .result)
-    (rw (body-is k, z) at (r .ensures .0))
-    (rw (body-is k, z) at (r .ensures .1))
+    let l = k .before .before .before in
+    let r = c .before .before .lay-record in
+    let cookie = c3 .before .before .if2 .taken in
+    advance _ _ _ _ _ _ _ _ _ (l .loop .inv) (step k) cookie (r .last .0) (r .result)
+    (laid-put _ _ _ (rw (body-is k) at (r .ensures)) (fits _ _ _ _ _ _ _ _ _ (l .loop .inv) (step k) cookie (room l)))
     (r .kept .0)
 
 loop-less-2 : tie.Need-loop-less-2 Inv-loop μ-loop
@@ -202,10 +191,10 @@ collect-spec =
     same-length
     returns-3
     add-end
-    sub-put-record
-    part-put-record-start
-    part-put-record-end
-    put-record-requires
+    sub-lay-record
+    part-lay-record-start
+    part-lay-record-end
+    lay-record-requires
     loop-less
     loop-again
     loop-less-2

@@ -1,6 +1,6 @@
 -- `read` meets its contract: of a file whose six records are there each body lies where the file's length and that of the settings say.
 -- Assumes nothing.
-use Prim.Native.Nat.{ℕ, _+_, _-_}
+use Prim.Native.Nat.{ℕ, _+_, _-_, _≤_}
 use mathlib.Core.Path.{_≡_, sym, ap, subst, _∙_}
 use mathlib.Core.Bool.{true}
 use native.Mathlib.Omega.{arith}
@@ -13,6 +13,13 @@ use Rattle.handover_read.proofs.Within.{reads-good, reads-mark, reads-l
 use borrow.Author.Needs.{needs}
 use Rattle.handover_read.proofs.read.Statement.{statement}
 use Rattle.handover_read.proofs.read.Tie as tie
+
+-- past the settings' body there is room for the other records
+room : (c : tie.After-be16-at) → 36 + c .be16-at .result ≤ length (c .before .before .before .before .before .args .file .now)
+room c =
+    let f = c .before .before .before .before .before .args .file .now in
+    let s = six f (sym (c .before .before .before .cut .ensures) ∙ c .before .enum-told .given .1) in
+    omega (arith, s .long, said f _ (c .be16-at .ensures))
 
 cut-requires : tie.Need-cut-requires
 cut-requires c κs = search needs
@@ -30,10 +37,7 @@ add-start : tie.Need-add-start
 add-start c = search needs
 
 sub-end : tie.Need-sub-end
-sub-end c =
-    let c3 = c .before .before .before in
-    let f = c3 .before .before .args .file .now in let s = six f (sym (c .before .before .before .cut .ensures) ∙ c .before .enum-told .given .1) in
-    let k = said f _ (c .be16-at .ensures) in omega (arith, s .long, k)
+sub-end c = omega (arith, room c)
 
 add-decide : tie.Need-add-decide
 add-decide c = search needs
@@ -45,24 +49,13 @@ part-decide-start : tie.Need-part-decide-start
 part-decide-start c = search needs
 
 part-decide-end : tie.Need-part-decide-end
-part-decide-end c =
-    let c3 = c .before .before .before in
-    let f = c3 .before .before .args .file .now in let s = six f (sym (c .before .before .before .cut .ensures) ∙ c .before .enum-told .given .1) in
-    let k = said f _ (c .be16-at .ensures) in omega (arith, s .long, k)
+part-decide-end c = omega (arith, room c)
 
 sub-decide-2 : tie.Need-sub-decide-2
-sub-decide-2 c =
-    let c3 = c .before .before .before in
-    let c6 = c3 .before .before .before in
-    let f = c6 .args .file .now in let s = six f (sym (c3 .before .cut .ensures) ∙ c .before .before .enum-told .given .1) in
-    let k = said f _ (c .before .be16-at .ensures) in omega (arith, s .long, k)
+sub-decide-2 c = omega (arith, room (c .before))
 
 part-decide-start-2 : tie.Need-part-decide-start-2
-part-decide-start-2 c =
-    let c3 = c .before .before .before in
-    let c6 = c3 .before .before .before in
-    let f = c6 .args .file .now in let s = six f (sym (c3 .before .cut .ensures) ∙ c .before .before .enum-told .given .1) in
-    let k = said f _ (c .before .be16-at .ensures) in omega (arith, s .long, k)
+part-decide-start-2 c = omega (arith, room (c .before))
 
 part-decide-end-2 : tie.Need-part-decide-end-2
 part-decide-end-2 c = search needs
@@ -80,11 +73,7 @@ part-decide-start-3 : tie.Need-part-decide-start-3
 part-decide-start-3 c = search needs
 
 part-decide-end-3 : tie.Need-part-decide-end-3
-part-decide-end-3 c =
-    let c3 = c .before .before .before in
-    let c6 = c3 .before .before .before in
-    let f = c6 .before .args .file .now in let s = six f (sym (c3 .before .before .cut .ensures) ∙ c .before .before .before .enum-told .given .1) in
-    let k = said f _ (c .before .before .be16-at .ensures) in omega (arith, s .long, k)
+part-decide-end-3 c = omega (arith, room (c .before .before))
 
 add-decide-4 : tie.Need-add-decide-4
 add-decide-4 c = search needs
@@ -99,11 +88,7 @@ part-decide-start-4 : tie.Need-part-decide-start-4
 part-decide-start-4 c = search needs
 
 part-decide-end-4 : tie.Need-part-decide-end-4
-part-decide-end-4 c =
-    let c3 = c .before .before .before in
-    let c6 = c3 .before .before .before in
-    let f = c6 .before .before .args .file .now in let s = six f (sym (c6 .cut .ensures) ∙ c3 .before .enum-told .given .1) in
-    let k = said f _ (c .before .before .before .be16-at .ensures) in omega (arith, s .long, k)
+part-decide-end-4 c = omega (arith, room (c .before .before .before))
 
 add-decide-6 : tie.Need-add-decide-6
 add-decide-6 c = search needs
@@ -118,12 +103,7 @@ part-decide-start-5 : tie.Need-part-decide-start-5
 part-decide-start-5 c = search needs
 
 part-decide-end-5 : tie.Need-part-decide-end-5
-part-decide-end-5 c =
-    let c3 = c .before .before .before in
-    let c6 = c3 .before .before .before in
-    let c9 = c6 .before .before .before in
-    let f = c9 .args .file .now in let s = six f (sym (c6 .before .cut .ensures) ∙ c3 .before .before .enum-told .given .1) in
-    let k = said f _ (c3 .before .be16-at .ensures) in omega (arith, s .long, k)
+part-decide-end-5 c = omega (arith, room (c .before .before .before .before))
 
 add-decide-8 : tie.Need-add-decide-8
 add-decide-8 c = search needs
@@ -138,12 +118,7 @@ part-decide-start-6 : tie.Need-part-decide-start-6
 part-decide-start-6 c = search needs
 
 part-decide-end-6 : tie.Need-part-decide-end-6
-part-decide-end-6 c =
-    let c3 = c .before .before .before in
-    let c6 = c3 .before .before .before in
-    let c9 = c6 .before .before .before in
-    let f = c9 .before .args .file .now in let s = six f (sym (c6 .before .before .cut .ensures) ∙ c6 .enum-told .given .1) in
-    let k = said f _ (c3 .before .before .be16-at .ensures) in omega (arith, s .long, k)
+part-decide-end-6 c = omega (arith, room (c .before .before .before .before .before))
 
 decide-requires : tie.Need-decide-requires
 unfolding part

@@ -7,8 +7,9 @@ use Prim.Native.Nat.{ℕ, _^_}
 use lib.ListN.{replicate}
 use mir.Facts.{toZ-ofZ}
 use Rattle.words.specs.Bytes.{toBe}
+use Rattle.words.specs.Put.{laidAt}
 use Rattle.words.specs.Signed.{unsigned}
-use Rattle.header.specs.Header.{firstByte, placed, bytesOf}
+use Rattle.header.specs.Header.{firstByte, bytesOf}
 use Rattle.header.specs.declared.Header.{Header}
 use Rattle.header.proofs.Fit.{types-fit}
 use Rattle.header.proofs.write_header.Statement.{statement}
@@ -59,15 +60,15 @@ put64-requires-4 c κs = search needs
 -- the words, put in one after the other behind the four bytes, lie as in the definition
 laid : (h : Header) {b p q : ℕ} {o₁ o₂ o₃ o₄ o₅ o₆ o₇ : List ℕ} → b ≡ firstByte (h .leap) (h .version) (h .mode)
     → p ≡ unsigned (2 ^ 7) (h .poll .0) → q ≡ unsigned (2 ^ 7) (h .precision)
-    → o₁ ≡ placed (b ∷ h .stratum ∷ p ∷ q ∷ replicate 44 0) 4 (toBe 4 (h .rootdelay))
-    → o₂ ≡ placed o₁ 8 (toBe 4 (h .rootdisp))
-    → o₃ ≡ placed o₂ 12 (toBe 4 (h .refid .0))
-    → o₄ ≡ placed o₃ 16 (toBe 8 (h .reftime .0))
-    → o₅ ≡ placed o₄ 24 (toBe 8 (h .origin .0))
-    → o₆ ≡ placed o₅ 32 (toBe 8 (h .receive .0))
-    → o₇ ≡ placed o₆ 40 (toBe 8 (h .transmit .0))
+    → o₁ ≡ laidAt (b ∷ h .stratum ∷ p ∷ q ∷ replicate 44 0) 4 (toBe 4 (h .rootdelay))
+    → o₂ ≡ laidAt o₁ 8 (toBe 4 (h .rootdisp))
+    → o₃ ≡ laidAt o₂ 12 (toBe 4 (h .refid .0))
+    → o₄ ≡ laidAt o₃ 16 (toBe 8 (h .reftime .0))
+    → o₅ ≡ laidAt o₄ 24 (toBe 8 (h .origin .0))
+    → o₆ ≡ laidAt o₅ 32 (toBe 8 (h .receive .0))
+    → o₇ ≡ laidAt o₆ 40 (toBe 8 (h .transmit .0))
     → o₇ ≡ bytesOf h
-unfolding placed bytesOf
+unfolding laidAt bytesOf
 laid h eb ep eq e₁ e₂ e₃ e₄ e₅ e₆ e₇ = rw (e₇, e₆, e₅, e₄, e₃, e₂, e₁, eb, ep, eq)
 
 returns : tie.Need-returns

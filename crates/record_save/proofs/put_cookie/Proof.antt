@@ -5,7 +5,7 @@ use lib.ListN.{length-take, length-drop}
 use Rattle.words.specs.Bytes.{toBe}
 use Rattle.cookiestash.specs.Stash.{stored}
 use Rattle.cookiestash.proofs.Stored.{stored-bounds}
-use Rattle.handover_save.proofs.Laid.{laid-put}
+use Rattle.words.proofs.Put.{laid-put}
 use Rattle.handover_save.proofs.Writing.{cookie-long, cookie-put}
 use Rattle.record_stash.specs.Rows.{slotIn}
 use Rattle.record_save.proofs.Emptied.{len-in, bytes-in}

@@ -1,7 +1,6 @@
-use mathlib.Core.Path.{refl}
 use native.Mathlib.Omega.{arith}
-use Rattle.handover_save.proofs.Laid.{laid-put}
-use Rattle.handover_save.proofs.Writing.{settings-record-long, state-records-long, record-long, file-put}
+use Rattle.words.proofs.Put.{laid-put}
+use Rattle.handover_save.proofs.Writing.{settings-record-long, file-put}
 use Rattle.record_stash.specs.Rows.{stashIn}
 use borrow.Author.Needs.{needs}
 use Rattle.record_save.proofs.put_file.Statement.{statement}
@@ -33,21 +32,9 @@ returns c =
     let c12 = c9 .before .before .before in
     let a = c12 .before .before .args in
     let p = c12 .before .before .pre in
-    let l = settings-record-long (a .settings) in
-    let first = laid-put _ _ _ (c9 .before .lay-settings .ensures) (omega (arith, l, p .4)) in
-    let stash = c6 .put-stash .ensures .1 in
-    let last = laid-put _ _ _ (c .before .before .lay-state .ensures)
-    (omega (
-      arith,
-      l,
-      state-records-long (a .state),
-      p .4,
-      first .ends,
-      c9 .before .lay-settings .kept .0,
-      c6 .put-stash .kept .0,
-      c6 .put-stash .ensures .0,
-    )) in
-    file-put (a .settings) (stashIn (a .b .now) (a .settings .capacity)) (a .state) refl first stash last (omega (arith, p .2, p .4))
+    let stash = stashIn (a .b .now) (a .settings .capacity) in
+    file-put (a .settings) stash (a .state) (c9 .before .lay-settings .ensures) (c6 .put-stash .ensures .1) (c .before .before .lay-state .ensures)
+    (omega (arith, p .2, p .4))
 
 pub put-file-spec : {M : Type 1} → statement M
 put-file-spec =

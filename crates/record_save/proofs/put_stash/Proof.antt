@@ -2,7 +2,7 @@ use Prim.Native.Nat.{ℕ}
 use mathlib.Core.Path.{refl, sym, ap}
 use mathlib.Core.List.{List, [], _∷_}
 use native.Mathlib.Omega.{arith}
-use Rattle.handover_save.proofs.Laid.{laid-put}
+use Rattle.words.proofs.Put.{laid-put}
 use Rattle.handover_save.proofs.Writing.{stash-long, stash-put}
 use Rattle.record_stash.specs.Rows.{stashIn}
 use Rattle.record_save.proofs.Emptied.{reads}
@@ -10,11 +10,11 @@ use borrow.Author.Needs.{needs}
 use Rattle.record_save.proofs.put_stash.Statement.{statement}
 use Rattle.record_save.proofs.put_stash.Tie as tie
 
-cast-head : tie.Need-cast-head
-cast-head c = search needs
+cast-be16-pair : tie.Need-cast-be16-pair
+cast-be16-pair c = search needs
 
-head-requires : tie.Need-head-requires
-head-requires c κs = search needs
+be16-pair-requires : tie.Need-be16-pair-requires
+be16-pair-requires c κs = search needs
 
 slice-aggregate-lay : tie.Need-slice-aggregate-lay
 slice-aggregate-lay c = search needs
@@ -69,7 +69,7 @@ returns c =
     let place = laid-put _ _ _ (c6 .lay2 .ensures) (omega (arith, l, p .2, p .4, head .ends, c12 .lay .kept .0)) in
     let cookies = c .before .before .put-cookies .ensures in (
       omega (arith, p .2, l, head .ends, place .ends, cookies .ends),
-      stash-put (a .capacity) s (c15 .head .ensures) (p .2) (ap (λ (x : ℕ). x ∷ []) (sym (reads (a .capacity) (a .b .now)))) head place cookies
+      stash-put (a .capacity) s (c15 .be16-pair .ensures) (p .2) (ap (λ (x : ℕ). x ∷ []) (sym (reads (a .capacity) (a .b .now)))) head place cookies
           (omega (arith, p .2, p .4, l)),
     )
 
@@ -77,8 +77,8 @@ pub put-stash-spec : {M : Type 1} → statement M
 put-stash-spec =
     tie.close
     (tie.spec
-    cast-head
-    head-requires
+    cast-be16-pair
+    be16-pair-requires
     slice-aggregate-lay
     lay-requires
     shared-slice-read-t17

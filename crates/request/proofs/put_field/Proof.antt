@@ -1,44 +1,47 @@
--- `put_field` meets its contract: type, length and body are put one behind the other.
+-- `put_field` meets its contract: the filled body is put behind type and length.
 -- Assumes nothing.
-use mathlib.Core.Path.{refl, _∙_}
+use Prim.Native.Nat.{_+_, _≤_}
+use mathlib.Core.Path.{_≡_, refl, ap}
+use native.Mathlib.Omega.{arith}
 use borrow.Author.Needs.{needs}
+use lib.ListN.{length}
 use denote.Ref.{now}
-use Rattle.request.proofs.Placing.{field-placed}
+use Rattle.words.specs.Put.{Put}
+use Rattle.words.proofs.Put.{laid-put}
+use Rattle.request.proofs.Placing.{field-put}
 use Rattle.request.proofs.put_field.Statement.{statement}
 use Rattle.request.proofs.put_field.Tie as tie
 
-be16-bytes-requires : tie.Need-be16-bytes-requires
-be16-bytes-requires c κs = search needs
+-- type and length are put
+head : (c : tie.After-lay) →
+    let p = c .before .before .be16-pair in
+    let a = c .before .before .before .before .before .before .args in
+    (length (p .result) ≡ 4) × (a .at + length (p .result) ≤ length (now (a .out))) ×
+    (Put (now (a .out)) (a .at) (p .result) (c .lay .result) (c .lay .last .0))
+head c =
+    let long : length (c .before .before .be16-pair .result) ≡ 4 = ap length (c .before .before .be16-pair .ensures) in
+    (long, omega arith, laid-put _ _ _ (c .lay .ensures) (omega arith))
 
-slice-aggregate-put : tie.Need-slice-aggregate-put
-slice-aggregate-put c = search needs
+cast-be16-pair : tie.Need-cast-be16-pair
+cast-be16-pair c = search needs
 
-put-requires : tie.Need-put-requires
-put-requires c κs = search needs
+be16-pair-requires : tie.Need-be16-pair-requires
+be16-pair-requires c κs = search needs
 
-add-put : tie.Need-add-put
-add-put c = search needs
+slice-aggregate-lay : tie.Need-slice-aggregate-lay
+slice-aggregate-lay c = search needs
 
-cast-be16-bytes : tie.Need-cast-be16-bytes
-cast-be16-bytes c = search needs
+lay-requires : tie.Need-lay-requires
+lay-requires c κs = search needs
 
-be16-bytes-requires-2 : tie.Need-be16-bytes-requires-2
-be16-bytes-requires-2 c κs = search needs
+sub-put-filled : tie.Need-sub-put-filled
+sub-put-filled c = search needs
 
-slice-aggregate-put-2 : tie.Need-slice-aggregate-put-2
-slice-aggregate-put-2 c = search needs
-
-put-requires-2 : tie.Need-put-requires-2
-put-requires-2 c κs = search needs
-
-add-put-2 : tie.Need-add-put-2
-add-put-2 c = search needs
-
-sub-put : tie.Need-sub-put
-sub-put c = search needs
-
-put-requires-3 : tie.Need-put-requires-3
-put-requires-3 c κs = search needs
+put-filled-requires : tie.Need-put-filled-requires
+put-filled-requires c κs =
+    let l = c .before .before .before in
+    let h = head l in
+    (omega (arith, h .0, h .2 .ends, l .lay .kept .0), omega arith)
 
 add-result : tie.Need-add-result
 add-result c = search needs
@@ -48,39 +51,21 @@ same-length c = search needs
 
 returns : tie.Need-returns
 returns c =
-    let p3 = c .before .before in
-    let p33 = p3 .before .before .before in
-    let p2 = p33 .before in
-    let p23 = p2 .before .before .before in
-    let p26 = p23 .before .before .before in
-    let p1 = p26 in
-    let p13 = p1 .before .before .before in
-    let p16 = p13 .before .before .before in
-    let s = p16 in
-    let a = s .args in (
-      refl,
-      field-placed (now (a .out)) (now (a .body)) (a .at) (a .kind) (a .len) (s .pre .0) (s .pre .1)
-          (p1 .put .last .0) (p2 .put2 .last .0) (p3 .put3 .last .0)
-          (p1 .put .ensures ∙ rw (p1 .before .before .be16-bytes .ensures))
-          (p2 .put2 .ensures ∙ rw (p2 .before .before .be16-bytes2 .ensures))
-          (p3 .put3 .ensures),
-    )
+    let l = c .before .before .before .before .before .before in
+    let p = l .before .before in
+    let a = p .before .before .before .before .args in
+    (refl, field-put (a .kind) (a .len) (now (a .body)) (p .be16-pair .ensures) (head l .2) (c .before .before .put-filled .ensures) (head l .1))
 
 pub put-field-spec : {M : Type 1} → statement M
 put-field-spec =
     tie.close
     (tie.spec
-    be16-bytes-requires
-    slice-aggregate-put
-    put-requires
-    add-put
-    cast-be16-bytes
-    be16-bytes-requires-2
-    slice-aggregate-put-2
-    put-requires-2
-    add-put-2
-    sub-put
-    put-requires-3
+    cast-be16-pair
+    be16-pair-requires
+    slice-aggregate-lay
+    lay-requires
+    sub-put-filled
+    put-filled-requires
     add-result
     same-length
     returns)

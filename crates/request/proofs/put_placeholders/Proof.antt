@@ -1,22 +1,23 @@
 -- `put_placeholders` meets its contract. The loop's invariant: the first i placeholders are in their place.
 -- Assumes nothing.
 use Prim.Native.Nat.{_+_, _-_, _*_, _≤_}
-use mathlib.Core.Path.{_≡_, refl, _∙_}
+use mathlib.Core.Path.{_≡_, refl, sym, _∙_}
 use native.Mathlib.Nat.{zero-mul, suc-mul}
 use native.Mathlib.Numerals.{add-one}
 use native.Mathlib.Omega.{arith}
 use lib.ListN.{length, replicate}
 use denote.Ref.{now}
-use Rattle.header.specs.Header.{placed}
+use Rattle.words.specs.Put.{laidAt}
+use Rattle.words.proofs.Put.{laid-none}
 use Rattle.request.specs.Extension.{allBytes}
 use Rattle.request.specs.Request.{placeholder}
-use Rattle.request.proofs.Placing.{placed-none, turn-room, placeholders-placed}
+use Rattle.request.proofs.Placing.{turn-room, placeholders-placed}
 use Rattle.request.proofs.put_placeholders.Statement.{statement}
 use Rattle.request.proofs.put_placeholders.Tie as tie
 
 abbrev Inv-loop : tie.InvT-loop
 Inv-loop out₀ first len n at₀ i₀ t7 out at i =
-    (i ≤ n) × (at ≡ first + i * len) × (out ≡ placed out₀ first (allBytes (replicate i (placeholder len)))) × (length out ≡ length out₀)
+    (i ≤ n) × (at ≡ first + i * len) × (out ≡ laidAt out₀ first (allBytes (replicate i (placeholder len)))) × (length out ≡ length out₀)
 
 abbrev μ-loop : tie.MeasureT-loop
 μ-loop out₀ first len n at₀ i₀ t7 out at i = n - i
@@ -24,7 +25,7 @@ abbrev μ-loop : tie.MeasureT-loop
 loop-holds : tie.Need-loop-holds Inv-loop μ-loop
 loop-holds c =
     let a = c .before .args in
-    (omega arith, rw (zero-mul (a .len)) (omega arith), placed-none (now (a .out)) (a .first), refl)
+    (omega arith, rw (zero-mul (a .len)) (omega arith), sym (laid-none (now (a .out)) (a .first)), refl)
 
 slice-aggregate-put-field : tie.Need-slice-aggregate-put-field Inv-loop μ-loop
 slice-aggregate-put-field c = refl

@@ -6,6 +6,7 @@ use native.Mathlib.Omega.{arith}
 use borrow.Author.Needs.{needs}
 use lib.ListN.{length}
 use denote.Ref.{now}
+use Rattle.words.proofs.Put.{laid-put}
 use Rattle.request.specs.Request.{withFields}
 use Rattle.request.specs.declared.Requested.the-variants.{Written}
 use Rattle.request.proofs.Sizes.{asks, all-most, length-packet, packet-placed}
@@ -48,11 +49,11 @@ returns c =
     let a = c3 .before .args in
     too-long (withFields (a .t1) (a .uid) (now (a .cookie)) (a .asked)) (now (a .out)) _ (long (c .before)) (c .if1 .taken)
 
-slice-aggregate-put : tie.Need-slice-aggregate-put
-slice-aggregate-put c = search needs
+slice-aggregate-lay : tie.Need-slice-aggregate-lay
+slice-aggregate-lay c = search needs
 
-put-requires : tie.Need-put-requires
-put-requires c κs = search needs
+lay-requires : tie.Need-lay-requires
+lay-requires c κs = search needs
 
 put-fields-requires : tie.Need-put-fields-requires
 put-fields-requires c κs =
@@ -60,7 +61,7 @@ put-fields-requires c κs =
     let t = k .before .before .before in
     let f = t .before in
     let s = f .before .before .before in
-    (omega (arith, t .if1 .left, k .put .kept .0), f .field-length .ensures, holds s .0, holds s .1)
+    (omega (arith, t .if1 .left, k .lay .kept .0), f .field-length .ensures, holds s .0, holds s .1)
 
 same-length : tie.Need-same-length
 same-length c = search needs
@@ -78,9 +79,9 @@ returns-2 c =
     let size : length (a .uid) ≡ 32 = search needs in
     let r = fits (withFields (a .t1) (a .uid) (now (a .cookie)) (a .asked)) (now (a .out)) _ (long f) (t .if1 .left) (g .put-fields .last .0)
     (packet-placed (a .uid) (now (a .cookie)) (a .asked) size (holds s .1) (a .t1) head (f .field-length .result) (f .field-length .ensures) (now (a .out))
-    (k .put .last .0) (g .put-fields .last .0)
-    (t .if1 .left) (k .put .ensures) (g .put-fields .ensures .1)) in
+    (k .lay .last .0) (g .put-fields .last .0)
+    (t .if1 .left) (laid-put _ _ _ (k .lay .ensures) (omega arith) .leaves) (g .put-fields .ensures .1)) in
     (ap Written (g .put-fields .ensures .0) ∙ r .0, r .1)
 
 pub write-nts-spec : {M : Type 1} → statement M
-write-nts-spec = tie.close (tie.spec field-length-requires mul-if1 add-if1 returns slice-aggregate-put put-requires put-fields-requires same-length returns-2)
+write-nts-spec = tie.close (tie.spec field-length-requires mul-if1 add-if1 returns slice-aggregate-lay lay-requires put-fields-requires same-length returns-2)

@@ -1,11 +1,11 @@
 -- `write_plain` meets its contract.
 -- Assumes nothing.
-use mathlib.Core.Path.{_≡_, ap, _∙_}
+use mathlib.Core.Path.{_≡_, _∙_}
+use native.Mathlib.Omega.{arith}
 use borrow.Author.Needs.{needs}
 use lib.ListN.{length}
 use denote.Ref.{now}
-use Rattle.header.specs.Header.{placed}
-use Rattle.request.proofs.Placing.{placed-front, filled-full}
+use Rattle.words.proofs.Put.{laid-put, laid-over}
 use Rattle.request.proofs.Fitting.{too-long, fits}
 use Rattle.request.proofs.write_plain.Statement.{statement}
 use Rattle.request.proofs.write_plain.Tie as tie
@@ -16,11 +16,11 @@ returns c =
     let long : length (a .t1) ≡ 48 = search needs in
     too-long (a .t1) (now (a .out)) 48 long (c .if1 .taken)
 
-slice-aggregate-put : tie.Need-slice-aggregate-put
-slice-aggregate-put c = search needs
+slice-aggregate-lay : tie.Need-slice-aggregate-lay
+slice-aggregate-lay c = search needs
 
-put-requires : tie.Need-put-requires
-put-requires c κs = search needs
+lay-requires : tie.Need-lay-requires
+lay-requires c κs = search needs
 
 same-length : tie.Need-same-length
 same-length c = search needs
@@ -31,8 +31,8 @@ returns-2 c =
     let t = k .before .before .before in
     let a = t .before .before .args in
     let long : length (a .t1) ≡ 48 = search needs in
-    fits (a .t1) (now (a .out)) 48 long (t .if1 .left) (k .put .last .0)
-    (k .put .ensures ∙ ap (placed (now (a .out)) 0) (filled-full 48 (a .t1) long) ∙ placed-front (now (a .out)) (a .t1) 48 long)
+    fits (a .t1) (now (a .out)) 48 long (t .if1 .left) (k .lay .last .0)
+    (laid-put _ _ _ (k .lay .ensures) (omega arith) .leaves ∙ laid-over (now (a .out)) (a .t1) ∙ rw long)
 
 pub write-plain-spec : {M : Type 1} → statement M
-write-plain-spec = tie.close (tie.spec returns slice-aggregate-put put-requires same-length returns-2)
+write-plain-spec = tie.close (tie.spec returns slice-aggregate-lay lay-requires same-length returns-2)

@@ -10,11 +10,12 @@ use Prim.Native.Nat.{ℕ, _-_, _≤_, _<_}
 use lib.ListN.{length, take, drop}
 use denote.Ref.{now}
 use Rattle.words.specs.Bytes.{part}
+use Rattle.words.proofs.Put.{laid-put}
 use Rattle.salvage.specs.declared.Found.the-variants.{Record, Nothing}
 use Rattle.salvage.specs.Walk.{recordAt}
 use Rattle.salvage.specs.Salvage.{cleanOf, salvageOf, bufferOf}
 use Rattle.salvage.proofs.Walks.{Kept, is-kept}
-use Rattle.salvage.proofs.Along.{Along, start, record-long, fits, keep, skip, begin-told, begin-untold, reported, whole-buffer}
+use Rattle.salvage.proofs.Along.{Along, start, fits, keep, skip, begin-told, begin-untold, reported, whole-buffer}
 use Rattle.salvage.proofs.salvage.Statement.{statement}
 use Rattle.salvage.proofs.salvage.Tie as tie
 
@@ -64,23 +65,17 @@ record-at-requires c κs = search needs
 enum-known-end : tie.Need-enum-known-end Inv-loop μ-loop
 enum-known-end c = search needs
 
-sub-put-bytes : tie.Need-sub-put-bytes Inv-loop μ-loop
-sub-put-bytes c = let k = found (c .before .before) in omega (arith, k .headed)
+sub-lay : tie.Need-sub-lay Inv-loop μ-loop
+sub-lay c = let k = found (c .before .before) in omega (arith, k .headed)
 
-part-put-bytes-start : tie.Need-part-put-bytes-start Inv-loop μ-loop
-part-put-bytes-start c = let k = found (c .before .before) in omega (arith, k .headed)
+part-lay-start : tie.Need-part-lay-start Inv-loop μ-loop
+part-lay-start c = let k = found (c .before .before) in omega (arith, k .headed)
 
-part-put-bytes-end : tie.Need-part-put-bytes-end Inv-loop μ-loop
-part-put-bytes-end c = let k = found (c .before .before) in omega (arith, k .headed, k .within)
+part-lay-end : tie.Need-part-lay-end Inv-loop μ-loop
+part-lay-end c = let k = found (c .before .before) in omega (arith, k .headed, k .within)
 
-put-bytes-requires : tie.Need-put-bytes-requires Inv-loop μ-loop
-unfolding part
-put-bytes-requires c κs =
-    let k = c .before .before .before in
-    let k3 = k .before .before .before in
-    let i = k3 .before .loop .inv in
-    let h = inside k in
-    omega (arith, fits _ _ _ _ _ _ _ _ _ _ i _ h (here k) (omega arith), record-long _ _ _ _ _ _ _ _ _ _ i _ h (here k))
+lay-requires : tie.Need-lay-requires Inv-loop μ-loop
+lay-requires c κs = search needs
 
 add-kept : tie.Need-add-kept Inv-loop μ-loop
 add-kept c =
@@ -104,9 +99,9 @@ loop-again c =
     let k3 = k .before .before .before in
     let i = k3 .before .loop .inv in
     let h = inside k in
-    let r = c .before .before .put-bytes in
-    let n = record-long _ _ _ _ _ _ _ _ _ _ i _ h (here k) in
-    keep _ _ _ _ _ _ _ _ _ _ i _ h (here k) (r .last .0) (r .result) (rw n at (r .ensures .0)) (rw n at (r .ensures .1)) (r .kept .0)
+    let r = c .before .before .lay in
+    keep _ _ _ _ _ _ _ _ _ _ i _ h (here k) (r .last .0) (r .result)
+    (laid-put _ _ _ (r .ensures) (fits _ _ _ _ _ _ _ _ _ _ i _ h (here k) (omega arith))) (r .kept .0)
 
 enum-told : tie.Need-enum-told Inv-loop μ-loop
 enum-told c = search needs
@@ -172,10 +167,10 @@ salvage-spec =
     loop-holds
     record-at-requires
     enum-known-end
-    sub-put-bytes
-    part-put-bytes-start
-    part-put-bytes-end
-    put-bytes-requires
+    sub-lay
+    part-lay-start
+    part-lay-end
+    lay-requires
     add-kept
     loop-less
     loop-again

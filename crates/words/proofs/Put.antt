@@ -1,7 +1,7 @@
--- Bytes put into a buffer, one piece behind the other, are the pieces put there at once.
+-- Bytes put into a buffer: what a copy leaves there, and that two pieces put one behind the other are put at once. A record and its length.
 -- Assumes nothing.
-use Prim.Native.Nat.{ℕ, _+_, _-_, _≤_}
-use mathlib.Core.Path.{_≡_, refl, sym, ap, _∙_}
+use Prim.Native.Nat.{ℕ, _+_, _-_, _≤_, _<_}
+use mathlib.Core.Path.{_≡_, refl, sym, ap, subst, _∙_}
 use mathlib.Core.Bool.{Bool, true, false}
 use mathlib.Core.List.{List, [], _++_, append-assoc, append-nil}
 use native.Mathlib.Nat.{zero-add}
@@ -10,9 +10,9 @@ use borrow.Author.Tests.{le-leb, lt-leb, leb-true, leb-false}
 use borrow.Rule.Slice.PartMut.{putMid}
 use lib.Dec.{leb}
 use lib.ListN.{length, take, drop, length-append, length-drop, take-append-drop, drop-of-length-le}
-use lib.Seq.{take-at, take-all, drop-at, drop-drop, length-take-le, take-length}
-use Rattle.handover_file.specs.Answers.{over}
-use Rattle.handover_save.specs.Put.{laidAt, Put, Laid, laid, layOf}
+use lib.Seq.{take-add, take-at, take-all, drop-at, drop-drop, length-take-le, take-length}
+use Rattle.words.specs.Bytes.{toBe}
+use Rattle.words.specs.Put.{laidAt, Put, Laid, laid, layOf, recordOf}
 
 -- what a copy into the buffer's end leaves
 pub put-is : (out piece ys : List ℕ) (at : ℕ) → at + length piece ≤ length out →
@@ -31,7 +31,7 @@ unfolding laidAt
 laid-none out at = let z : at + 0 ≡ at = omega arith in ap (λ (k : ℕ). take at out ++ drop k out) z ∙ take-append-drop at out
 
 -- from the start of the buffer
-pub laid-over : (out w : List ℕ) → laidAt out 0 w ≡ over w out
+pub laid-over : (out w : List ℕ) → laidAt out 0 w ≡ w ++ drop (length w) out
 unfolding laidAt
 laid-over out w = ap (λ (k : ℕ). w ++ drop k out) (zero-add (length w))
 
@@ -100,3 +100,45 @@ fits-by at n room h = by (leb (at + n) room) refl
     by : (b : Bool) → leb (at + n) room ≡ b → leb at (room - n) ≡ b
     by true p = le-leb at (room - n) (omega (arith, leb-true (at + n) room p))
     by false p = lt-leb at (room - n) (omega (arith, leb-false (at + n) room p))
+
+-- ---- a list L, of which the first `to` bytes are in the buffer, goes on with R
+
+module _ (L R S : List ℕ) (to : ℕ) (h : to ≤ length L) (e : drop to L ≡ R ++ S) where
+  pub left-is : drop (to + length R) L ≡ S
+  left-is = sym (drop-drop (length R) to L) ∙ rw e (drop-at R S (length R) refl)
+
+  pub left-long : to + length R + length S ≡ length L
+  left-long = omega (arith, simp (length-drop, length-append) at (ap length e))
+
+  pub more-is : take (to + length R) L ≡ take to L ++ R
+  more-is = take-add to (length R) L ∙ rw e (ap (λ (r : List ℕ). take to L ++ r) (take-at R S (length R) refl))
+
+  -- with R put behind them the first `to + length R` are
+  pub buffer-is : (out₀ out : List ℕ) → out ≡ take to L ++ drop to out₀ → laidAt out to R ≡ take (to + length R) L ++ drop (to + length R) out₀
+  unfolding laidAt
+  buffer-is out₀ out q =
+      let n : length (take to L) ≡ to = length-take-le to L h in
+      let a : take to out ≡ take to L = rw q (take-at (take to L) (drop to out₀) to n) in
+      let b : drop to out ≡ drop to out₀ = rw q (drop-at (take to L) (drop to out₀) to n) in
+      let d : drop (to + length R) out ≡ drop (to + length R) out₀ = sym (drop-drop (length R) to out) ∙ rw b (drop-drop (length R) to out₀) in
+      rw (a, d, more-is) (simp append-assoc)
+
+-- ---- a record
+
+pub record-long : (m : ℕ) (b : List ℕ) → length (recordOf m b) ≡ 4 + length b
+unfolding recordOf
+record-long m b = simp length-append (omega arith)
+
+-- one for which there is no room
+pub record-lays-not : (out : List ℕ) (at m : ℕ) (b : List ℕ) → length out < at + (4 + length b) → laid at out ≡ layOf out at (recordOf m b)
+record-lays-not out at m b h = lays-not out at (recordOf m b) (lt-leb (at + length (recordOf m b)) (length out) (omega (arith, record-long m b)))
+
+-- its head, and its body behind it
+pub record-put : {out p q : List ℕ} {at r s : ℕ} {h : List ℕ} (m n : ℕ) (body : List ℕ) → h ≡ toBe 2 m ++ toBe 2 n → toBe 2 n ≡ toBe 2 (length body) →
+    Put out at h r p → Put p r body s q → at + 4 ≤ length out → Put out at (recordOf m body) s q
+unfolding recordOf
+record-put {out = out} {p = p} {q = q} {at = at} {r = r} {s = s} m n body eh en a b k =
+    let first : Put out at (toBe 2 m ++ toBe 2 n) r p = subst (λ (w : List ℕ). Put out at w r p) eh a in
+    subst (λ (w : List ℕ). Put out at w s q)
+    (append-assoc (toBe 2 m) (toBe 2 n) body ∙ ap (λ (l : List ℕ). toBe 2 m ++ (l ++ body)) en)
+    (put-put (toBe 2 m ++ toBe 2 n) body first b k)

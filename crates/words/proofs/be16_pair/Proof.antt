@@ -1,8 +1,8 @@
--- `head` meets its contract.
+-- `words::be16_pair` meets its contract: the bytes of both words.
 -- Assumes nothing.
 use borrow.Author.Needs.{needs}
-use Rattle.handover_save.proofs.head.Statement.{statement}
-use Rattle.handover_save.proofs.head.Tie as tie
+use Rattle.words.proofs.be16_pair.Statement.{statement}
+use Rattle.words.proofs.be16_pair.Tie as tie
 
 be16-bytes-requires : tie.Need-be16-bytes-requires
 be16-bytes-requires c κs = search needs
@@ -25,8 +25,8 @@ array-read-t17 c = search needs
 returns : tie.Need-returns
 returns c = simp (c .before .be16-bytes .ensures, c .be16-bytes2 .ensures)
 
-pub head-spec : {M : Type 1} → statement M
-head-spec =
+pub be16-pair-spec : {M : Type 1} → statement M
+be16-pair-spec =
     tie.close
     (tie.spec
     be16-bytes-requires

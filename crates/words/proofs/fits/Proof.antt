@@ -2,9 +2,9 @@ use Prim.Native.Nat.{_+_}
 use mathlib.Core.Path.{sym}
 use native.Mathlib.Omega.{arith}
 use borrow.Author.Tests.{lt-leb}
-use Rattle.handover_save.proofs.Laid.{fits-by}
-use Rattle.handover_save.proofs.fits.Statement.{statement}
-use Rattle.handover_save.proofs.fits.Tie as tie
+use Rattle.words.proofs.Put.{fits-by}
+use Rattle.words.proofs.fits.Statement.{statement}
+use Rattle.words.proofs.fits.Tie as tie
 
 returns : tie.Need-returns
 returns c = sym (lt-leb (c .before .args .at + c .before .args .n) (c .before .args .room) (omega arith))
