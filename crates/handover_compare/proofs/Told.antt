@@ -15,17 +15,17 @@ use Rattle.association.specs.declared.Association.{Association}
 use Rattle.handover_file.specs.declared.LoadAnswer.{LoadAnswer}
 use Rattle.handover_file.specs.Cookies.{stashFits, stashKnown}
 use Rattle.handover_file.specs.Answers.{over, loadOf}
-use Rattle.handover_read.specs.declared.FileRead.{FileRead}
-use Rattle.handover_read.specs.Reading.{readOf}
-use Rattle.handover_read.proofs.Within.{answer-is}
+use Rattle.handover_load.specs.declared.read.FileRead.{FileRead}
+use Rattle.handover_load.specs.Reading.{readOf}
+use Rattle.handover_load.proofs.Within.{answer-is}
 use Rattle.words.specs.Put.{Put}
 use Rattle.words.proofs.Put.{laid-over}
-use Rattle.compare_fields.specs.declared.Field.{Field}
-use Rattle.compare_fields.specs.declared.Groups.{Groups}
-use Rattle.compare_fields.specs.Fields.{differing, listOf, listBytes}
-use Rattle.compare_fields.specs.Steps.{groupsIn, allOf}
-use Rattle.compare_fields.proofs.Grouped.{Of, all-fields}
-use Rattle.compare_fields.proofs.Listed.{list-long}
+use Rattle.handover_compare.specs.declared.fields.Field.{Field}
+use Rattle.handover_compare.specs.declared.fields.Groups.{Groups}
+use Rattle.handover_compare.specs.Fields.{differing, listOf, listBytes}
+use Rattle.handover_compare.specs.Steps.{groupsIn, allOf}
+use Rattle.handover_compare.proofs.Grouped.{Of, all-fields}
+use Rattle.handover_compare.proofs.Listed.{list-long}
 use Rattle.handover_compare.specs.declared.Side.the-variants.{Left, Right}
 use Rattle.handover_compare.specs.declared.CompareAnswer.the-variants.{Listed, ShortBuffer}
 use Rattle.handover_compare.specs.Made.{madeOf}

@@ -12,3 +12,8 @@ pub mod Emptied
 pub mod Lengths
 pub mod Retired
 pub mod Determined
+pub mod Places
+pub mod At
+pub mod Turn
+pub mod Records
+pub mod Six

@@ -5,3 +5,4 @@ pub mod File
 pub mod Answers
 pub mod Numbers
 pub mod Before
+pub mod Steps

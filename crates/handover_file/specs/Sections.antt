@@ -67,7 +67,7 @@ onFound fits rest other = misplaced
 onFound fits rest short = missized
 
 -- promise no6.7: Reading a file answers the first of 61 and 62 in the file, then 63, with the blank record.
---     edit: handover_cut/a_byte_left_over_is_accepted, handover_load/a_wrong_mark_is_answered_as_a_length
+--     edit: handover_file/a_byte_left_over_is_accepted, handover_load/a_wrong_mark_is_answered_as_a_length
 abbrev pub cutAs : List Shape → List ℕ → Cut
 cutAs [] l = cond (eqb (length l) 0) (bodies []) missized
 cutAs (s ∷ ss) l = onFound (s .fits) (λ r. cutAs ss r) (found (s .mark) l)

@@ -16,3 +16,6 @@ pub mod Cookies
 pub mod Carried
 pub mod Longest
 pub mod Reading
+pub mod Obeys
+pub mod NewDemand
+pub mod Bridge

@@ -16,28 +16,28 @@ use mir.Val.{SFits}
 use Rattle.words.specs.Bytes.{be, part, toBe}
 use Rattle.words.proofs.Bytes.{be-toBe}
 use Rattle.time_types.specs.declared.PollInterval.{PollInterval}
-use Rattle.header.specs.declared.HeaderVersion.{HeaderVersion}
-use Rattle.header.specs.declared.HeaderRead.the-variants.{Decoded}
-use Rattle.header.specs.Header.{fields, headerOf, bytesOf}
-use Rattle.header.proofs.Fit.{Fit}
-use Rattle.header.proofs.RoundTrip.{read-write}
-use Rattle.fields.specs.Field.{kindAt, lengthAt, fieldIs, stepAt}
-use Rattle.fields.specs.Walk.{field, walkOf, packetWalk, fieldsOf, between, bodiesOf}
-use Rattle.fields.specs.Sound.{Each}
-use Rattle.fields.specs.declared.Step.the-variants.{Field, End}
-use Rattle.fields.proofs.Walks.{walk-turn, walk-induction}
-use Rattle.uid_groups.specs.Matching.{uidKind, uidOf, packetUid, Begins}
-use Rattle.uid_groups.specs.declared.Uid.the-variants.{Agree}
-use Rattle.uid_groups.proofs.Groups.{ahead, ahead-field, ahead-stop}
-use Rattle.uid_groups.proofs.Uids.{agree-iff}
-use Rattle.collector.specs.Collector.{cookieKind}
+use Rattle.wire_header.specs.declared.HeaderVersion.{HeaderVersion}
+use Rattle.wire_header.specs.declared.HeaderRead.the-variants.{Decoded}
+use Rattle.wire_header.specs.Header.{fields, headerOf, bytesOf}
+use Rattle.wire_header.proofs.Fit.{Fit}
+use Rattle.wire_header.proofs.RoundTrip.{read-write}
+use Rattle.wire_fields.specs.Field.{kindAt, lengthAt, fieldIs, stepAt}
+use Rattle.wire_fields.specs.Walk.{field, walkOf, packetWalk, fieldsOf, between, bodiesOf}
+use Rattle.wire_fields.specs.Sound.{Each}
+use Rattle.wire_fields.specs.declared.Step.the-variants.{Field, End}
+use Rattle.wire_fields.proofs.Walks.{walk-turn, walk-induction}
+use Rattle.wire_groups.specs.Matching.{uidKind, uidOf, packetUid, Begins}
+use Rattle.wire_groups.specs.declared.Uid.the-variants.{Agree}
+use Rattle.wire_groups.proofs.Groups.{ahead, ahead-field, ahead-stop}
+use Rattle.wire_groups.proofs.Uids.{agree-iff}
+use Rattle.wire_collector.specs.Collector.{cookieKind}
 use Rattle.version.specs.declared.SendKind.{SendKind}
 use Rattle.version.specs.declared.SendKind.the-variants.{V4, V4Upgrade, V5, NtsV4, NtsV5}
-use Rattle.request.specs.Extension.{Extension, filled, fieldLength, extensionBytes, allBytes}
-use Rattle.request.specs.Request.{hasNts, reftimeOf, headerFor, carrying, placeholder, fieldsFor, withFields, packetOf}
+use Rattle.wire_request.specs.Extension.{Extension, filled, fieldLength, extensionBytes, allBytes}
+use Rattle.wire_request.specs.Request.{hasNts, reftimeOf, headerFor, carrying, placeholder, fieldsFor, withFields, packetOf}
 use Rattle.laws.specs.Reading.{Legible, foundAt, walkedBy}
-use Rattle.request.proofs.Placing.{length-filled, filled-full, length-extension}
-use Rattle.request.proofs.Sizes.{length-header, field-covers, field-least, field-fours, field-most}
+use Rattle.wire_request.proofs.Placing.{length-filled, filled-full, length-extension}
+use Rattle.wire_request.proofs.Sizes.{length-header, field-covers, field-least, field-fours, field-most}
 
 -- ---- the header: what stands behind it does not matter
 

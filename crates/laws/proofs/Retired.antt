@@ -20,9 +20,9 @@ use Rattle.timer_rules.specs.Poll.{triedOf}
 use Rattle.timer.specs.declared.TimerOut.{TimerOut}
 use Rattle.timer.specs.Numbers as T
 use Rattle.timer.proofs.Numbers as timer-numbers
-use Rattle.log.specs.Machine as M
-use Rattle.association_log.specs.Association.{rule, machine}
-use Rattle.association_log.proofs.Bridge.{Ran, ran-is-run}
+use Rattle.laws_log.specs.Machine as M
+use Rattle.laws.specs.Association.{rule, machine}
+use Rattle.laws.proofs.Bridge.{Ran, ran-is-run}
 use Rattle.laws.specs.Retired.{Plain, AllPlain}
 use Rattle.laws.proofs.Unanswered.{call-whole, whole-along}
 

@@ -9,3 +9,4 @@ pub mod Some
 pub mod Cookies
 pub mod Saving
 pub mod Reading
+pub mod Association

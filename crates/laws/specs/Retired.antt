@@ -5,8 +5,8 @@ use mathlib.Core.List.{List, [], _∷_}
 use Rattle.version.specs.declared.SendKind.the-variants.{V4Upgrade}
 use Rattle.timer_rules.specs.declared.TimerAnswer.{TimerAnswer}
 use Rattle.timer_rules.specs.declared.TimerAnswer.the-variants.{Sent, Reset, Demobilize, NoCookie, CookieTooLarge, ShortBuffer, NotWhole}
-use Rattle.log.specs.Machine.{Done, ofTimer, ofReply}
-use Rattle.association_log.specs.Association.{machine}
+use Rattle.laws_log.specs.Machine.{Done, ofTimer, ofReply}
+use Rattle.laws.specs.Association.{machine}
 
 -- a poll that is sent is no V4 upgrade request
 abbrev pub Plain : TimerAnswer → Type 0

@@ -20,9 +20,9 @@ use Rattle.association.specs.declared.NewOut.{NewOut}
 use Rattle.association.specs.Record.{freshOf, withStash}
 use Rattle.association.specs.New.{numberOf, madeOf, firstDropped, newOf}
 use Rattle.association.proofs.Numbers.{is-made}
-use Rattle.metered.specs.declared.ProfileAnswer.{ProfileAnswer}
-use Rattle.metered.specs.Profile as Profile
-use Rattle.metered.proofs.Plain.{plain-made, same-record, same-dropped}
+use Rattle.association_metered.specs.declared.ProfileAnswer.{ProfileAnswer}
+use Rattle.association_metered.specs.Profile as Profile
+use Rattle.association_metered.proofs.Plain.{plain-made, same-record, same-dropped}
 use Rattle.record_stash.specs.Rows.{sizedIn, Sized}
 use Rattle.record_stash.specs.Slots.{Refilled, refilled, refilledIn}
 use Rattle.record_stash.proofs.Zeros.{cleared}

@@ -4,8 +4,8 @@
 use association::NewAnswer;
 use association::Settings;
 use association::State;
+use association_metered::ProfileAnswer;
 use cookiestash::Dropped;
-use metered::ProfileAnswer;
 ghost use mathlib.Core.Path.{_≡_};
 ghost use mathlib.Core.Bool.{true, false};
 ghost use Rattle.association.specs.New.{madeOf, firstDropped};
@@ -128,7 +128,7 @@ pub fn new(b: &mut [u8], settings: Settings, list: &[u8]) -> NewMade
 pub fn metered(b: &mut [u8], settings: Settings, list: &[u8]) -> MeteredMade
     ensures { λ r. ⌜ gave (r .answer) (r .dropped) (now (b .exit)) ≡ meteredCall settings (now (list .entry)) (now (b .entry)) ⌝ }
 {
-    let said = metered::profile(settings, list);
+    let said = association_metered::profile(settings, list);
     let placed = place(b, settings, list, said.number());
     let dropped = placed.dropped;
     if placed.fits {

@@ -5,16 +5,16 @@ use association::Pending;
 use association::Settings;
 use association::State;
 use cookiestash::Seen;
-use incoming::DecodedReply;
-use incoming::Reply;
-use incoming::ReplyRead;
 use reply_clauses::Measurement;
 use time_types::NtpTimestamp;
+use wire_incoming::DecodedReply;
+use wire_incoming::Reply;
+use wire_incoming::ReplyRead;
 ghost use mathlib.Core.Path.{_≡_};
 ghost use mathlib.Core.Bool.{cond, _||_};
 ghost use lib.ListN.{replicate};
-ghost use Rattle.incoming.specs.declared.ReplyRead.the-variants.{Decoded};
-ghost use Rattle.incoming.specs.Incoming.{decodedOf};
+ghost use Rattle.wire_incoming.specs.declared.ReplyRead.the-variants.{Decoded};
+ghost use Rattle.wire_incoming.specs.Incoming.{decodedOf};
 ghost use Rattle.reply_rules.specs.Answer.{numberOf};
 ghost use Rattle.reply_clauses.specs.After.{arrival};
 ghost use Rattle.reply_rules.specs.Judge.{leaves, judgeOf, verdictOf, readWith};
@@ -219,8 +219,13 @@ pub fn judge_packet(
     }
     let request = s.request;
     let uid = awaited(settings.nts, request);
-    let ReplyRead::Decoded(reply) = incoming::read_reply(settings.nts, uid, packet, end, decrypted)
-    else {
+    let ReplyRead::Decoded(reply) = wire_incoming::read_reply(
+        settings.nts,
+        uid,
+        packet,
+        end,
+        decrypted,
+    ) else {
         return leaves(ReplyAnswer::Undecodable, s);
     };
     let answer = judge(settings, s, reply, list, t1, t4, time);

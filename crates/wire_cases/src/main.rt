@@ -106,7 +106,7 @@ fn ask(line: &[u8], number: u64, v: Values, bytes: &[u8], uid: [u8; UID_BYTES]) 
         command::DECRYPTED => walks::decrypted(bytes, at),
         command::WALKER => walks::walker(bytes, at, v.number(key::LEN) as usize),
         command::UID => uids::packet(bytes, uid, at),
-        command::ENCRYPTED => uids::show(b"encrypted ", uid_groups::decrypted_uid(bytes, uid)),
+        command::ENCRYPTED => uids::show(b"encrypted ", wire_groups::decrypted_uid(bytes, uid)),
         command::MATCH => uids::matching(v),
         command::COLLECT => buffers::collect(bytes, v.number(key::ROOM)),
         command::REQUEST => buffers::request(v, uid, bytes),

@@ -7,8 +7,8 @@ use mathlib.Core.List.{[], _∷_}
 use native.Mathlib.Omega.{arith}
 use lib.ListN.{length, getD}
 use Rattle.cookiestash.proofs.Scan.{length-mapped}
-use Rattle.compare_fields.specs.declared.Field.{Field}
-use Rattle.compare_fields.specs.Fields.{differing, listBytes}
+use Rattle.handover_compare.specs.declared.fields.Field.{Field}
+use Rattle.handover_compare.specs.Fields.{differing, listBytes}
 use Rattle.handover_compare.proofs.Listing.{Owed, owed-all, next-fits, owed-next, owed-none, ahead, ahead-next, ahead-none}
 use borrow.Author.Needs.{needs}
 use Rattle.handover_compare.proofs.put_eight.Statement.{statement}

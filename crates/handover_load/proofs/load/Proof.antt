@@ -8,7 +8,7 @@ use lib.ListN.{length}
 use Rattle.words.specs.Bytes.{part}
 use Rattle.handover_file.specs.Cookies.{stashFits}
 use Rattle.handover_file.specs.Answers.{loadIn}
-use Rattle.handover_cut.proofs.Six.{six}
+use Rattle.handover_file.proofs.Six.{six}
 use Rattle.handover_load.proofs.Decided.{slices, said, loads, wrong-mark, wrong-length}
 use borrow.Author.Needs.{needs}
 use Rattle.handover_load.proofs.load.Statement.{statement}
