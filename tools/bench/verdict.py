@@ -1,8 +1,8 @@
 """What became of a box by the end of its log: up, doubtful, lost, never or unreadable, with the event that decided it. The rules are those of docs/DRILL.md, "What
 became of a box"; nothing is drawn or written here.
 
-A box may have several servers, one behind the other in its log (DECISIONS 113): another begins where the clock goes back with a new association. One that is up is
-enough. A server that is named again is no other one: it was restarted, and what stands of it before that is over (DECISIONS 119)."""
+A box may have several servers, one behind the other in its log (DECISIONS 114): another begins where the clock goes back with a new association. One that is up is
+enough. A server that is named again is no other one: it was restarted, and what stands of it before that is over (DECISIONS 120)."""
 from collections.abc import Iterator
 from typing import Any, NamedTuple
 

@@ -38,7 +38,8 @@ isPresent Present = true
 -- stratum ≠ 1 and the source's own identifier is among the local ones
 -- promise 12.2: Number 41, as amended by No. 2: stratum ≠ 1 and the source's own identifier is among ours; or stratum ≥ 2 and the identifier that it reports
 --     is; or the Bloom filter says present.
---     edit: association_accept/the_own_identifier_is_compared_no_more, association_accept/the_reported_identifier_is_not_compared, association_accept/a_bloom_filter_is_not_believed
+--     edit: association_accept/the_own_identifier_is_compared_no_more, association_accept/the_reported_identifier_is_not_compared,
+--       association_accept/a_bloom_filter_is_not_believed
 abbrev pub isOurs : ℕ → ℕ → List ℕ → Bool
 isOurs stratum id local = not (eqb stratum 1) && among id local
 

@@ -1,4 +1,4 @@
--- Laws of the hand-over file.
+-- Laws of the hand-over file, and of the steps through one.
 pub mod Sections
 pub mod Cookies
 pub mod Fit

@@ -1,6 +1,6 @@
 // Finds the records of the hand-over file one by one, in their order, and the cookies in the stash's body.
 // Promises: for any bytes, whether all six records are there and nothing else, or which of a wrong mark (61) and a wrong length (62) comes first in the file.
-// Rule: RULES, No. 6 and No. 12; the file is defined in `handover_file`, the steps at an offset in specs/Steps.antt.
+// Rule: RULES, No. 6 and No. 12; the file is defined in specs/File.antt, the steps at an offset in specs/Steps.antt.
 ghost use mathlib.Core.Path.{_≡_};
 ghost use mathlib.Core.Bool.{_||_};
 ghost use Prim.Native.Nat.{_<_};

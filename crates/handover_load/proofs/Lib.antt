@@ -1,4 +1,4 @@
--- Laws of the reader.
+-- Laws of both readers.
 pub mod Reading
 pub mod Decided
 pub mod Determined

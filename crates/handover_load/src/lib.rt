@@ -1,6 +1,6 @@
-// The reader of the hand-over file: a box that is swapped in starts with the association of the one before it.
-// Promises: for any bytes, the answer of the file's definition; the first fault decides between 61 and 62; a rejected file leaves the blank record.
-// Rule: RULES, No. 6, No. 12 and No. 14; `handover_file` defines the file, `handover_file::cut` finds its records, specs/Read.antt defines the stash that is read.
+// The readers of the hand-over file: by value, for a box that is swapped in and starts with the association of the one before it; and in place, module `read`.
+// Promises: for any bytes both give the answer of the file's definition; the first fault decides between 61 and 62; a rejected file leaves the blank record.
+// Rule: RULES, No. 6, No. 12 and No. 14; `handover_file` defines the file, specs/Read.antt the stash that is read, specs/Reading.antt reading in place.
 pub mod read;
 
 use association::Association;

@@ -266,7 +266,7 @@ module _ (kind : SendKind) (poll : PollInterval) (id upgrademark : ℕ) (uid coo
       }
 
   -- the same header, of every kind and whatever stands behind
-  -- promise: no1.1 (the reader of `header` gives it back, whatever follows)
+  -- promise: no1.1 (the reader of `wire_header` gives it back, whatever follows)
   pub header-read : SFits w8 (poll .0) → id < 2 ^ 64 → upgrademark < 2 ^ 64 → (rest : List ℕ) →
       headerOf (packet ++ rest) ≡ Decoded (headerFor kind poll id upgrademark)
   unfolding packetOf withFields
@@ -293,7 +293,7 @@ module _ (kind : SendKind) (poll : PollInterval) (id upgrademark : ℕ) (uid coo
     legible = (carrying-legible uidKind uid (lit< tt) (omega arith), behind-legible cookie asked short)
 
     -- with more than a tail behind it, as an authenticator is, the walk finds each field as it was written, and goes on where the packet ends
-    -- promise: no1.2 (the walk of `fields` finds each where it was written)
+    -- promise: no1.2 (the walk of `wire_fields` finds each where it was written)
     pub fields-read : 24 < length rest → packetWalk (packet ++ rest) ≡ walkedBy 48 (fieldsFor uid cookie asked) (walkOf (packet ++ rest) (length packet) 16 24)
     fields-read more = walks (packet ++ rest) rest (fieldsFor uid cookie asked) front 48 (length packet) laid front-long packet-long legible more
 

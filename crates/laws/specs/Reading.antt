@@ -1,4 +1,4 @@
--- Statements on what the walk of `fields` reads from fields that were written; the theorems of proofs/Reading.antt prove them.
+-- Statements on what the walk of `wire_fields` reads from fields that were written; the theorems of proofs/Reading.antt prove them.
 -- Assumes nothing.
 use Prim.Native.Nat.{ℕ, _+_, _-_, _%_, _≤_, _<_}
 use mathlib.Core.Path.{_≡_}

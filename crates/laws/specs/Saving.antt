@@ -1,5 +1,5 @@
 -- The association as a machine of timers, saves and replies (RULES, No. 6): a save appears in a log where a timer may, with its own number, and asks for
--- nothing. The log's rule is that of `laws`. Statements about timers and replies alone are about what was done without the saves.
+-- nothing. The log's rule is that of specs/Association.antt. Statements about timers and replies alone are about what was done without the saves.
 -- Assumes nothing.
 use mathlib.Core.Path.{_≡_}
 use mathlib.Core.Bool.{false}

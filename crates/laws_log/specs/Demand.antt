@@ -10,9 +10,9 @@ use Rattle.laws_log.specs.Machine.{Machine, Call, Done, ofReply, callsOf
 
 -- promise demand.3: Striking: a log from a new or a loaded association, without the replies that answer no live poll, gives the same end and the same
 --     answers. None of these replies caused an action.
---     edit: laws_log/the_end_is_the_start, laws_log/nothing_was_struck, laws_log/a_kept_reply_is_quiet, laws_log/no_reply_is_measured, laws_log/struck_past_the_next_poll,
---       laws_log/unasked_is_answered, laws_log/measured_leaves_it_asked, laws_log/a_refusal_measures, laws/the_log_forgets_the_window,
---       laws/a_reply_is_measured_twice, laws/a_poll_is_not_remembered, laws/the_bytes_handed_out_are_left_out
+--     edit: laws_log/the_end_is_the_start, laws_log/nothing_was_struck, laws_log/a_kept_reply_is_quiet, laws_log/no_reply_is_measured,
+--       laws_log/struck_past_the_next_poll, laws_log/unasked_is_answered, laws_log/measured_leaves_it_asked, laws_log/a_refusal_measures,
+--       laws/the_log_forgets_the_window, laws/a_reply_is_measured_twice, laws/a_poll_is_not_remembered, laws/the_bytes_handed_out_are_left_out
 pub record Demand3 {D : Rule} (M : Machine D) (a : M .Record) (calls : List (Call D)) : Type 0 where
   -- the shorter log gives the same end record
   -- promise: demand.3

@@ -1,4 +1,4 @@
--- The public function's contract determines its result: any two that it allows are equal.
+-- Each public function's contract determines its result and each lent byte: any two that it allows are equal.
 -- Assumes nothing.
 use mathlib.Core.Path.{sym, _∙_, ap}
 use Rattle.words.specs.Determined.{Determined, DeterminedLent}

@@ -1,4 +1,4 @@
--- The contract of `load` determines its result and each byte of the record: any two that it allows are equal.
+-- Each public function's contract determines its result and each lent byte: any two that it allows are equal.
 -- Assumes nothing.
 use mathlib.Core.Path.{sym, ap, _∙_}
 use denote.Ref.{now}

@@ -1,3 +1,3 @@
--- The contracts of `record_files::loads` cite the definitions of others.
+-- The definitions that the contracts of `record_files` cite.
 pub mod Load
 pub mod Save

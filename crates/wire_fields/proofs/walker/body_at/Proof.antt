@@ -1,4 +1,4 @@
--- `wire_fields::walker::body_at` meets its contract.
+-- `walker::body_at` meets its contract.
 -- Assumes nothing.
 use mathlib.Core.Path.{refl}
 use Prim.Native.Nat.{_+_, _≤_, _<_}

@@ -1,4 +1,4 @@
--- `wire_fields::walker::Walker::body` meets its contract: a walk of its MIR, by hand. The struct is taken apart, and `body_at` is called on the slice and the two numbers;
+-- `walker::Walker::body` meets its contract: a walk of its MIR, by hand. The struct is taken apart, and `body_at` is called on the slice and the two numbers;
 -- the slice that it returns is handed back.
 -- The struct is Copy: what it owns is had twice, one copy is kept whole for the exit, and of the other what packet owns goes to the callee, beside the
 -- lifetime's token, which comes back.

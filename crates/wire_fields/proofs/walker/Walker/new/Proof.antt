@@ -1,4 +1,4 @@
--- `wire_fields::walker::Walker::new` meets its contract: a walk of its MIR, by hand. A `Walker` is made of the slice and the number passed, in the result's local.
+-- `walker::Walker::new` meets its contract: a walk of its MIR, by hand. A `Walker` is made of the slice and the number passed, in the result's local.
 -- A `&[u8]` is Copy, so what it owns is had twice: once for packet at exit, and once inside the result, beside the facts of at.
 -- Assumes nothing.
 use mathlib.Core.Path.{refl}

@@ -1,4 +1,4 @@
--- `wire_fields::walker::Walker::step` meets its contract: a walk of its MIR, by hand. The struct is taken apart, and `packet_field_at` is called on the slice and the
+-- `walker::Walker::step` meets its contract: a walk of its MIR, by hand. The struct is taken apart, and `packet_field_at` is called on the slice and the
 -- number. All that the proof knows of `packet_field_at` is that it meets its contract.
 -- The struct is Copy: what it owns is had twice, one copy is kept whole for the exit, and of the other what packet owns goes to the callee, beside the
 -- lifetime's token, which comes back.
