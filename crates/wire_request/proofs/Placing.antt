@@ -41,6 +41,10 @@ pub length-filled : (n : ℕ) (bytes : List ℕ) → length bytes ≤ n → leng
 unfolding filled
 length-filled n bytes h = simp (length-append, length-replicate) (omega arith)
 
+pub filled-full : (n : ℕ) (bytes : List ℕ) → length bytes ≡ n → filled n bytes ≡ bytes
+unfolding filled
+filled-full n bytes h = let z : n - length bytes ≡ 0 = omega arith in rw z (append-nil bytes)
+
 -- ---- a field
 
 pub length-extension : (kind len : ℕ) (body : List ℕ) → length body + 4 ≤ len → length (extensionBytes (extension kind len body)) ≡ len
