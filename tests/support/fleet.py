@@ -47,7 +47,7 @@ class Log:
         return DAY + self.on + at
 
     def ntp(self, seconds: float) -> int:
-        return round(seconds * 2**32)
+        return round(seconds * 2**32) % 2**64
 
     def wait(self, seconds: float = 16) -> None:
         self.at = self.asked + seconds
@@ -552,6 +552,14 @@ def has_a_server_that_loses_its_time(log: Log, dice: random.Random) -> Truth:
 
 @story
 def has_a_server_of_version_5_without_a_time(log: Log, dice: random.Random) -> Truth:
+@story
+def begins_in_1970_or_2066(log: Log, dice: random.Random) -> Truth:
+    log.slow = dice.choice((DAY - 25567 * 86400, -40 * 365.25 * 86400))  # over 34 years, where a measured offset stops
+    log.new()
+    log.up(dice.randrange(3))
+    return Truth('doubtful', 0, 'reply', 'slow' if log.slow > 0 else 'fast')
+
+
     log.new(start='v5')
     log.poll()
     log.reply5(leap=4)
