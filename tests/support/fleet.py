@@ -473,6 +473,35 @@ def gives_up_and_comes_up_after_a_reboot(log: Log, dice: random.Random) -> Truth
 
 
 @story
+def comes_up_after_a_file_that_was_refused(log: Log, dice: random.Random) -> Truth:
+    log.new()
+    log.up()
+    log.reboot()
+    log.load('00', 62)
+    log.poll(32)
+    log.wait()
+    log.slow = 0.5
+    log.new()
+    log.up()
+    return UP
+
+
+@story
+def loads_a_file_that_is_none_and_comes_up_after_a_reboot(log: Log, dice: random.Random) -> Truth:
+    log.new()
+    log.up()
+    log.load('00', 62)
+    log.poll(32)
+    log.reboot()
+    log.poll(32)
+    log.wait()
+    log.slow = 0.5
+    log.new()
+    log.up()
+    return UP
+
+
+@story
 def reboots_while_another_server_is_up(log: Log, dice: random.Random) -> Truth:
     start = log.at
     log.new()
@@ -524,6 +553,14 @@ def stays_far_off(log: Log, dice: random.Random) -> Truth:
 
 
 @story
+def begins_in_1970_or_2066(log: Log, dice: random.Random) -> Truth:
+    log.slow = dice.choice((DAY - 25567 * 86400, -40 * 365.25 * 86400))  # over 34 years, where a measured offset stops
+    log.new()
+    log.up(dice.randrange(3))
+    return Truth('doubtful', 0, 'reply', 'slow' if log.slow > 0 else 'fast')
+
+
+@story
 def drifts_away(log: Log, dice: random.Random) -> Truth:
     log.new()
     log.up()
@@ -552,14 +589,6 @@ def has_a_server_that_loses_its_time(log: Log, dice: random.Random) -> Truth:
 
 @story
 def has_a_server_of_version_5_without_a_time(log: Log, dice: random.Random) -> Truth:
-@story
-def begins_in_1970_or_2066(log: Log, dice: random.Random) -> Truth:
-    log.slow = dice.choice((DAY - 25567 * 86400, -40 * 365.25 * 86400))  # over 34 years, where a measured offset stops
-    log.new()
-    log.up(dice.randrange(3))
-    return Truth('doubtful', 0, 'reply', 'slow' if log.slow > 0 else 'fast')
-
-
     log.new(start='v5')
     log.poll()
     log.reply5(leap=4)
@@ -900,6 +929,55 @@ def is_swapped_for_a_box_with_lower_ticks(log: Log, dice: random.Random) -> Trut
 
 
 @story
+def is_swapped_for_a_box_whose_file_is_refused(log: Log, dice: random.Random) -> Truth:
+    log.new()
+    log.up()
+    log.reboot(to=3)
+    log.load('00', 62)
+    log.poll(32)
+    return Truth('lost', 62, 'load')
+
+
+@story
+def loads_a_file_that_is_none_and_reboots(log: Log, dice: random.Random) -> Truth:
+    log.new()
+    log.up()
+    log.load('00', 62)
+    log.wait()
+    log.poll(32)
+    log.reboot()
+    log.poll(32)
+    if dice.random() < 0.5:
+        log.wait()
+        log.new()
+        log.poll()
+    return Truth('lost', 62, 'load')
+
+
+@story
+def never_is_up_and_loads_a_file_that_is_none(log: Log, dice: random.Random) -> Truth:
+    log.new()
+    log.poll()
+    log.load('00', 62)
+    log.wait()
+    log.poll(32)
+    log.reboot()
+    log.poll(32)
+    log.reply(32)
+    return Truth('never', 62, 'load')
+
+
+@story
+def is_asked_about_another_server_that_is_refused(log: Log, dice: random.Random) -> Truth:
+    log.new()
+    log.up()
+    log.back(1, '192.0.2.2')
+    log.new(number=30, min='18')
+    log.poll(32)
+    return Truth('lost', 30, 'new')
+
+
+@story
 def reboots_beside_a_server_that_is_silent(log: Log, dice: random.Random) -> Truth:
     start = log.at
     log.new()
@@ -1141,7 +1219,7 @@ def damaged(text: str, dice: random.Random) -> Iterator[tuple[str, bytes | None,
     yield 'cut', text[:text.rindex(' t4=')].encode(), 'needs t4='
     yield 'cut-word', (text + 'acce').encode(), 'no command "acce"'
     yield 'no-new', '\n'.join(line for line in lines if not line.startswith(('new', 'metered', 'load'))).encode(), 'no association'
-    yield 'refused', b'new min=4 max=3 startup=3 window=5s mark=%s start=v4 nts=no source=192.0.2.1\n' % MARK.encode(), 'no association'
+    yield 'refused', b'new min=4 max=3 startup=3 window=5s mark=%s start=v4 nts=no source=192.0.2.1\n' % MARK.encode(), 'no association: new settings (30) in line 1'
     yield 'error', '\n'.join(lines[:2] + ['timer now=soon desired=4 id=1'] + lines[2:]).encode(), 'line 3: '
     yield 'zeros', text.encode() + bytes(512), 'NUL'
     yield 'prose', b'The box did not answer this morning.\n', 'no command "The"'

@@ -99,7 +99,11 @@ class Server:
         self.replaces = self.replaces or earlier.good or earlier.replaces
         self.ended = max(filter(None, (self.ended, earlier.ended)), key=lambda event: event.step.line, default=None)
         self.before = max(self.before, earlier.known(), key=Known.line)
-        self.anew = made
+        self.made, self.anew = earlier.made, made
+
+    def idle(self) -> bool:
+        """whether its last association is over, and none took its place"""
+        return self.made is not None and self.made.step.number != 0
 
     def begin(self, made: Event | None) -> None:
         """another association, or none, from here on"""
@@ -261,6 +265,7 @@ class Judge:
         self.waiting: list[Step] = []       # a new association and what follows, until a line tells when that is
         self.steps = self.associations = 0
         self.error: Step | None = None      # the first line that was answered `error`
+        self.refused: Step | None = None    # the last association that was refused
         self.counts: dict[str, Any] = {'sent': 0, 'answered': 0, 'late': 0, 'foreign': 0}
 
     def take(self, step: Step) -> list[Placed]:
@@ -274,29 +279,37 @@ class Judge:
                 self.waiting.append(step)
                 return []
             return [self.put(step, self.last)]
-        return self.place(step.now) + [self.put(step, step.now)]
+        return self.place(step.now, step) + [self.put(step, step.now)]
 
     def over(self) -> list[Placed]:
         """the steps that are left when the log is over"""
         return self.place(self.last)
 
-    def place(self, tick: int | None) -> list[Placed]:
+    def place(self, tick: int | None, by: Step | None = None) -> list[Placed]:
+        """the steps that wait for a tick, `by` the one that has it"""
         waiting, self.waiting = self.waiting, []
-        made = [step for step in waiting if step.head in story.MAKES]
+        made = [step for step in waiting if step.makes()]
         if made:
             self.turn(made, tick)
+        elif by and self.servers[-1].idle():
+            self.turn([by], tick)
         return [self.put(step, tick) for step in waiting]
 
     def turn(self, made: list[Step], tick: int | None) -> None:
-        """where associations are made: another server begins if the clock goes back, and one that an earlier part of the log names takes that one's place"""
-        if self.last is not None and tick < self.last:
+        """where associations end: another server begins if the clock goes back, and one that an earlier part of the log names takes that one's place. Where none is
+        made, there is no other server: it is the end of the one before (DECISIONS 116)"""
+        back = self.last is not None and tick < self.last
+        if back:
             self.servers.append(Server())
         named = {source_of(step) for step in made}
-        for earlier in self.servers[:-1]:
-            if earlier.sources & named:
-                self.servers[-1].replace(earlier, made[0])
-                self.servers.remove(earlier)
-                self.restarted = True
+        over = [earlier for earlier in self.servers[:-1] if earlier.sources & named]
+        if back and not over and not any(step.head in story.MAKES and step.number == 0 for step in made):
+            over = self.servers[-2:-1]
+            self.servers[-1].sources |= over[0].sources
+        for earlier in over:
+            self.servers[-1].replace(earlier, made[0])
+            self.servers.remove(earlier)
+            self.restarted = True
 
     def put(self, step: Step, tick: int | None) -> Placed:
         self.last = tick
@@ -311,6 +324,7 @@ class Judge:
             self.error = self.error or step
         elif step.head in story.MAKES:
             self.associations += step.number == 0
+            self.refused = step if step.number != 0 else self.refused
         elif step.head == 'timer':
             self.counts['sent'] += step.number == SENT
         elif step.head in story.REPLIES:
@@ -327,7 +341,8 @@ class Judge:
         if self.error:
             return 'line %d: %s' % (self.error.line, story.fault(self.error)), 'a line answered error'
         if not self.associations:
-            return 'it has no association: no `new`, `metered` or `load` in it was answered 0', 'no association'
+            why = Event(self.refused, None).told() if self.refused else 'no `new`, `metered` or `load` is in it'
+            return 'it has no association: ' + why, 'no association'
         return None
 
     def deciding(self) -> Server:
