@@ -355,7 +355,7 @@ def has_a_leap_second_ahead(log: Log, dice: random.Random) -> Truth:
 def is_off_by_just_the_limit(log: Log, dice: random.Random) -> Truth:
     log.slow = dice.choice((1, -1))
     log.new()
-    log.up()
+    log.up(after=0)  # so that no rounding comes in between
     return UP
 
 
@@ -1191,6 +1191,45 @@ def has_two_servers_that_are_silent(log: Log, dice: random.Random) -> Truth:
     log.poll()
     log.accept(40)
     return Truth('never', 40, 'accept')
+@story
+def is_asked_before_its_polls(log: Log, dice: random.Random) -> Truth:
+    log.new()
+    log.accept(40)
+    log.poll()
+    log.silence(dice.randrange(3))
+    return Truth('never', 20, 'timer', 'no reply was measured')
+
+
+@story
+def is_refused_once_and_then_hears_nothing(log: Log, dice: random.Random) -> Truth:
+    log.new()
+    log.poll()
+    number, name, after = dice.choice(((5, b'RATE', 0.04), (14, b'RATE', 6.5), (9, b'STEP', 0.04)))
+    log.reply(number, after=after, stratum=0, refid=name)
+    log.silence(2)
+    return Truth('never', 20, 'timer', 'no reply was measured')
+
+
+@story
+def hears_a_stranger_and_then_nothing(log: Log, dice: random.Random) -> Truth:
+    log.new()
+    log.poll()
+    log.reply(4, ident=0xdead)
+    log.silence(1)
+    return Truth('never', 20, 'timer', 'no reply was measured')
+
+
+@story
+def is_slowed_down_and_polls_once_more(log: Log, dice: random.Random) -> Truth:
+    log.new()
+    log.poll()
+    log.reply(5, stratum=0, refid=b'RATE')
+    log.silence(1)
+    if dice.random() < 0.5:
+        log.reply(4, ident=0xdead)
+    return Truth('never', 5, 'reply', 'RATE')
+
+
 
 
 @story

@@ -113,6 +113,7 @@ class Server:
         self.polled: Event | None = None       # its last timer that did not give up
         self.stopped: Event | None = None      # what gave up, unless the source was accepted again
         self.refused: Event | None = None      # its last refused reply that tells something
+        self.silent = 0                        # the polls sent since that one
 
     def take(self, event: Event) -> None:
         step, number = event.step, event.step.number
@@ -124,6 +125,7 @@ class Server:
             self.stopped = event
         elif step.head == 'timer':
             self.polled = event
+            self.silent += number == SENT
         elif step.measured():
             self.first, self.latest, self.heard = self.first or step, step, event
         elif step.head in story.REPLIES:
@@ -133,8 +135,12 @@ class Server:
 
     def refuse(self, event: Event) -> None:
         number = event.step.number
-        if number is not None and number not in NO_REASON and (number not in ANYBODYS or self.refused is None or self.refused.step.number in ANYBODYS):
-            self.refused = event
+        if number is not None and number not in NO_REASON and (number not in ANYBODYS or not self.hinders() or self.refused.step.number in ANYBODYS):
+            self.refused, self.silent = event, 0
+
+    def hinders(self) -> bool:
+        """whether the last refused reply is in the way: one that was followed by polls without a reply is not, but the last poll may still have one"""
+        return self.refused is not None and self.silent <= (self.refused.step.number not in ANYBODYS)
 
     def accept(self, event: Event) -> None:
         self.asked = event
@@ -205,12 +211,13 @@ class Server:
             if self.asked and self.asked.step.line > self.heard.step.line:
                 return self.asked, self.asked.told()
             return self.heard, 'a reply was measured in line %d, but the log does not ask `accept` after it' % self.heard.step.line
-        hindered = self.refused or (self.polled if self.polled and self.polled.step.number != SENT else None)
-        if not hindered and self.asked and self.asked.step.number != 0:
+        hindered = self.refused if self.hinders() else (self.polled if self.polled and self.polled.step.number != SENT else None)
+        accepted = self.asked is not None and self.asked.step.number == 0
+        if not hindered and self.asked and not accepted and (not self.polled or self.polled.step.line < self.asked.step.line):
             hindered = self.asked
         if hindered:
             return hindered, hindered.told()
-        nothing = 'accepted, but no reply was measured' if self.asked else 'no reply was measured'
+        nothing = 'accepted, but no reply was measured' if accepted else 'no reply was measured'
         return self.polled or self.made, nothing + (': ' + self.polled.told() if self.polled else ', and no poll was sent')
 
     def reason(self, far: int) -> tuple[Event | None, str | None]:
