@@ -517,6 +517,19 @@ def reboots_while_another_server_is_up(log: Log, dice: random.Random) -> Truth:
 
 
 @story
+def has_a_second_server_that_was_refused_at_first(log: Log, dice: random.Random) -> Truth:
+    log.source = '192.0.2.2'
+    log.new(number=30, min='18')
+    log.source = '192.0.2.1'
+    log.new()
+    log.up()
+    log.back(1, '192.0.2.2')
+    log.new()
+    log.poll()
+    return UP
+
+
+@story
 def is_up_after_a_reboot_beside_a_silent_server(log: Log, dice: random.Random) -> Truth:
     log.new()
     log.up(2)
@@ -1179,19 +1192,6 @@ def is_asked_before_anything_is_measured(log: Log, dice: random.Random) -> Truth
 
 
 @story
-def has_two_servers_that_are_silent(log: Log, dice: random.Random) -> Truth:
-    start = log.at
-    log.new()
-    log.poll()
-    log.silence(2)
-    log.wait()
-    log.poll(21)
-    log.back(start, '192.0.2.2')
-    log.new()
-    log.poll()
-    log.accept(40)
-    return Truth('never', 40, 'accept')
-@story
 def is_asked_before_its_polls(log: Log, dice: random.Random) -> Truth:
     log.new()
     log.accept(40)
@@ -1230,6 +1230,19 @@ def is_slowed_down_and_polls_once_more(log: Log, dice: random.Random) -> Truth:
     return Truth('never', 5, 'reply', 'RATE')
 
 
+@story
+def has_two_servers_that_are_silent(log: Log, dice: random.Random) -> Truth:
+    start = log.at
+    log.new()
+    log.poll()
+    log.silence(2)
+    log.wait()
+    log.poll(21)
+    log.back(start, '192.0.2.2')
+    log.new()
+    log.poll()
+    log.accept(40)
+    return Truth('never', 40, 'accept')
 
 
 @story

@@ -309,7 +309,7 @@ class Judge:
         if back:
             self.servers.append(Server())
         named = {source_of(step) for step in made}
-        over = [earlier for earlier in self.servers[:-1] if earlier.sources & named]
+        over = [earlier for earlier in self.servers[:-1] if not earlier.sources or earlier.sources & named]
         if back and not over and not any(step.head in story.MAKES and step.number == 0 for step in made):
             over = self.servers[-2:-1]
             self.servers[-1].sources |= over[0].sources
@@ -321,7 +321,7 @@ class Judge:
     def put(self, step: Step, tick: int | None) -> Placed:
         self.last = tick
         server = self.servers[-1]
-        if step.head in story.MAKES and (source := source_of(step)):
+        if step.head in story.MAKES and step.number == 0 and (source := source_of(step)):
             server.sources.add(source)
         server.take(Event(step, tick))
         return Placed(step, server, tick)
