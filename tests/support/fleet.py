@@ -1089,7 +1089,18 @@ def gets_only_late_replies_and_gives_up(log: Log, dice: random.Random) -> Truth:
         log.reply(14, after=6.5)
         log.wait()
     log.poll(21)
-    return Truth('never', 21, 'timer', '(14)')
+    return Truth('never', 21, 'timer', 'give up; before that, reply too late (14)')
+
+
+@story
+def gives_up_and_then_gets_its_replies(log: Log, dice: random.Random) -> Truth:
+    log.new()
+    log.poll()
+    log.silence(2)
+    log.wait()
+    log.poll(21)
+    log.reply(14, after=1200)
+    return Truth('never', 21, 'timer', 'give up; after that, reply too late (14)')
 
 
 @story

@@ -205,7 +205,8 @@ class Server:
         if self.made and self.made.step.number != 0:
             return self.made, self.made.told()
         if self.stopped:
-            more = '; before that, ' + self.refused.told() if self.refused and not self.heard else ''
+            when = 'before' if self.refused and self.refused.step.line < self.stopped.step.line else 'after'
+            more = '; %s that, %s' % (when, self.refused.told()) if self.refused and not self.heard else ''
             return self.stopped, self.stopped.told() + more
         if self.heard:
             if self.asked and self.asked.step.line > self.heard.step.line:
