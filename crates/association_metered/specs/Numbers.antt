@@ -9,7 +9,15 @@ use Rattle.version.specs.Upgrade.{upgrading}
 use Rattle.association.specs.declared.Settings.{Settings}
 use Rattle.association.specs.Settings.{settingsValid}
 use Rattle.association_metered.specs.declared.ProfileAnswer.{ProfileAnswer}
-use Rattle.association_metered.specs.declared.ProfileAnswer.the-variants.{Met, BadSettings, BrokenList, LowPollMin, HighStartup, UpgradingStart, LongCookie}
+use Rattle.association_metered.specs.declared.ProfileAnswer.the-variants.{
+  Met,
+  BadSettings,
+  BrokenList,
+  LowPollMin,
+  HighStartup,
+  UpgradingStart,
+  LongCookie,
+}
 use Rattle.association_metered.specs.Profile.{lowPollMin, highStartup, longCookie}
 
 module _ (s : Settings) (list : List ℕ) where

@@ -15,7 +15,15 @@ use Rattle.association.specs.Settings.{settingsValid}
 use Rattle.association.specs.Record.{blankOf}
 use Rattle.association.specs.New.{newOf}
 use Rattle.association_metered.specs.declared.ProfileAnswer.{ProfileAnswer}
-use Rattle.association_metered.specs.declared.ProfileAnswer.the-variants.{Met, BadSettings, BrokenList, LowPollMin, HighStartup, UpgradingStart, LongCookie}
+use Rattle.association_metered.specs.declared.ProfileAnswer.the-variants.{
+  Met,
+  BadSettings,
+  BrokenList,
+  LowPollMin,
+  HighStartup,
+  UpgradingStart,
+  LongCookie,
+}
 use Rattle.association_metered.specs.declared.MeteredOut.{MeteredOut}
 
 -- 0 the profile is met; 30 settings outside the ranges; 33 broken cookie list; 34 to 37 the four rules, in their order

@@ -68,7 +68,9 @@ fn is_cookie(code: u8) -> bool {
 // Writes the name of a field, after a space. The table has a word for each code, and `-` for a code without a field.
 fn put_name(out: &mut [u8], at: usize, code: u8) -> usize {
     let names =
-        b"- min max startup window mark start nts source capacity - - - - - - read - - - - - - - - - - - - - - - cookie0 cookie1 cookie2 cookie3 cookie4 cookie5 cookie6 cookie7 - - - - - - - - reach tries version last remote stratum refid denial";
+        b"- min max startup window mark start nts source capacity - - - - - - read - - - - - - - - - - - - - - - \
+          cookie0 cookie1 cookie2 cookie3 cookie4 cookie5 cookie6 cookie7 - - - - - - - - \
+          reach tries version last remote stratum refid denial";
     let at = print::byte(out, at, b' ');
     print::text(out, at, text::word(names, code as usize))
 }

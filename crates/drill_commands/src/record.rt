@@ -482,7 +482,8 @@ pub fn poke(a: Association, line: &[u8], number: u64, out: &mut [u8]) -> Ran {
         a,
         v.text(poke_key::KEY, line),
         v.text(poke_key::VALUE, line),
-        b"reach:u tries:u unanswered:u stratum:u refid:f last:b remote:b version:v id:x deadline:n uid:i answered:a read:n held:n slotbyte:p min:b max:b startup:u window:n capacity:u start:v",
+        b"reach:u tries:u unanswered:u stratum:u refid:f last:b remote:b version:v id:x deadline:n uid:i answered:a \
+          read:n held:n slotbyte:p min:b max:b startup:u window:n capacity:u start:v",
         number,
         out,
     )

@@ -265,7 +265,8 @@ pub fn reply5(a: Association, line: &[u8], number: u64, out: &mut [u8]) -> Ran {
     let v = keys::read(
         line,
         number,
-        b"now:n t1:n t4:n leap:l mode:o stratum:u poll:b precision:b rootdelay:s rootdisp:s receive:n transmit:n cookie:x kiss:k=- auth:g=absent enc:g=absent untrusted:g=absent list:h=-",
+        b"now:n t1:n t4:n leap:l mode:o stratum:u poll:b precision:b rootdelay:s rootdisp:s receive:n transmit:n cookie:x \
+          kiss:k=- auth:g=absent enc:g=absent untrusted:g=absent list:h=-",
         out,
     );
     if v.refused {

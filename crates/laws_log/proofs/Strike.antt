@@ -29,7 +29,25 @@ use Rattle.laws_log.specs.Log.{
   marks,
   strike,
 }
-use Rattle.laws_log.specs.Machine.{Machine, Call, timer, reply, Done, ofTimer, ofReply, callOf, callsOf, note, logged, made, step, run, after, logOf, Laws}
+use Rattle.laws_log.specs.Machine.{
+  Machine,
+  Call,
+  timer,
+  reply,
+  Done,
+  ofTimer,
+  ofReply,
+  callOf,
+  callsOf,
+  note,
+  logged,
+  made,
+  step,
+  run,
+  after,
+  logOf,
+  Laws,
+}
 use Rattle.laws_log.specs.Demand.{Demand3}
 
 pub not-true : (b : Bool) → not b ≡ true → b ≡ false

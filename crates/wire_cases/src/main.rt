@@ -123,7 +123,8 @@ fn read(line: &[u8], number: u64) -> Values {
     let v = keys::read(
         line,
         number,
-        b"bytes:h=- zeros:w=0 uid:i=- at:n=0 len:n=0 room:q=0 authenticated:g=absent encrypted:g=absent untrusted:g=absent ntsn:y=no kind:e=v4 poll:b=0 id:x=0000000000000000 mark:x=0000000000000000 asked:u=0",
+        b"bytes:h=- zeros:w=0 uid:i=- at:n=0 len:n=0 room:q=0 authenticated:g=absent encrypted:g=absent untrusted:g=absent \
+          ntsn:y=no kind:e=v4 poll:b=0 id:x=0000000000000000 mark:x=0000000000000000 asked:u=0",
         &mut out,
     );
     say::text(text::part(&out, 0, v.end));

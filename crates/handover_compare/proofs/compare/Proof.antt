@@ -10,13 +10,19 @@ use borrow.Author.Needs.{needs}
 use Rattle.handover_compare.proofs.compare.Statement.{statement}
 use Rattle.handover_compare.proofs.compare.Tie as tie
 
+-- where the call begins, from where the file was read
+abbrev begin : tie.After-read → tie.Start
+begin k = let k3 = k .before .before .before in k3 .before
+
 -- what was read is an association, whose stash's body is where the reader says
 there : (c : tie.After-enum-told) →
-    let k = c .before .before .before .before in
-    Found (now (k .before .before .before .before .args .left)) (k .read .result)
+    let c3 = c .before .before .before in
+    let k = c3 .before in
+    Found (now (begin k .args .left)) (k .read .result)
 there c =
-    let k = c .before .before .before .before in
-    found-is (now (k .before .before .before .before .args .left)) (k .read .result) (k .read .ensures) _ (c .enum-told .given .1)
+    let c3 = c .before .before .before in
+    let k = c3 .before in
+    found-is (now (begin k .args .left)) (k .read .result) (k .read .ensures) _ (c .enum-told .given .1)
 
 read-requires : tie.Need-read-requires
 read-requires c κs = search needs
@@ -52,30 +58,36 @@ same-length c = search needs
 returns : tie.Need-returns
 unfolding part
 returns c =
-    let k = c .before .before .before .before .before in
-    let r = k .before .before .before .before .read in
-    let a = k .before .before .before .before .before .before .before .before .args in
+    let c3 = c .before .before .before in
+    let k = c3 .before .before in
+    let k3 = k .before .before .before in
+    let r = k3 .before in
+    let a = begin r .args in
     let e = c .before .before .compare-right .ensures in
-    let w = left-by (now (a .left)) (r .result) (r .ensures) (k .enum-told .given .1) (now (a .right)) (now (a .out)) _ (sym (there k .association)) in
+    let is = sym (there k .association) in
+    let w = left-by (now (a .left)) (r .read .result) (r .read .ensures) (k .enum-told .given .1) (now (a .right)) (now (a .out)) _ is in
     (e .0 ∙ w .0, e .1 ∙ w .1)
 
 returns-2 : tie.Need-returns-2
 returns-2 c =
-    let r = c .before .before .before .before .read in
-    let a = c .before .before .before .before .before .before .before .before .args in
-    left-stops (now (a .left)) (r .result) (r .ensures) (c .enum-told2 .given .1) (now (a .right)) (now (a .out))
+    let c3 = c .before .before .before in
+    let r = c3 .before in
+    let a = begin r .args in
+    left-stops (now (a .left)) (r .read .result) (r .read .ensures) (c .enum-told2 .given .1) (now (a .right)) (now (a .out))
 
 returns-3 : tie.Need-returns-3
 returns-3 c =
-    let r = c .before .before .before .before .read in
-    let a = c .before .before .before .before .before .before .before .before .args in
-    left-stops (now (a .left)) (r .result) (r .ensures) (c .enum-told3 .given .1) (now (a .right)) (now (a .out))
+    let c3 = c .before .before .before in
+    let r = c3 .before in
+    let a = begin r .args in
+    left-stops (now (a .left)) (r .read .result) (r .read .ensures) (c .enum-told3 .given .1) (now (a .right)) (now (a .out))
 
 returns-4 : tie.Need-returns-4
 returns-4 c =
-    let r = c .before .before .before .before .read in
-    let a = c .before .before .before .before .before .before .before .before .args in
-    left-stops (now (a .left)) (r .result) (r .ensures) (c .enum-told4 .given .1) (now (a .right)) (now (a .out))
+    let c3 = c .before .before .before in
+    let r = c3 .before in
+    let a = begin r .args in
+    left-stops (now (a .left)) (r .read .result) (r .read .ensures) (c .enum-told4 .given .1) (now (a .right)) (now (a .out))
 
 pub compare-spec : {M : Type 1} → statement M
 compare-spec =

@@ -15,11 +15,18 @@ use Rattle.handover_load.proofs.load.Statement.{statement}
 use Rattle.handover_load.proofs.load.Tie as tie
 
 -- past the settings' body there is room for the other records
-room : (c : tie.After-be16-at) → 36 + c .be16-at .result ≤ length (c .before .before .before .before .before .args .file .now)
+room : (c : tie.After-be16-at) →
+    let whole = c .before .before .before in
+    36 + c .be16-at .result ≤ length (whole .before .before .args .file .now)
 room c =
-    let f = c .before .before .before .before .before .args .file .now in
-    let s = six f (sym (c .before .before .before .cut .ensures) ∙ c .before .enum-told .given .1) in
+    let whole = c .before .before .before in
+    let f = whole .before .before .args .file .now in
+    let s = six f (sym (whole .cut .ensures) ∙ c .before .enum-told .given .1) in
     omega (arith, s .long, said f _ (c .be16-at .ensures))
+
+-- where the settings' length was read, from where the fourth body is cut out
+abbrev word : tie.After-association-in-arg4 → tie.After-be16-at
+word c = let c3 = c .before .before .before in c3 .before
 
 cut-requires : tie.Need-cut-requires
 cut-requires c κs = search needs
@@ -91,34 +98,34 @@ part-association-in-end-4 : tie.Need-part-association-in-end-4
 part-association-in-end-4 c = omega (arith, room (c .before .before .before))
 
 add-association-in-7 : tie.Need-add-association-in-7
-add-association-in-7 c = omega (arith, room (c .before .before .before .before))
+add-association-in-7 c = omega (arith, room (word c))
 
 add-association-in-8 : tie.Need-add-association-in-8
-add-association-in-8 c = omega (arith, room (c .before .before .before .before))
+add-association-in-8 c = omega (arith, room (word c))
 
 sub-association-in-5 : tie.Need-sub-association-in-5
-sub-association-in-5 c = omega (arith, room (c .before .before .before .before))
+sub-association-in-5 c = omega (arith, room (word c))
 
 part-association-in-start-5 : tie.Need-part-association-in-start-5
-part-association-in-start-5 c = omega (arith, room (c .before .before .before .before))
+part-association-in-start-5 c = omega (arith, room (word c))
 
 part-association-in-end-5 : tie.Need-part-association-in-end-5
-part-association-in-end-5 c = omega (arith, room (c .before .before .before .before))
+part-association-in-end-5 c = omega (arith, room (word c))
 
 add-association-in-9 : tie.Need-add-association-in-9
-add-association-in-9 c = omega (arith, room (c .before .before .before .before .before))
+add-association-in-9 c = omega (arith, room (word (c .before)))
 
 add-association-in-10 : tie.Need-add-association-in-10
-add-association-in-10 c = omega (arith, room (c .before .before .before .before .before))
+add-association-in-10 c = omega (arith, room (word (c .before)))
 
 sub-association-in-6 : tie.Need-sub-association-in-6
-sub-association-in-6 c = omega (arith, room (c .before .before .before .before .before))
+sub-association-in-6 c = omega (arith, room (word (c .before)))
 
 part-association-in-start-6 : tie.Need-part-association-in-start-6
-part-association-in-start-6 c = omega (arith, room (c .before .before .before .before .before))
+part-association-in-start-6 c = omega (arith, room (word (c .before)))
 
 part-association-in-end-6 : tie.Need-part-association-in-end-6
-part-association-in-end-6 c = omega (arith, room (c .before .before .before .before .before))
+part-association-in-end-6 c = omega (arith, room (word (c .before)))
 
 association-in-requires : tie.Need-association-in-requires
 unfolding part

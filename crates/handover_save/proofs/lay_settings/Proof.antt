@@ -23,9 +23,10 @@ same-length c = search needs
 
 returns : tie.Need-returns
 returns c =
-    let body = c .before .before .before .before .before in
+    let laid = c .before .before in
+    let body = laid .before .before .before in
     let a = body .before .before .args in
-    c .before .before .lay-record .ensures ∙ ap (λ (b : List ℕ). layOf (now (a .out)) (a .at) (recordOf 0x5345 b)) (body .settings-bytes .ensures)
+    laid .lay-record .ensures ∙ ap (λ (b : List ℕ). layOf (now (a .out)) (a .at) (recordOf 0x5345 b)) (body .settings-bytes .ensures)
 
 pub lay-settings-spec : {M : Type 1} → statement M
 lay-settings-spec =

@@ -60,9 +60,12 @@ same-length c = search needs
 returns-2 : tie.Need-returns-2
 returns-2 c =
     let fourth = c .before .before in
-    let third = fourth .before .before .before .before .before in
-    let second = third .before .before .before .before .before in
-    let first = second .before .before .before .before .before in
+    let behind-third = fourth .before .before .before in
+    let third = behind-third .before .before in
+    let behind-second = third .before .before .before in
+    let second = behind-second .before .before in
+    let behind-first = second .before .before .before in
+    let first = behind-first .before .before in
     let source = first .before .before .before in
     let polls = source .before in
     let version = polls .before in

@@ -19,7 +19,8 @@ same-length c = search needs
 
 returns : tie.Need-returns
 returns c =
-    let p = c .before .before .before .before in
+    let c3 = c .before .before .before in
+    let p = c3 .before in
     let t = p .before .before .before in
     let a = t .before .before .before .args in
     rw (c .if1 .taken) at (metered-told (a .settings) (a .list .now) (a .b .now) (t .profile .ensures) (p .before .number .ensures) (p .place .ensures))
@@ -29,7 +30,8 @@ same-length-2 c = search needs
 
 returns-2 : tie.Need-returns-2
 returns-2 c =
-    let p = c .before .before .before .before in
+    let c3 = c .before .before .before in
+    let p = c3 .before in
     let t = p .before .before .before in
     let a = t .before .before .before .args in
     rw (c .if1 .left) at (metered-told (a .settings) (a .list .now) (a .b .now) (t .profile .ensures) (p .before .number .ensures) (p .place .ensures))

@@ -37,9 +37,11 @@ returns-2 c =
 
 make-requires : tie.Need-make-requires
 make-requires c κs =
-    let i = c .before .before .before .before in
-    let a = i .before .before .before .before .args in
-    sized-of (a .b .now) (a .settings .capacity) (sym (c .before .before .sized .ensures) ∙ not-false _ (c .before .if2 .left))
+    let z = c .before in
+    let i = z .before .before .before in
+    let n = i .before in
+    let a = n .before .before .before .args in
+    sized-of (a .b .now) (a .settings .capacity) (sym (z .before .sized .ensures) ∙ not-false _ (z .if2 .left))
 
 same-length-3 : tie.Need-same-length-3
 same-length-3 c = search needs

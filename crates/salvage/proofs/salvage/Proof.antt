@@ -131,10 +131,13 @@ loop-less-2 c = omega arith
 
 loop-again-2 : tie.Need-loop-again-2 Inv-loop μ-loop
 loop-again-2 c =
-    let i = c .before .before .before .before .before .loop .inv in
-    let e = sym (c .before .before .before .record-at .ensures) ∙ c .before .enum-told .given .1 in
-    let h : c .before .before .before .before .before .loop .at < length
-    (now (c .before .before .before .before .before .before .before .before .before .args .list)) = omega arith in
+    let asked = c .before .before .before in
+    let turn = asked .before .before in
+    let past = turn .before in
+    let a = past .before .before .before .args in
+    let i = turn .loop .inv in
+    let e = sym (asked .record-at .ensures) ∙ c .before .enum-told .given .1 in
+    let h : turn .loop .at < length (now (a .list)) = omega arith in
     ⊎-elim
     (λ w.
     ⊎-elim
@@ -150,9 +153,11 @@ same-length c = c .before .loop .inv .long
 returns-2 : tie.Need-returns-2 Inv-loop μ-loop
 unfolding salvageOf bufferOf
 returns-2 c =
-    let a = c .before .before .before .before .before .args in
-    let i = c .before .loop .inv in
-    let h : length (now (a .list)) ≤ c .before .loop .at = omega arith in
+    let turn = c .before in
+    let past = turn .before in
+    let a = past .before .before .before .args in
+    let i = turn .loop .inv in
+    let h : length (now (a .list)) ≤ turn .loop .at = omega arith in
     let t = le-ltb (length (now (a .out))) (length (now (a .list))) (omega arith) in
     (rw t (reported _ _ _ _ _ _ _ _ _ _ i h), rw t (whole-buffer _ _ _ _ _ _ _ _ _ _ i h))
 

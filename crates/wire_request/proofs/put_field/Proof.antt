@@ -12,14 +12,19 @@ use Rattle.wire_request.proofs.Placing.{field-put}
 use Rattle.wire_request.proofs.put_field.Statement.{statement}
 use Rattle.wire_request.proofs.put_field.Tie as tie
 
+-- where the call begins, from where type and length are bytes
+abbrev begin : tie.After-be16-pair → tie.Start
+begin p = let p3 = p .before .before .before in p3 .before
+
 -- type and length are put
 head : (c : tie.After-lay) →
-    let p = c .before .before .be16-pair in
-    let a = c .before .before .before .before .before .before .args in
-    (length (p .result) ≡ 4) × (a .at + length (p .result) ≤ length (now (a .out))) ×
-    (Put (now (a .out)) (a .at) (p .result) (c .lay .result) (c .lay .last .0))
+    let p = c .before .before in
+    let a = begin p .args in
+    let pair = p .be16-pair .result in
+    (length pair ≡ 4) × (a .at + length pair ≤ length (now (a .out))) × (Put (now (a .out)) (a .at) pair (c .lay .result) (c .lay .last .0))
 head c =
-    let long : length (c .before .before .be16-pair .result) ≡ 4 = ap length (c .before .before .be16-pair .ensures) in
+    let p = c .before .before in
+    let long : length (p .be16-pair .result) ≡ 4 = ap length (p .be16-pair .ensures) in
     (long, omega arith, laid-put _ _ _ (c .lay .ensures) (omega arith))
 
 cast-be16-pair : tie.Need-cast-be16-pair
@@ -51,9 +56,10 @@ same-length c = search needs
 
 returns : tie.Need-returns
 returns c =
-    let l = c .before .before .before .before .before .before in
+    let c3 = c .before .before .before in
+    let l = c3 .before .before .before in
     let p = l .before .before in
-    let a = p .before .before .before .before .args in
+    let a = begin p .args in
     (refl, field-put (a .kind) (a .len) (now (a .body)) (p .be16-pair .ensures) (head l .2) (c .before .before .put-filled .ensures) (head l .1))
 
 pub put-field-spec : {M : Type 1} → statement M

@@ -19,9 +19,13 @@ Inv-loop out₀ at bytes n to rest i₀ out i = (i ≤ rest) × (out ≡ paste o
 abbrev μ-loop : tie.MeasureT-loop
 μ-loop out₀ at bytes n to rest i₀ out i = rest - i
 
+-- where the call begins, from where the bytes are put
+abbrev begin : tie.After-lay Inv-loop μ-loop → tie.Start Inv-loop μ-loop
+begin c = let c3 = c .before .before .before in c3 .before
+
 -- before the loop the bytes are put
 front : (c : tie.After-lay Inv-loop μ-loop) →
-    let a = c .before .before .before .before .args in
+    let a = begin c .args in
     Put (now (a .out)) (a .at) (now (a .bytes)) (c .lay .result) (c .lay .last .0)
 front c = laid-put _ _ _ (c .lay .ensures) (omega arith)
 
@@ -34,14 +38,19 @@ sub-rest c = search needs
 loop-holds : tie.Need-loop-holds Inv-loop μ-loop
 loop-holds c =
     let k = c .before .before in
-    let a = k .before .before .before .before .args in
+    let a = begin k .args in
     (omega arith, paste-zero (k .lay .last .0) (k .lay .result) (replicate (a .n - length (now (a .bytes))) 0), refl)
 
 add-out : tie.Need-add-out Inv-loop μ-loop
-add-out c = let k = c .before .before .before .before in omega (arith, front k .ends)
+add-out c =
+    let turn = c .before in
+    omega (arith, front (turn .before .before .before) .ends)
 
 slice-write-out : tie.Need-slice-write-out Inv-loop μ-loop
-slice-write-out c = let k = c .before .before .before .before in omega (arith, front k .ends, k .lay .kept .0)
+slice-write-out c =
+    let turn = c .before in
+    let k = turn .before .before .before in
+    omega (arith, front k .ends, k .lay .kept .0)
 
 add-i : tie.Need-add-i Inv-loop μ-loop
 add-i c = omega arith
@@ -51,9 +60,10 @@ loop-less c = omega arith
 
 loop-again : tie.Need-loop-again Inv-loop μ-loop
 loop-again c =
-    let k = c .before .before .before .before in
-    let l = c .before .loop in
-    let a = k .before .before .before .before .args in
+    let turn = c .before in
+    let l = turn .loop in
+    let k = turn .before .before .before in
+    let a = begin k .args in
     let rest = a .n - length (now (a .bytes)) in (
       omega arith,
       rw (l .inv .1) (zeros-next (k .lay .last .0) (k .lay .result) rest (l .i) (omega arith) (omega (arith, front k .ends, k .lay .kept .0))),
@@ -61,13 +71,16 @@ loop-again c =
     )
 
 same-length : tie.Need-same-length Inv-loop μ-loop
-same-length c = c .before .loop .inv .2 ∙ c .before .before .before .before .lay .kept .0
+same-length c =
+    let turn = c .before in
+    turn .loop .inv .2 ∙ turn .before .before .before .lay .kept .0
 
 returns : tie.Need-returns Inv-loop μ-loop
 returns c =
-    let k = c .before .before .before .before in
-    let l = c .before .loop in
-    let a = k .before .before .before .before .args in
+    let turn = c .before in
+    let l = turn .loop in
+    let k = turn .before .before .before in
+    let a = begin k .args in
     let e : l .i ≡ a .n - length (now (a .bytes)) = omega arith in
     filled-put (now (a .bytes)) (a .n) (omega arith) (front k) (l .inv .1 ∙ rw e)
 

@@ -17,7 +17,9 @@ is-v5-requires c κs = search needs
 returns : tie.Need-returns
 unfolding requestOf bufferOf
 returns c =
-    let v : isV5 (c .before .before .before .before .args .kind) ≡ true = sym (c .before .is-v5 .ensures) ∙ c .if1 .taken in
+    let asked = c .before in
+    let a = asked .before .before .before .args in
+    let v : isV5 (a .kind) ≡ true = sym (asked .is-v5 .ensures) ∙ c .if1 .taken in
     (rw v, rw v)
 
 header-bytes-requires : tie.Need-header-bytes-requires

@@ -12,7 +12,10 @@ use Rattle.words.proofs.lay.Statement.{statement}
 use Rattle.words.proofs.lay.Tie as tie
 
 -- past the test there is room
-room : (c : tie.Else1) → let a = c .before .before .before .before .args in a .at + length (now (a .piece)) ≤ length (now (a .out))
+room : (c : tie.Else1) →
+    let tested = c .before in
+    let a = tested .before .before .before .args in
+    a .at + length (now (a .piece)) ≤ length (now (a .out))
 room c = leb-true _ _ (sym (c .before .fits2 .ensures) ∙ not-false _ (c .if1 .left))
 
 fits-requires : tie.Need-fits-requires
@@ -20,8 +23,9 @@ fits-requires c κs = search needs
 
 returns : tie.Need-returns
 returns c =
-    let a = c .before .before .before .before .args in
-    lays-not (now (a .out)) (a .at) (now (a .piece)) (sym (c .before .fits2 .ensures) ∙ not-true _ (c .if1 .taken))
+    let tested = c .before in
+    let a = tested .before .before .before .args in
+    lays-not (now (a .out)) (a .at) (now (a .piece)) (sym (tested .fits2 .ensures) ∙ not-true _ (c .if1 .taken))
 
 sub-copy : tie.Need-sub-copy
 sub-copy c = omega (arith, room c)
@@ -36,18 +40,21 @@ copy-requires : tie.Need-copy-requires
 copy-requires c κs = let r = room (c .before) in search needs
 
 add-result : tie.Need-add-result
-add-result c = let r = room (c .before .before .before .before) in search needs
+add-result c =
+    let copied = c .before .before in
+    let r = room (copied .before .before) in search needs
 
 same-length : tie.Need-same-length
 same-length c = search needs
 
 returns-2 : tie.Need-returns-2
 returns-2 c =
-    let e = c .before .before .before .before in
-    let a = e .before .before .before .before .args in
-    let copy = c .before .before .copy in
-    lays (now (a .out)) (a .at) (now (a .piece)) (room e)
-    (record { ends = omega arith; leaves = put-is (now (a .out)) (now (a .piece)) (copy .last .1 .0) (a .at) (room e) (copy .ensures .1) })
+    let copied = c .before .before in
+    let past = copied .before .before in
+    let tested = past .before in
+    let a = tested .before .before .before .args in
+    lays (now (a .out)) (a .at) (now (a .piece)) (room past)
+    (record { ends = omega arith; leaves = put-is (now (a .out)) (now (a .piece)) (copied .copy .last .1 .0) (a .at) (room past) (copied .copy .ensures .1) })
 
 pub lay-spec : {M : Type 1} → statement M
 lay-spec =

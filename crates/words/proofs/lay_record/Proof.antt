@@ -15,12 +15,16 @@ use Rattle.words.proofs.lay_record.Statement.{statement}
 use Rattle.words.proofs.lay_record.Tie as tie
 
 -- past the tests there is room for both
-room : (c : tie.Else2) → let a = c .before .before .before .before .before .args in a .at + (4 + length (now (a .body))) ≤ length (now (a .out))
+room : (c : tie.Else2) →
+    let past = c .before .before in
+    let a = past .before .before .before .args in
+    a .at + (4 + length (now (a .body))) ≤ length (now (a .out))
 room c =
-    let a = c .before .before .before .before .before .args in
+    let past = c .before .before in
+    let a = past .before .before .before .args in
     omega (
       arith,
-      c .before .before .if1 .left,
+      past .if1 .left,
       leb-true (a .at + 4) (length (now (a .out)) - length (now (a .body)))
           (sym (c .before .fits2 .ensures) ∙ not-false _ (c .if2 .left)),
     )
@@ -43,9 +47,10 @@ fits-requires c κs = search needs
 
 returns-2 : tie.Need-returns-2
 returns-2 c =
-    let a = c .before .before .before .before .before .args in
+    let past = c .before .before in
+    let a = past .before .before .before .args in
     let k = leb-false (a .at + 4) (length (now (a .out)) - length (now (a .body))) (sym (c .before .fits2 .ensures) ∙ not-true _ (c .if2 .taken)) in
-    record-lays-not (now (a .out)) (a .at) (a .mark) (now (a .body)) (omega (arith, c .before .before .if1 .left))
+    record-lays-not (now (a .out)) (a .at) (a .mark) (now (a .body)) (omega (arith, past .if1 .left))
 
 cast-be16-pair : tie.Need-cast-be16-pair
 cast-be16-pair c = search needs
@@ -67,16 +72,18 @@ same-length c = search needs
 
 returns-3 : tie.Need-returns-3
 returns-3 c =
-    let second = c .before .before .lay2 in
-    let first = c .before .before .before .before .before .before .lay in
-    let h = c .before .before .before .before .before .before .before .before .before .be16-pair in
-    let e = c .before .before .before .before .before .before .before .before .before .before in
-    let a = e .before .before .before .before .before .args in
-    let r = room e in
-    let head = laid-put _ _ _ (first .ensures) (omega (arith, ap length (h .ensures))) in
-    let body = laid-put _ _ _ (second .ensures) (omega (arith, ap length (h .ensures), head .ends, first .kept .0)) in
+    let c3 = c .before .before .before in
+    let first = c3 .before .before .before in
+    let pair = first .before .before .before in
+    let tested = pair .before in
+    let past = tested .before .before in
+    let a = past .before .before .before .args in
+    let r = room tested in
+    let long = ap length (pair .be16-pair .ensures) in
+    let head = laid-put _ _ _ (first .lay .ensures) (omega (arith, long)) in
+    let body = laid-put _ _ _ (c .before .before .lay2 .ensures) (omega (arith, long, head .ends, first .lay .kept .0)) in
     lays (now (a .out)) (a .at) (recordOf (a .mark) (now (a .body))) (omega (arith, record-long (a .mark) (now (a .body))))
-    (record-put (a .mark) _ (now (a .body)) (h .ensures) (two-bytes (length (now (a .body)))) head body (omega arith))
+    (record-put (a .mark) _ (now (a .body)) (pair .be16-pair .ensures) (two-bytes (length (now (a .body)))) head body (omega arith))
 
 pub lay-record-spec : {M : Type 1} → statement M
 lay-record-spec =

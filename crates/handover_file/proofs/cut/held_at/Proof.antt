@@ -33,19 +33,22 @@ cast-stored-bytes c = search needs
 stored-bytes-requires : tie.Need-stored-bytes-requires
 stored-bytes-requires c κs = search needs
 
+-- how many bytes are kept, by the length that was read
+kept-said : (k : tie.After-stored-bytes) →
+    let past3 = k .before .before in
+    let past1 = past3 .before .before in
+    let a = past1 .before .before .args in
+    stored (wordAt (now (a .b)) (a .at)) ≡ k .stored-bytes .result
+unfolding wordAt
+kept-said k = ap stored (sym (k .before .be16-at .ensures)) ∙ sym (k .stored-bytes .ensures)
+
 returns-4 : tie.Need-returns-4
 unfolding heldAt wordAt
 returns-4 c =
-    let a = c .before .before .before .before .before .before .before .args in
-    let w : wordAt (now (a .b)) (a .at) ≡ c .before .before .be16-at .result = sym (c .before .before .be16-at .ensures) in
-    let n : stored (wordAt (now (a .b)) (a .at)) ≡ c .before .stored-bytes .result = ap stored w ∙ sym (c .before .stored-bytes .ensures) in
-    simp (
-      le-ltb _ _ (c .before .before .before .before .before .if1 .left),
-      ne-eqb _ _ (c .before .before .before .before .if2 .left),
-      le-ltb _ _ (c .before .before .before .if3 .left),
-      n,
-      lt-ltb _ _ (c .if4 .taken),
-    )
+    let past3 = c .before .before .before in
+    let past2 = past3 .before in
+    let past1 = past2 .before in
+    simp (le-ltb _ _ (past1 .if1 .left), ne-eqb _ _ (past2 .if2 .left), le-ltb _ _ (past3 .if3 .left), kept-said (c .before), lt-ltb _ _ (c .if4 .taken))
 
 add-start : tie.Need-add-start
 add-start c = search needs
@@ -56,16 +59,10 @@ add-t7 c = search needs
 returns-5 : tie.Need-returns-5
 unfolding heldAt wordAt
 returns-5 c =
-    let a = c .before .before .before .before .before .before .before .args in
-    let w : wordAt (now (a .b)) (a .at) ≡ c .before .before .be16-at .result = sym (c .before .before .be16-at .ensures) in
-    let n : stored (wordAt (now (a .b)) (a .at)) ≡ c .before .stored-bytes .result = ap stored w ∙ sym (c .before .stored-bytes .ensures) in
-    simp (
-      le-ltb _ _ (c .before .before .before .before .before .if1 .left),
-      ne-eqb _ _ (c .before .before .before .before .if2 .left),
-      le-ltb _ _ (c .before .before .before .if3 .left),
-      n,
-      le-ltb _ _ (c .if4 .left),
-    )
+    let past3 = c .before .before .before in
+    let past2 = past3 .before in
+    let past1 = past2 .before in
+    simp (le-ltb _ _ (past1 .if1 .left), ne-eqb _ _ (past2 .if2 .left), le-ltb _ _ (past3 .if3 .left), kept-said (c .before), le-ltb _ _ (c .if4 .left))
     (cc)
 
 pub held-at-spec : {M : Type 1} → statement M

@@ -27,9 +27,13 @@ returns-5 : tie.Need-returns-5
 unfolding shapeAt
 returns-5 c = sym (ap (λ (i : ℕ). shapeAt i .mark) (c .if5 .taken))
 
+-- past the five tests
+last : (c : tie.Else5) → let past3 = c .before .before in past3 .before .before .before .args .i ≡ 5
+last c = omega arith
+
 returns-6 : tie.Need-returns-6
 unfolding shapeAt
-returns-6 c = let e : c .before .before .before .before .before .args .i ≡ 5 = omega arith in sym (ap (λ (i : ℕ). shapeAt i .mark) e)
+returns-6 c = sym (ap (λ (i : ℕ). shapeAt i .mark) (last c))
 
 pub mark-of-spec : {M : Type 1} → statement M
 mark-of-spec = tie.close (tie.spec returns returns-2 returns-3 returns-4 returns-5 returns-6)

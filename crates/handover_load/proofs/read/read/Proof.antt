@@ -15,11 +15,18 @@ use Rattle.handover_load.proofs.read.read.Statement.{statement}
 use Rattle.handover_load.proofs.read.read.Tie as tie
 
 -- past the settings' body there is room for the other records
-room : (c : tie.After-be16-at) → 36 + c .be16-at .result ≤ length (c .before .before .before .before .before .args .file .now)
+room : (c : tie.After-be16-at) →
+    let whole = c .before .before .before in
+    36 + c .be16-at .result ≤ length (whole .before .before .args .file .now)
 room c =
-    let f = c .before .before .before .before .before .args .file .now in
-    let s = six f (sym (c .before .before .before .cut .ensures) ∙ c .before .enum-told .given .1) in
+    let whole = c .before .before .before in
+    let f = whole .before .before .args .file .now in
+    let s = six f (sym (whole .cut .ensures) ∙ c .before .enum-told .given .1) in
     omega (arith, s .long, said f _ (c .be16-at .ensures))
+
+-- where the settings' length was read, from where the fourth body is cut out
+abbrev word : tie.After-decide-arg4 → tie.After-be16-at
+word c = let c3 = c .before .before .before in c3 .before
 
 cut-requires : tie.Need-cut-requires
 cut-requires c κs = search needs
@@ -103,7 +110,7 @@ part-decide-start-5 : tie.Need-part-decide-start-5
 part-decide-start-5 c = search needs
 
 part-decide-end-5 : tie.Need-part-decide-end-5
-part-decide-end-5 c = omega (arith, room (c .before .before .before .before))
+part-decide-end-5 c = omega (arith, room (word c))
 
 add-decide-8 : tie.Need-add-decide-8
 add-decide-8 c = search needs
@@ -118,7 +125,7 @@ part-decide-start-6 : tie.Need-part-decide-start-6
 part-decide-start-6 c = search needs
 
 part-decide-end-6 : tie.Need-part-decide-end-6
-part-decide-end-6 c = omega (arith, room (c .before .before .before .before .before))
+part-decide-end-6 c = omega (arith, room (word (c .before)))
 
 decide-requires : tie.Need-decide-requires
 unfolding part

@@ -65,32 +65,25 @@ same-length c =
 
 returns : tie.Need-returns
 returns c =
-    let a = c .before .before .before .before .before .before .before .before .before .before .before .before .before .before .before .args in
+    let last = c .before .before in
+    let kept = last .before .before .before in
+    let head = kept .before .before .before in
+    let two = head .before .before .before in
+    let word = two .before in
+    let s = word .before .before .before in
+    let a = s .args in
     let x = slotIn (a .b .now) (a .from) in
-    let n = c .before .before .before .before .before .stored-bytes .result in
-    let d : c .before .before .before .before .before .before .before .before .before .before .before .before .be16-at .result
-    ≡ x .len = c .before .before .before .before .before .before .before .before .before .before .before .before .be16-at .ensures
-    ∙ sym (len-in (a .b .now) (a .from)) in
-    let b = stored-bounds (c .before .before .before .before .before .before .before .before .before .before .before .before .be16-at .result) in
-    let l = cookie-long x (c .before .before .before .before .before .before .before .before .before .before .before .before .before .before .before .pre .1) in
-    let pre = c .before .before .before .before .before .before .before .before .before .before .before .before .before .before .before .pre .2 in
-    let e : stored (c .before .before .before .before .before .before .before .before .before .before .before .before .be16-at .result)
-    ≡ stored (x .len) = ap stored d in
-    let first = laid-put _ _ _ (c .before .before .before .before .before .before .before .before .lay .ensures) (omega (arith, l, pre)) in
-    let then = laid-put _ _ _ (c .before .before .lay2 .ensures)
-    (simp (length-take, length-drop) (omega (
-      arith,
-      l,
-      e,
-      b,
-      c .before .before .before .before .before .stored-bytes .ensures,
-      first .ends,
-      c .before .before .before .before .before .before .before .before .lay .kept .0,
-      pre,
-    ))) in
-    cookie-put x (c .before .before .before .before .before .before .before .before .before .before .before .be16-bytes .ensures ∙ ap (toBe 2) d)
-    (bytes-in (a .b .now) (a .from) n (omega (arith, b, c .before .before .before .before .before .stored-bytes .ensures)))
-    (c .before .before .before .before .before .stored-bytes .ensures ∙ ap stored d) first then (omega (arith, l, pre))
+    let d : word .be16-at .result ≡ x .len = word .be16-at .ensures ∙ sym (len-in (a .b .now) (a .from)) in
+    let b = stored-bounds (word .be16-at .result) in
+    let l = cookie-long x (s .pre .1) in
+    let pre = s .pre .2 in
+    let e : stored (word .be16-at .result) ≡ stored (x .len) = ap stored d in
+    let first = laid-put _ _ _ (head .lay .ensures) (omega (arith, l, pre)) in
+    let then = laid-put _ _ _ (last .lay2 .ensures)
+    (simp (length-take, length-drop) (omega (arith, l, e, b, kept .stored-bytes .ensures, first .ends, head .lay .kept .0, pre))) in
+    cookie-put x (two .be16-bytes .ensures ∙ ap (toBe 2) d)
+    (bytes-in (a .b .now) (a .from) (kept .stored-bytes .result) (omega (arith, b, kept .stored-bytes .ensures)))
+    (kept .stored-bytes .ensures ∙ e) first then (omega (arith, l, pre))
 
 pub put-cookie-spec : {M : Type 1} → statement M
 put-cookie-spec =
