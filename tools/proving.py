@@ -27,12 +27,12 @@ UNKNOWN = 10  # seconds of a crate that was never proved here and is not in the 
 CALM = 60  # the seconds that have to be proved before this run's own pace counts as much as the kept seconds do
 
 # About how many seconds each crate's check takes by the clock. They say how much is left where nothing was proved yet, and may be old.
-SECONDS: Dict[str, int] = dict(words=8, laws_log=1, calendar=16, version=6, time_types=6, cookielist=6, reach=4, identifiers=3, cookiestash=22,
-                               wire_header=18, salvage=9, record_stash=25, association=18, wire_fields=15, drill_text=73, handover_groups=15, timer_rules=15,
-                               wire_collector=12, association_accept=12, association_metered=11, wire_groups=10, record_bytes=37, wire_request=20,
-                               wire_incoming=13, timer=12, handover_file=21, wire_cases=42, handover_save=23, reply_clauses=12, record_new=12,
-                               reply_rules=21, handover_load=38, record_files=35, handover_compare=41, exports_values=42, reply=17, record_calls=36,
-                               drill_commands=201, laws=13, laws_cases=6, drill=81, exports=43)
+SECONDS: Dict[str, int] = dict(words=10, laws_log=1, calendar=15, version=5, time_types=6, cookielist=5, reach=3, identifiers=3, cookiestash=18,
+                               wire_header=12, salvage=7, record_stash=24, association=15, wire_fields=12, drill_text=59, handover_groups=13, timer_rules=13,
+                               wire_collector=6, association_accept=8, association_metered=8, wire_groups=8, record_bytes=27, wire_request=15,
+                               handover_file=15, wire_incoming=13, timer=13, wire_cases=37, handover_load=27, handover_save=18, reply_clauses=10,
+                               record_new=14, handover_compare=29, record_files=22, reply_rules=21, exports_values=29, reply=15, laws_cases=6,
+                               drill_commands=153, record_calls=21, laws=9, drill=55, exports=27)
 
 
 class Busy(Exception):
