@@ -27,14 +27,12 @@ UNKNOWN = 10  # seconds of a crate that was never proved here and is not in the 
 CALM = 60  # the seconds that have to be proved before this run's own pace counts as much as the kept seconds do
 
 # About how many seconds each crate's check takes by the clock. They say how much is left where nothing was proved yet, and may be old.
-SECONDS: Dict[str, int] = dict(words=8, log=1, version=6, time_types=6, cookielist=5, reach=4, identifiers=3, cookiestash=20, header=14, calendar=18,
-                               association=18, fields=9, salvage=10, drill_text=70, handover_groups=14, accept=10, metered=10, uid_groups=9, incoming=14,
-                               collector=11, walker=6, handover_file=6, handover_save=21, request=19, compare_fields=18, timer_rules=13, handover_cut=14,
-                               reply_clauses=12, reply_rules=22, handover_load=20, wire_cases=47, reply=21, handover_compare=16, timer=12, edge_cases=7,
-                               request_read=7, drill_record=68, drill_calls=67, association_log=6, drill_tools=43, histories=6, cookie_order=5,
-                               longest_request=4, handover_log=5, drill=67, metered_log=6, nine_timers=5, record_stash=25, record_bytes=23, record_timer=9,
-                               record_new=12, record_reply=36, record_accept=6, record_load=55, record_save=16, exports_tools=12, exports_values=56,
-                               exports=40)
+SECONDS: Dict[str, int] = dict(words=10, laws_log=1, calendar=15, version=5, time_types=6, cookielist=5, reach=3, identifiers=3, cookiestash=18,
+                               wire_header=12, salvage=7, record_stash=24, association=15, wire_fields=12, drill_text=59, handover_groups=13, timer_rules=13,
+                               wire_collector=6, association_accept=8, association_metered=8, wire_groups=8, record_bytes=27, wire_request=15,
+                               handover_file=15, wire_incoming=13, timer=13, wire_cases=37, handover_load=27, handover_save=18, reply_clauses=10,
+                               record_new=14, handover_compare=29, record_files=22, reply_rules=21, exports_values=29, reply=15, laws_cases=6,
+                               drill_commands=153, record_calls=21, laws=9, drill=55, exports=27)
 
 
 class Busy(Exception):

@@ -47,7 +47,7 @@ class Log:
         return DAY + self.on + at
 
     def ntp(self, seconds: float) -> int:
-        return round(seconds * 2**32)
+        return round(seconds * 2**32) % 2**64
 
     def wait(self, seconds: float = 16) -> None:
         self.at = self.asked + seconds
@@ -355,7 +355,7 @@ def has_a_leap_second_ahead(log: Log, dice: random.Random) -> Truth:
 def is_off_by_just_the_limit(log: Log, dice: random.Random) -> Truth:
     log.slow = dice.choice((1, -1))
     log.new()
-    log.up()
+    log.up(after=0)  # so that no rounding comes in between
     return UP
 
 
@@ -473,6 +473,35 @@ def gives_up_and_comes_up_after_a_reboot(log: Log, dice: random.Random) -> Truth
 
 
 @story
+def comes_up_after_a_file_that_was_refused(log: Log, dice: random.Random) -> Truth:
+    log.new()
+    log.up()
+    log.reboot()
+    log.load('00', 62)
+    log.poll(32)
+    log.wait()
+    log.slow = 0.5
+    log.new()
+    log.up()
+    return UP
+
+
+@story
+def loads_a_file_that_is_none_and_comes_up_after_a_reboot(log: Log, dice: random.Random) -> Truth:
+    log.new()
+    log.up()
+    log.load('00', 62)
+    log.poll(32)
+    log.reboot()
+    log.poll(32)
+    log.wait()
+    log.slow = 0.5
+    log.new()
+    log.up()
+    return UP
+
+
+@story
 def reboots_while_another_server_is_up(log: Log, dice: random.Random) -> Truth:
     start = log.at
     log.new()
@@ -484,6 +513,19 @@ def reboots_while_another_server_is_up(log: Log, dice: random.Random) -> Truth:
     log.new()
     log.poll()
     log.silence(1)
+    return UP
+
+
+@story
+def has_a_second_server_that_was_refused_at_first(log: Log, dice: random.Random) -> Truth:
+    log.source = '192.0.2.2'
+    log.new(number=30, min='18')
+    log.source = '192.0.2.1'
+    log.new()
+    log.up()
+    log.back(1, '192.0.2.2')
+    log.new()
+    log.poll()
     return UP
 
 
@@ -518,6 +560,14 @@ def loads_the_file_of_another_server_at_a_lower_tick(log: Log, dice: random.Rand
 @story
 def stays_far_off(log: Log, dice: random.Random) -> Truth:
     log.slow = dice.choice((25200, -86400 * 3, 1.001, -1.5, 40))
+    log.new()
+    log.up(dice.randrange(3))
+    return Truth('doubtful', 0, 'reply', 'slow' if log.slow > 0 else 'fast')
+
+
+@story
+def begins_in_1970_or_2066(log: Log, dice: random.Random) -> Truth:
+    log.slow = dice.choice((DAY - 25567 * 86400, -40 * 365.25 * 86400))  # over 34 years, where a measured offset stops
     log.new()
     log.up(dice.randrange(3))
     return Truth('doubtful', 0, 'reply', 'slow' if log.slow > 0 else 'fast')
@@ -892,6 +942,55 @@ def is_swapped_for_a_box_with_lower_ticks(log: Log, dice: random.Random) -> Trut
 
 
 @story
+def is_swapped_for_a_box_whose_file_is_refused(log: Log, dice: random.Random) -> Truth:
+    log.new()
+    log.up()
+    log.reboot(to=3)
+    log.load('00', 62)
+    log.poll(32)
+    return Truth('lost', 62, 'load')
+
+
+@story
+def loads_a_file_that_is_none_and_reboots(log: Log, dice: random.Random) -> Truth:
+    log.new()
+    log.up()
+    log.load('00', 62)
+    log.wait()
+    log.poll(32)
+    log.reboot()
+    log.poll(32)
+    if dice.random() < 0.5:
+        log.wait()
+        log.new()
+        log.poll()
+    return Truth('lost', 62, 'load')
+
+
+@story
+def never_is_up_and_loads_a_file_that_is_none(log: Log, dice: random.Random) -> Truth:
+    log.new()
+    log.poll()
+    log.load('00', 62)
+    log.wait()
+    log.poll(32)
+    log.reboot()
+    log.poll(32)
+    log.reply(32)
+    return Truth('never', 62, 'load')
+
+
+@story
+def is_asked_about_another_server_that_is_refused(log: Log, dice: random.Random) -> Truth:
+    log.new()
+    log.up()
+    log.back(1, '192.0.2.2')
+    log.new(number=30, min='18')
+    log.poll(32)
+    return Truth('lost', 30, 'new')
+
+
+@story
 def reboots_beside_a_server_that_is_silent(log: Log, dice: random.Random) -> Truth:
     start = log.at
     log.new()
@@ -990,7 +1089,18 @@ def gets_only_late_replies_and_gives_up(log: Log, dice: random.Random) -> Truth:
         log.reply(14, after=6.5)
         log.wait()
     log.poll(21)
-    return Truth('never', 21, 'timer', '(14)')
+    return Truth('never', 21, 'timer', 'give up; before that, reply too late (14)')
+
+
+@story
+def gives_up_and_then_gets_its_replies(log: Log, dice: random.Random) -> Truth:
+    log.new()
+    log.poll()
+    log.silence(2)
+    log.wait()
+    log.poll(21)
+    log.reply(14, after=1200)
+    return Truth('never', 21, 'timer', 'give up; after that, reply too late (14)')
 
 
 @story
@@ -1093,6 +1203,55 @@ def is_asked_before_anything_is_measured(log: Log, dice: random.Random) -> Truth
 
 
 @story
+def is_asked_before_its_polls(log: Log, dice: random.Random) -> Truth:
+    log.new()
+    log.accept(40)
+    log.poll()
+    log.silence(dice.randrange(3))
+    return Truth('never', 20, 'timer', 'no reply was measured')
+
+
+@story
+def is_refused_once_and_then_hears_nothing(log: Log, dice: random.Random) -> Truth:
+    log.new()
+    log.poll()
+    number, name, after = dice.choice(((5, b'RATE', 0.04), (14, b'RATE', 6.5), (9, b'STEP', 0.04)))
+    log.reply(number, after=after, stratum=0, refid=name)
+    log.silence(2)
+    return Truth('never', 20, 'timer', 'no reply was measured')
+
+
+@story
+def hears_a_stranger_and_then_nothing(log: Log, dice: random.Random) -> Truth:
+    log.new()
+    log.poll()
+    log.reply(4, ident=0xdead)
+    log.silence(2)
+    return Truth('never', 20, 'timer', 'no reply was measured')
+
+
+@story
+def hears_only_strangers(log: Log, dice: random.Random) -> Truth:
+    log.new()
+    for _ in range(2):
+        log.poll()
+        log.reply(4, ident=0xdead)
+    log.silence(1)
+    return Truth('never', 4, 'reply')
+
+
+@story
+def is_slowed_down_and_polls_once_more(log: Log, dice: random.Random) -> Truth:
+    log.new()
+    log.poll()
+    log.reply(5, stratum=0, refid=b'RATE')
+    log.silence(1)
+    if dice.random() < 0.5:
+        log.reply(4, ident=0xdead)
+    return Truth('never', 5, 'reply', 'RATE')
+
+
+@story
 def has_two_servers_that_are_silent(log: Log, dice: random.Random) -> Truth:
     start = log.at
     log.new()
@@ -1133,7 +1292,7 @@ def damaged(text: str, dice: random.Random) -> Iterator[tuple[str, bytes | None,
     yield 'cut', text[:text.rindex(' t4=')].encode(), 'needs t4='
     yield 'cut-word', (text + 'acce').encode(), 'no command "acce"'
     yield 'no-new', '\n'.join(line for line in lines if not line.startswith(('new', 'metered', 'load'))).encode(), 'no association'
-    yield 'refused', b'new min=4 max=3 startup=3 window=5s mark=%s start=v4 nts=no source=192.0.2.1\n' % MARK.encode(), 'no association'
+    yield 'refused', b'new min=4 max=3 startup=3 window=5s mark=%s start=v4 nts=no source=192.0.2.1\n' % MARK.encode(), 'no association: new settings (30) in line 1'
     yield 'error', '\n'.join(lines[:2] + ['timer now=soon desired=4 id=1'] + lines[2:]).encode(), 'line 3: '
     yield 'zeros', text.encode() + bytes(512), 'NUL'
     yield 'prose', b'The box did not answer this morning.\n', 'no command "The"'

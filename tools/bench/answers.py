@@ -77,7 +77,7 @@ class Source:
         except human.NotText as fault:
             raise Unreadable(str(fault)) from None
         except OSError as fault:
-            raise Unreadable('it cannot be read: %s' % ('it is a folder' if isinstance(fault, IsADirectoryError) else fault.strerror)) from None
+            raise Unreadable('it is a folder, and no log in it was read' if isinstance(fault, IsADirectoryError) else 'it cannot be read: %s' % fault.strerror) from None
         finally:
             os.close(source)
 

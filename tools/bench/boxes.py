@@ -19,26 +19,27 @@ def logs_in(folder: str) -> list[str]:
 
 
 def paths_of(named: list[str]) -> list[str]:
-    """the logs: the files that are named, and of a folder those in it. A folder without one stays, as a box that cannot be read: its logs may not have come"""
+    """the logs: the files that are named, and of a folder those in it. A folder without one, or that cannot be read, stays as a box that cannot be read: its logs may not
+    have come, and the others are told"""
     paths = []
     for path in named:
+        found = []
         if os.path.isdir(path):
             try:
                 found = logs_in(path)
+                if not found:
+                    ends.say('%s has no log in it: a log is a file whose name ends with %s' % (path, ENDING))
             except OSError as fault:
-                ends.die('%s cannot be read: %s' % (path, fault.strerror))
-            if not found:
-                ends.say('%s has no log in it: a log is a file whose name ends with %s' % (path, ENDING))
-            paths += found or [path]
-        else:
-            paths.append(path)
+                ends.say('%s cannot be read: %s' % (path, fault.strerror))
+        paths += found or [path]
     if all(os.path.isdir(path) for path in paths):
         ends.die('there is no log to read')
     return paths
 
 
 def names_of(paths: list[str]) -> list[str]:
-    """a box's name is its log's, without the ending; where two are the same, the path"""
+    """a box's name is its log's, without the ending; where two are the same, the path. Bytes that are no UTF-8 are told, so that a name can be written anywhere"""
+    paths = [os.fsencode(path).decode('utf-8', 'backslashreplace') for path in paths]
     short = [os.path.splitext(os.path.basename(path.rstrip('/')))[0] if path != '-' else 'standard input' for path in paths]
     times = collections.Counter(short)
     return [path if times[name] > 1 else name for path, name in zip(paths, short)]

@@ -284,8 +284,9 @@ def dropped(step: Step) -> str:
 
 
 def measured(step: Step) -> str:
-    g = step.gave
-    return 'offset %s, delay %s, stratum %s%s%s' % (human.milliseconds(int(g['offset']), sign=True), human.milliseconds(int(g['delay'])), g['stratum'],
+    g, off, said = step.gave, walltime.offset(step), walltime.measured_offset(step)
+    told = human.milliseconds(off, sign=True) if off == said else '%s (by T1 to T4: the measured one stops at %s)' % (human.offset(off), human.offset(said))
+    return 'offset %s, delay %s, stratum %s%s%s' % (told, human.milliseconds(int(g['delay'])), g['stratum'],
                                                    '; the source says that it is not synchronized (leap)' if walltime.unsynchronized(step) else '', dropped(step))
 
 

@@ -1,8 +1,8 @@
 """What became of a box by the end of its log: up, doubtful, lost, never or unreadable, with the event that decided it. The rules are those of docs/DRILL.md, "What
 became of a box"; nothing is drawn or written here.
 
-A box may have several servers, one behind the other in its log (DECISIONS 113): another begins where the clock goes back with a new association. One that is up is
-enough. A server that is named again is no other one: it was restarted, and what stands of it before that is over (DECISIONS 119)."""
+A box may have several servers, one behind the other in its log (DECISIONS 114): another begins where the clock goes back with a new association. One that is up is
+enough. A server that is named again is no other one: it was restarted, and what stands of it before that is over (DECISIONS 120)."""
 from collections.abc import Iterator
 from typing import Any, NamedTuple
 
@@ -99,7 +99,11 @@ class Server:
         self.replaces = self.replaces or earlier.good or earlier.replaces
         self.ended = max(filter(None, (self.ended, earlier.ended)), key=lambda event: event.step.line, default=None)
         self.before = max(self.before, earlier.known(), key=Known.line)
-        self.anew = made
+        self.made, self.anew = earlier.made, made
+
+    def idle(self) -> bool:
+        """whether its last association is over, and none took its place"""
+        return self.made is not None and self.made.step.number != 0
 
     def begin(self, made: Event | None) -> None:
         """another association, or none, from here on"""
@@ -109,6 +113,7 @@ class Server:
         self.polled: Event | None = None       # its last timer that did not give up
         self.stopped: Event | None = None      # what gave up, unless the source was accepted again
         self.refused: Event | None = None      # its last refused reply that tells something
+        self.silent = 0                        # the polls sent since that one
 
     def take(self, event: Event) -> None:
         step, number = event.step, event.step.number
@@ -120,6 +125,7 @@ class Server:
             self.stopped = event
         elif step.head == 'timer':
             self.polled = event
+            self.silent += number == SENT
         elif step.measured():
             self.first, self.latest, self.heard = self.first or step, step, event
         elif step.head in story.REPLIES:
@@ -129,8 +135,12 @@ class Server:
 
     def refuse(self, event: Event) -> None:
         number = event.step.number
-        if number is not None and number not in NO_REASON and (number not in ANYBODYS or self.refused is None or self.refused.step.number in ANYBODYS):
-            self.refused = event
+        if number is not None and number not in NO_REASON and (number not in ANYBODYS or not self.hinders() or self.refused.step.number in ANYBODYS):
+            self.refused, self.silent = event, 0
+
+    def hinders(self) -> bool:
+        """whether the last refused reply is in the way: one that was followed by two polls without a reply is not; one poll may still be under way"""
+        return self.refused is not None and self.silent <= 1
 
     def accept(self, event: Event) -> None:
         self.asked = event
@@ -195,18 +205,20 @@ class Server:
         if self.made and self.made.step.number != 0:
             return self.made, self.made.told()
         if self.stopped:
-            more = '; before that, ' + self.refused.told() if self.refused and not self.heard else ''
+            when = 'before' if self.refused and self.refused.step.line < self.stopped.step.line else 'after'
+            more = '; %s that, %s' % (when, self.refused.told()) if self.refused and not self.heard else ''
             return self.stopped, self.stopped.told() + more
         if self.heard:
             if self.asked and self.asked.step.line > self.heard.step.line:
                 return self.asked, self.asked.told()
             return self.heard, 'a reply was measured in line %d, but the log does not ask `accept` after it' % self.heard.step.line
-        hindered = self.refused or (self.polled if self.polled and self.polled.step.number != SENT else None)
-        if not hindered and self.asked and self.asked.step.number != 0:
+        hindered = self.refused if self.hinders() else (self.polled if self.polled and self.polled.step.number != SENT else None)
+        accepted = self.asked is not None and self.asked.step.number == 0
+        if not hindered and self.asked and not accepted and (not self.polled or self.polled.step.line < self.asked.step.line):
             hindered = self.asked
         if hindered:
             return hindered, hindered.told()
-        nothing = 'accepted, but no reply was measured' if self.asked else 'no reply was measured'
+        nothing = 'accepted, but no reply was measured' if accepted else 'no reply was measured'
         return self.polled or self.made, nothing + (': ' + self.polled.told() if self.polled else ', and no poll was sent')
 
     def reason(self, far: int) -> tuple[Event | None, str | None]:
@@ -261,6 +273,7 @@ class Judge:
         self.waiting: list[Step] = []       # a new association and what follows, until a line tells when that is
         self.steps = self.associations = 0
         self.error: Step | None = None      # the first line that was answered `error`
+        self.refused: Step | None = None    # the last association that was refused
         self.counts: dict[str, Any] = {'sent': 0, 'answered': 0, 'late': 0, 'foreign': 0}
 
     def take(self, step: Step) -> list[Placed]:
@@ -274,34 +287,42 @@ class Judge:
                 self.waiting.append(step)
                 return []
             return [self.put(step, self.last)]
-        return self.place(step.now) + [self.put(step, step.now)]
+        return self.place(step.now, step) + [self.put(step, step.now)]
 
     def over(self) -> list[Placed]:
         """the steps that are left when the log is over"""
         return self.place(self.last)
 
-    def place(self, tick: int | None) -> list[Placed]:
+    def place(self, tick: int | None, by: Step | None = None) -> list[Placed]:
+        """the steps that wait for a tick, `by` the one that has it"""
         waiting, self.waiting = self.waiting, []
-        made = [step for step in waiting if step.head in story.MAKES]
+        made = [step for step in waiting if step.makes()]
         if made:
             self.turn(made, tick)
+        elif by and self.servers[-1].idle():
+            self.turn([by], tick)
         return [self.put(step, tick) for step in waiting]
 
     def turn(self, made: list[Step], tick: int | None) -> None:
-        """where associations are made: another server begins if the clock goes back, and one that an earlier part of the log names takes that one's place"""
-        if self.last is not None and tick < self.last:
+        """where associations end: another server begins if the clock goes back, and one that an earlier part of the log names takes that one's place. Where none is
+        made, there is no other server: it is the end of the one before (DECISIONS 117)"""
+        back = self.last is not None and tick < self.last
+        if back:
             self.servers.append(Server())
         named = {source_of(step) for step in made}
-        for earlier in self.servers[:-1]:
-            if earlier.sources & named:
-                self.servers[-1].replace(earlier, made[0])
-                self.servers.remove(earlier)
-                self.restarted = True
+        over = [earlier for earlier in self.servers[:-1] if not earlier.sources or earlier.sources & named]
+        if back and not over and not any(step.head in story.MAKES and step.number == 0 for step in made):
+            over = self.servers[-2:-1]
+            self.servers[-1].sources |= over[0].sources
+        for earlier in over:
+            self.servers[-1].replace(earlier, made[0])
+            self.servers.remove(earlier)
+            self.restarted = True
 
     def put(self, step: Step, tick: int | None) -> Placed:
         self.last = tick
         server = self.servers[-1]
-        if step.head in story.MAKES and (source := source_of(step)):
+        if step.head in story.MAKES and step.number == 0 and (source := source_of(step)):
             server.sources.add(source)
         server.take(Event(step, tick))
         return Placed(step, server, tick)
@@ -311,6 +332,7 @@ class Judge:
             self.error = self.error or step
         elif step.head in story.MAKES:
             self.associations += step.number == 0
+            self.refused = step if step.number != 0 else self.refused
         elif step.head == 'timer':
             self.counts['sent'] += step.number == SENT
         elif step.head in story.REPLIES:
@@ -327,7 +349,8 @@ class Judge:
         if self.error:
             return 'line %d: %s' % (self.error.line, story.fault(self.error)), 'a line answered error'
         if not self.associations:
-            return 'it has no association: no `new`, `metered` or `load` in it was answered 0', 'no association'
+            why = Event(self.refused, None).told() if self.refused else 'no `new`, `metered` or `load` is in it'
+            return 'it has no association: ' + why, 'no association'
         return None
 
     def deciding(self) -> Server:

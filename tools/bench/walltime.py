@@ -6,6 +6,7 @@ from typing import NamedTuple, Protocol
 
 import human
 
+FURTHEST = 2**62      # where a measured offset stops, at 34 years: it is half of a sum that stops at the end of its range (RULES, part 5)
 UNSYNCHRONIZED = '4'  # of `leap` in the answer to a reply; 3, unknown, is said by a server that is synchronized (docs/EMBEDDING.md)
 
 
@@ -39,9 +40,30 @@ def difference(a: int, b: int) -> int:
     return (a - b + 2**63) % human.ERA - 2**63
 
 
-def offset(step: Measured) -> int:
-    """how far the box's clock was behind the server's"""
+def measured_offset(step: Measured) -> int:
+    """the offset as the program answered it"""
     return int(step.gave['offset'])
+
+
+def offset(step: Measured) -> int:
+    """how far the box's clock was behind the server's: as it was measured, but where that stopped by the four timestamps. So a clock that begins in 1970 is told right"""
+    said = measured_offset(step)
+    if -FURTHEST < said < FURTHEST - 1:
+        return said
+    t1, t2, t3, t4 = stamps(step)
+    both = difference(t2, t1) + difference(t3, t4)
+    return both // 2 if both >= 0 else -(-both // 2)
+
+
+def stamps(step: Measured) -> tuple[int, int, int, int]:
+    """T1 to T4 of a reply, in bytes or decoded"""
+    given = step.given
+    if 'packet' in given:
+        packet = bytes.fromhex(given['packet'])
+        t2, t3 = (int.from_bytes(packet[at:at + 8], 'big') for at in (32, 40))
+    else:
+        t2, t3 = int(given['receive']), int(given['transmit'])
+    return int(given['t1']), t2, t3, int(given['t4'])
 
 
 def delay(step: Measured) -> int:

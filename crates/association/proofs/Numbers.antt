@@ -4,13 +4,15 @@ use mathlib.Core.Path.{_≡_, refl, ap, subst, _∙_}
 use mathlib.Core.List.{List}
 use mathlib.Core.Logic.{_↔_}
 use Prim.Native.Nat.{ℕ}
+use native.Mathlib.Omega.{arith}
 use Rattle.words.proofs.Tests.{either}
 use Rattle.cookielist.specs.List.{listBroken}
 use Rattle.version.specs.Upgrade.{upgrading}
 use Rattle.association.specs.declared.Settings.{Settings}
 use Rattle.association.specs.declared.NewOut.{NewOut}
 use Rattle.association.specs.Settings.{settingsValid}
-use Rattle.association.specs.New.{numberOf, newOf}
+use Rattle.association.specs.Record.{blankOf}
+use Rattle.association.specs.New.{numberOf, out, newMade, newOf}
 use Rattle.association.specs.Numbers as N
 use Rattle.association.specs.Numbers.{bad-settings, broken-list, retired, made}
 
@@ -52,3 +54,22 @@ module _ (s : Settings) (list : List ℕ) where
     λ e. (newOf s list, subst (λ (k : ℕ). Given k (newOf s list)) e given),
     λ g. ap (λ (o : NewOut). numberOf (o .answer)) (only (g .1)) ∙ numbered (g .1),
   )
+
+  -- 0 makes the association, and any other number rejects
+  pub is-made : numberOf (newOf s list .answer) ≡ 0 → newOf s list ≡ newMade s list
+  is-made = by given
+    where
+      by : {n : ℕ} {o : NewOut} → Given n o → n ≡ 0 → o ≡ newMade s list
+      by (bad-settings v) e = absurd (omega arith)
+      by (broken-list v b) e = absurd (omega arith)
+      by (retired v b u) e = absurd (omega arith)
+      by (made v b u) e = refl
+
+  pub is-rejected : (numberOf (newOf s list .answer) ≡ 0 → ⊥) → newOf s list ≡ out (newOf s list .answer) blankOf
+  is-rejected = by given
+    where
+      by : {n : ℕ} {o : NewOut} → Given n o → (n ≡ 0 → ⊥) → o ≡ out (o .answer) blankOf
+      by (bad-settings v) h = refl
+      by (broken-list v b) h = refl
+      by (retired v b u) h = refl
+      by (made v b u) h = absurd (h refl)

@@ -12,7 +12,7 @@ use Rattle.version.specs.Upgrade.{upgrading}
 use Rattle.association.specs.declared.Effort.{Effort}
 use Rattle.association.specs.declared.Association.{Association}
 use Rattle.association.specs.Record.{effortValid, versionsValid, wholeSeen, wholeOf}
-use Rattle.association.specs.Whole.{Whole}
+use Rattle.association.specs.Whole.{Whole, Current}
 
 -- the test of the unanswered polls
 pub count-of : (e : Effort) → effortValid e ≡ true → e .unanswered ≡ unansweredOf (e .reach)
@@ -63,7 +63,7 @@ versions-kept start v w k e =
 
 -- a whole record has neither as its start version nor as its version the retired kind
 -- promise: no14.3
-pub none-retired : (a : Association) → Whole a → (upgrading (a .settings .start .kind) ≡ false) × (upgrading (a .state .version .kind) ≡ false)
+pub none-retired : (a : Association) → Whole a → Current a
 unfolding versionsValid
 none-retired a w =
     let p = both (not (upgrading (a .settings .start .kind))) (not (upgrading (a .state .version .kind))) (w .versions) in

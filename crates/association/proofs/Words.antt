@@ -25,7 +25,7 @@ use Rattle.association.specs.Settings.{within, limitsValid, settingsVali
 use Rattle.association.specs.Record.{versionsValid, pendingValid, idleValid, wholeOf}
 use Rattle.association.specs.Whole.{Whole}
 use Rattle.association.proofs.Whole.{whole-of, of-whole}
-use Rattle.association.specs.Words.{AllZero, InRanges, Current, Requested, Idle, WholeWords}
+use Rattle.association.specs.Words.{AllZero, InRanges, NotRetired, Requested, Idle, WholeWords}
 
 -- ---- bytes
 
@@ -117,13 +117,13 @@ kind-kept (Upgrading tries) h = absurd (h tries refl)
 kind-kept Upgraded h = refl
 kind-kept V5 h = refl
 
-currents : (v w : Version) → versionsValid v w ≡ true → Current v × Current w
+not-retired : (v w : Version) → versionsValid v w ≡ true → NotRetired v × NotRetired w
 unfolding versionsValid
-currents v w e = let p = both (not (upgrading (v .kind))) (not (upgrading (w .kind))) e in (kept-kind (v .kind) (p .0), kept-kind (w .kind) (p .1))
+not-retired v w e = let p = both (not (upgrading (v .kind))) (not (upgrading (w .kind))) e in (kept-kind (v .kind) (p .0), kept-kind (w .kind) (p .1))
 
-of-currents : (v w : Version) → Current v → Current w → versionsValid v w ≡ true
+of-not-retired : (v w : Version) → NotRetired v → NotRetired w → versionsValid v w ≡ true
 unfolding versionsValid
-of-currents v w c d = passes _ (kind-kept (v .kind) c) ∙ kind-kept (w .kind) d
+of-not-retired v w c d = passes _ (kind-kept (v .kind) c) ∙ kind-kept (w .kind) d
 
 -- ---- the request
 
@@ -182,7 +182,7 @@ module _ (a : Association) where
       into : wholeOf a ≡ true → WholeWords a
       into e =
           let w = whole-of a t e in
-          let c = currents (a .settings .start) (a .state .version) (w .versions) in
+          let c = not-retired (a .settings .start) (a .state .version) (w .versions) in
           record {
             settings = in-ranges (a .settings) (w .settings);
             stash = w .stash;
@@ -200,7 +200,7 @@ module _ (a : Association) where
             settings = ranges-of (a .settings) (w .settings);
             stash = w .stash;
             counted = w .counted;
-            versions = of-currents (a .settings .start) (a .state .version) (w .start) (w .version);
+            versions = of-not-retired (a .settings .start) (a .state .version) (w .start) (w .version);
             request = of-requested (a .state .request) (w .request);
             idle = of-idle (w .idle);
           })

@@ -1,7 +1,8 @@
 -- A whole record, as a statement: what `wholeOf` of specs/Record.antt tests.
 -- Assumes nothing.
 use mathlib.Core.Path.{_≡_}
-use mathlib.Core.Bool.{true}
+use mathlib.Core.Bool.{true, false}
+use Rattle.version.specs.Upgrade.{upgrading}
 use Rattle.reach.specs.Register.{unansweredOf}
 use Rattle.cookiestash.specs.Whole as stash
 use Rattle.association.specs.declared.Association.{Association}
@@ -17,3 +18,8 @@ pub record Whole (a : Association) : Type 0 where
   pub versions : versionsValid (a .settings .start) (a .state .version) ≡ true
   pub request : pendingValid (a .state .request) ≡ true
   pub idle : idleValid (a .settings .nts) (a .stash .read) (a .stash .held) (a .state .request .uid) ≡ true
+
+-- neither the start version nor the version is of the retired kind (RULES, No. 14)
+-- promise no14.6: From a whole record no call leads to the upgrading version, and no upgrade request is sent, over any log.
+abbrev pub Current : Association → Type 0
+Current a = (upgrading (a .settings .start .kind) ≡ false) × (upgrading (a .state .version .kind) ≡ false)

@@ -35,8 +35,8 @@ pub record InRanges (s : Settings) : Type 0 where
   pub capacity-few : s .capacity ≤ 8
 
 -- not of the retired kind
-abbrev pub Current : Version → Type 0
-Current v = (tries : ℕ) → v .kind ≡ Upgrading tries → ⊥
+abbrev pub NotRetired : Version → Type 0
+NotRetired v = (tries : ℕ) → v .kind ≡ Upgrading tries → ⊥
 
 -- while a request is pending no reply has been measured; if none is pending its numbers are zero
 pub record Requested (q : Pending) : Type 0 where
@@ -55,7 +55,7 @@ pub record WholeWords (a : Association) : Type 0 where
   pub settings : InRanges (a .settings)
   pub stash : stash.Whole (a .settings .capacity) (a .stash)
   pub counted : a .state .effort .unanswered ≡ unansweredOf (a .state .effort .reach)
-  pub start : Current (a .settings .start)
-  pub version : Current (a .state .version)
+  pub start : NotRetired (a .settings .start)
+  pub version : NotRetired (a .state .version)
   pub request : Requested (a .state .request)
   pub idle : Idle a

@@ -13,7 +13,6 @@ ghost use mathlib.Core.Path.{_≡_};
 ghost use mathlib.Core.Bool.{_&&_, _||_};
 ghost use lib.Dec.{eqb};
 ghost use Rattle.words.specs.Bytes.{zeros};
-ghost use Rattle.cookielist.specs.List.{listBroken};
 ghost use Rattle.association.specs.Settings.{within, limitsValid, settingsValid};
 ghost use Rattle.association.specs.Record.{noPending, effortValid, versionsValid, pendingValid, wholeSeen, wholeOf, blankOf, freshOf};
 ghost use Rattle.association.specs.New.{numberOf, newOf};
@@ -132,7 +131,7 @@ impl Settings {
 impl Effort {
     // Whether the number of unanswered polls is the one that the register implies.
     // promise: whole.2, no8.6
-    pub fn valid(self) -> bool
+    fn valid(self) -> bool
         ensures { λ r. ⌜ r ≡ effortValid self ⌝ }
     {
         let reach = self.reach;
@@ -206,14 +205,32 @@ fn versions_valid(start: Version, spoken: Version) -> bool
     !spoken.is_upgrading()
 }
 
-// Whether a first cookie list is broken, which matters with NTS only.
-pub fn list_broken(nts: bool, list: &[u8]) -> bool
-    ensures { λ r. ⌜ r ≡ listBroken nts (now (list .entry)) ⌝ }
-{
-    if nts {
-        !cookielist::list_whole(list)
-    } else {
-        false
+impl State {
+    // The state of a new association.
+    pub fn fresh(settings: Settings) -> State
+        ensures { λ r. ⌜ r ≡ freshOf settings .state ⌝ }
+    {
+        let version = settings.start;
+        let min = settings.min;
+        let request = Pending::none(false);
+        State {
+            effort: Effort {
+                reach: Reach::never(),
+                tries: 0,
+                unanswered: 8,
+            },
+            version,
+            polls: Polls {
+                last: min,
+                remote: min,
+            },
+            source: Source {
+                stratum: 16,
+                refid: ReferenceId::NONE,
+                denial: false,
+            },
+            request,
+        }
     }
 }
 
@@ -305,30 +322,11 @@ impl Association {
         ensures { λ r. ⌜ r ≡ freshOf settings ⌝ }
     {
         let stash = CookieStash::new();
-        let version = settings.start;
-        let min = settings.min;
-        let request = Pending::none(false);
+        let state = State::fresh(settings);
         Association {
             settings,
             stash,
-            state: State {
-                effort: Effort {
-                    reach: Reach::never(),
-                    tries: 0,
-                    unanswered: 8,
-                },
-                version,
-                polls: Polls {
-                    last: min,
-                    remote: min,
-                },
-                source: Source {
-                    stratum: 16,
-                    refid: ReferenceId::NONE,
-                    denial: false,
-                },
-                request,
-            },
+            state,
         }
     }
 
@@ -338,27 +336,11 @@ impl Association {
         ensures { λ r. ⌜ r ≡ newOf settings (now (list .entry)) ⌝ }
     {
         let none = Dropped::none();
-        if !settings.valid() {
+        let answer = NewAnswer::tested(settings, list);
+        if answer.number() != 0 {
             let blank = Association::blank();
             return NewOut {
-                answer: NewAnswer::BadSettings,
-                dropped: none,
-                association: blank,
-            };
-        }
-        if list_broken(settings.nts, list) {
-            let blank = Association::blank();
-            return NewOut {
-                answer: NewAnswer::BrokenList,
-                dropped: none,
-                association: blank,
-            };
-        }
-        let start = settings.start;
-        if start.is_upgrading() {
-            let blank = Association::blank();
-            return NewOut {
-                answer: NewAnswer::Retired,
+                answer,
                 dropped: none,
                 association: blank,
             };
@@ -371,13 +353,13 @@ impl Association {
             made.stash = stash;
             let dropped = stored.dropped;
             return NewOut {
-                answer: NewAnswer::Made,
+                answer,
                 dropped,
                 association: made,
             };
         }
         NewOut {
-            answer: NewAnswer::Made,
+            answer,
             dropped: none,
             association: made,
         }
@@ -392,6 +374,24 @@ pub enum NewAnswer {
 }
 
 impl NewAnswer {
+    // What `new` answers for settings and first list.
+    // promise: whole.4, no12.1, no14.1
+    pub fn tested(settings: Settings, list: &[u8]) -> NewAnswer
+        ensures { λ r. ⌜ r ≡ newOf settings (now (list .entry)) .answer ⌝ }
+    {
+        if !settings.valid() {
+            return NewAnswer::BadSettings;
+        }
+        if cookielist::list_broken(settings.nts, list) {
+            return NewAnswer::BrokenList;
+        }
+        let start = settings.start;
+        if start.is_upgrading() {
+            return NewAnswer::Retired;
+        }
+        NewAnswer::Made
+    }
+
     // promise: whole.4
     pub fn number(self) -> u8
         ensures { λ r. ⌜ r ≡ numberOf self ⌝ }

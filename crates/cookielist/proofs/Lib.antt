@@ -1,6 +1,5 @@
 -- Laws that belong to no one function.
 pub mod Reader
-pub mod Marked
 pub mod RoundTrip
 pub mod Refused
 pub mod Determined

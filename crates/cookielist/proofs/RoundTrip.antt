@@ -9,14 +9,14 @@ use native.Mathlib.Omega.{arith}
 use borrow.Author.Tests.{le-ltb, eq-eqb, ne-eqb}
 use lib.ListN.{length, drop, length-drop}
 use lib.Seq.{drop-length}
-use Rattle.words.specs.Bytes.{part, toBe}
-use Rattle.words.proofs.Bytes.{Bytes, bytes-part, length-part, part-drop, be-below, toBe-be}
+use Rattle.words.specs.Bytes.{part}
+use Rattle.words.specs.Put.{recordOf}
+use Rattle.words.proofs.Records.{ReadBack, read-back, body-short, write-back}
+use Rattle.words.proofs.Bytes.{Bytes}
 use Rattle.cookielist.specs.declared.Entry.{Entry}
 use Rattle.cookielist.specs.declared.Entry.the-variants.{Cookie, End, Broken}
 use Rattle.cookielist.specs.List.{
   AllShort,
-  markedOf,
-  recordOf,
   listOf,
   recordMarkAt,
   lengthAt,
@@ -28,7 +28,6 @@ use Rattle.cookielist.specs.List.{
   cookiesFrom,
   cookiesIn,
 }
-use Rattle.cookielist.proofs.Marked.{Marked, marked}
 use Rattle.cookielist.proofs.Reader.{Placed, placed, ended, read-cookie, read-end, read-broken}
 
 -- ---- what is written is read
@@ -49,15 +48,10 @@ entry-cookie l at n h m e =
       le-ltb (length l - at - 4) n (omega arith),
     )
 
--- a cookie's record is one with the mark C0 0E
-record-marked : (c : List ℕ) → recordOf c ≡ markedOf 0xC00E c
-unfolding recordOf markedOf
-record-marked c = refl
-
 -- a cookie's record at an offset
-module _ (l c rest : List ℕ) (at : ℕ) (short : length c ≤ 65535) (here : drop at l ≡ recordOf c ++ rest) where
-  there : Marked l 0xC00E c rest at
-  there = marked l 0xC00E c rest at (omega arith) short (here ∙ rw (record-marked c))
+module _ (l c rest : List ℕ) (at : ℕ) (short : length c ≤ 65535) (here : drop at l ≡ recordOf 0xC00E c ++ rest) where
+  there : ReadBack l 0xC00E c rest at
+  there = read-back l 0xC00E c rest at (omega arith) short here
 
   read-record : cookiesFrom l at ≡ before c (cookiesFrom l (at + 4 + length c))
   unfolding recordMarkAt lengthAt
@@ -84,35 +78,23 @@ empty-list = list-read [] tt
 -- ---- what is read is written again
 
 module _ (l : List ℕ) (bytes : Bytes l) (at start end : ℕ) (w : Placed l at start end) where
-  mark-again : part l at 2 ≡ 0xC0 ∷ 0x0E ∷ []
-  unfolding recordMarkAt
-  mark-again = sym (toBe-be 2 (part l at 2) (bytes-part l at 2 bytes) (length-part l at 2 (omega (arith, w .starts, w .ends, w .within))))
-      ∙ ap (toBe 2) (w .mark)
+  body-is : part l (at + 4) (lengthAt l at) ≡ part l start (end - start)
+  body-is =
+      let n : lengthAt l at ≡ end - start = omega (arith, w .starts, w .ends) in
+      rw (n, w .starts)
 
-  length-again : part l (at + 2) 2 ≡ toBe 2 (lengthAt l at)
-  unfolding lengthAt
-  length-again = sym (toBe-be 2 (part l (at + 2) 2) (bytes-part l (at + 2) 2 bytes) (length-part l (at + 2) 2 (omega (arith, w .starts, w .ends, w .within))))
-
-  long-again : length (part l start (end - start)) ≡ lengthAt l at
-  long-again = length-part l start (end - start) (omega (arith, w .ends, w .within)) ∙ omega (arith, w .ends)
+  within : at + 4 + lengthAt l at ≤ length l
+  within = omega (arith, w .starts, w .ends, w .within)
 
   pub short-again : length (part l start (end - start)) ≤ 65535
-  unfolding lengthAt
-  short-again =
-      let two : length (part l (at + 2) 2) ≡ 2 = length-part l (at + 2) 2 (omega (arith, w .starts, w .ends, w .within)) in
-      omega (arith, long-again, rw two at (be-below (part l (at + 2) 2) (bytes-part l (at + 2) 2 bytes)))
+  unfolding recordMarkAt lengthAt
+  short-again = rw (← body-is) (body-short l bytes at 0xC00E (lengthAt l at) (w .mark) refl within)
 
-  pub record-again : recordOf (part l start (end - start)) ++ drop end l ≡ drop at l
-  unfolding recordOf
+  pub record-again : recordOf 0xC00E (part l start (end - start)) ++ drop end l ≡ drop at l
+  unfolding recordMarkAt lengthAt
   record-again =
-      let body = part l start (end - start) in
-      let a : drop at l ≡ 0xC0 ∷ 0x0E ∷ drop (at + 2) l = sym (part-drop l at 2) ∙ ap (λ r. r ++ drop (at + 2) l) mark-again in
-      let b : drop (at + 2) l ≡ toBe 2 (lengthAt l at) ++ drop (at + 2 + 2) l = sym (part-drop l (at + 2) 2)
-      ∙ ap (λ r. r ++ drop (at + 2 + 2) l) length-again in
-      let s : at + 2 + 2 ≡ start = omega (arith, w .starts) in
-      let e : start + (end - start) ≡ end = omega (arith, w .ends) in
-      let c : drop (at + 2 + 2) l ≡ body ++ drop end l = rw s (sym (part-drop l start (end - start)) ∙ ap (λ n. body ++ drop n l) e) in
-      rw (long-again, a, b, c)
+      let e : at + 4 + lengthAt l at ≡ end = omega (arith, w .starts, w .ends) in
+      (λ i. recordOf 0xC00E (sym body-is i) ++ drop (sym e i) l) ∙ write-back l bytes at 0xC00E (lengthAt l at) (w .mark) refl within
 
 -- the cookies that are read from an offset on are, written again, the bytes from there on; and each is short
 record Again (l : List ℕ) (at : ℕ) (cs : List (List ℕ)) : Type 0 where

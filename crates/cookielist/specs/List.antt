@@ -8,26 +8,18 @@ use mathlib.Core.Option.{Option, none, some}
 use mathlib.Core.Path.{_≡_}
 use lib.ListN.{length}
 use lib.Dec.{ltb, eqb}
-use Rattle.words.specs.Bytes.{be, part, toBe}
+use Rattle.words.specs.Bytes.{be, part}
+use Rattle.words.specs.Put.{recordOf}
 use Rattle.cookielist.specs.declared.Entry.{Entry}
 use Rattle.cookielist.specs.declared.Entry.the-variants.{Cookie, End, Broken}
 
 -- ---- the writer
 
--- a record with any mark: the mark and the length of the body in two bytes each, big-endian, and the body
-unfoldable pub markedOf : ℕ → List ℕ → List ℕ
-markedOf m c = toBe 2 m ++ (toBe 2 (length c) ++ c)
-
--- a cookie's record
 -- promise 3.12: A cookie list is a run of records: C0 0E, length, bytes. An empty list is valid.
 --     edit: cookielist/the_mark_is_wrong, cookielist/a_length_past_the_end, cookielist/a_broken_list_is_read
-unfoldable pub recordOf : List ℕ → List ℕ
-recordOf c = 0xC0 ∷ 0x0E ∷ toBe 2 (length c) ++ c
-
--- promise: 3.12
 abbrev pub listOf : List (List ℕ) → List ℕ
 listOf [] = []
-listOf (c ∷ cs) = recordOf c ++ listOf cs
+listOf (c ∷ cs) = recordOf 0xC00E c ++ listOf cs
 
 -- cookies whose lengths fit two bytes
 abbrev pub AllShort : List (List ℕ) → Type 0
@@ -70,7 +62,7 @@ pub data Reached (l : List ℕ) : ℕ → ℕ → Type 0 where
 
 -- from an offset, the reader reaches one at which the list is rejected with 33
 -- promise: 3.12
-pub record Refused (l : List ℕ) (at : ℕ) : Type 0 where
+pub record ListRefused (l : List ℕ) (at : ℕ) : Type 0 where
   pub place : ℕ
   pub reached : Reached l at place
   pub number : refusalOf (entryAt l place) ≡ some 33

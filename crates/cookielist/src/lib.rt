@@ -2,7 +2,7 @@
 // Promises: what is written is read back; a list is rejected exactly if a read from its start meets a broken entry.
 // Rule: RULES, "Settings and a whole record"; definitions in specs/List.antt.
 ghost use mathlib.Core.Path.{_≡_};
-ghost use Rattle.cookielist.specs.List.{entryAt, isWhole, cookiesIn};
+ghost use Rattle.cookielist.specs.List.{entryAt, isWhole, cookiesIn, listBroken};
 
 // The mark that every record of a cookie list starts with.
 pub const RECORD_MARK: u16 = 0xC00E;
@@ -68,4 +68,11 @@ pub fn list_whole(list: &[u8]) -> bool
             }
         }
     }
+}
+
+// Whether a cookie list is broken, which matters with NTS only: without NTS no list is read.
+pub fn list_broken(nts: bool, list: &[u8]) -> bool
+    ensures { λ r. ⌜ r ≡ listBroken nts (now (list .entry)) ⌝ }
+{
+    if nts { !list_whole(list) } else { false }
 }

@@ -14,7 +14,8 @@ use Rattle.words.specs.Bytes.{part}
 use Rattle.words.proofs.Bytes.{Bytes}
 use Rattle.cookielist.specs.declared.Entry.{Entry}
 use Rattle.cookielist.specs.declared.Entry.the-variants.{Cookie, End, Broken}
-use Rattle.cookielist.specs.List.{AllShort, recordOf, listOf, entryAt, Listed, whole, broken, isWhole, before, cookiesFrom, cookiesIn}
+use Rattle.words.specs.Put.{recordOf}
+use Rattle.cookielist.specs.List.{AllShort, listOf, entryAt, Listed, whole, broken, isWhole, before, cookiesFrom, cookiesIn}
 use Rattle.cookielist.proofs.Entry as E
 use Rattle.cookielist.proofs.Reader.{placed, read-cookie, read-end, read-broken}
 use Rattle.cookielist.proofs.RoundTrip.{short-again, list-written, list-short}

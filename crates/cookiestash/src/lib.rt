@@ -7,7 +7,7 @@ ghost use mathlib.Core.Bool.{_&&_};
 ghost use Prim.Native.Nat.{_+_, _-_, _≤_, _<_};
 ghost use lib.ListN.{length, drop};
 ghost use Rattle.words.specs.Bytes.{zeros};
-ghost use Rattle.cookiestash.specs.Stash.{stored, slotOf, emptySlot, newOf, wrap, gapOf, rangeOf, putOf, getOf};
+ghost use Rattle.cookiestash.specs.Stash.{stored, slotOf, emptySlot, newOf, wrap, rangeOf, putOf, getOf};
 ghost use Rattle.cookiestash.specs.Whole.{padded, allPadded, lensOf, roundFree, seenOf, seenFrom};
 ghost use Rattle.cookiestash.specs.Falling.{oldestOf, storedOf, noneDropped, plusOf, Fit, storedListOf};
 
@@ -106,6 +106,7 @@ pub fn in_range(cap: usize, read: usize, held: usize) -> bool
 }
 
 // How many more cookies there is room for if so many are held.
+// promise: 3.5
 fn room(capacity: u8, held: usize) -> u8
     ensures { λ r. ⌜ r ≡ capacity - held ⌝ }
 {
@@ -204,7 +205,7 @@ pub fn seen_from(capacity: u8, read: usize, held: usize, padded: bool, lens: [u1
 
 impl Slot {
     // promise: 3.1
-    pub fn empty() -> Slot
+    fn empty() -> Slot
         ensures { λ r. ⌜ r ≡ emptySlot ⌝ }
     {
         Slot {
@@ -363,14 +364,6 @@ impl CookieStash {
             slot,
             stash: self,
         }
-    }
-
-    // How many more cookies there is room for.
-    // promise: 3.5
-    pub fn gap(self, capacity: u8) -> u8
-        ensures { λ r. ⌜ r ≡ gapOf capacity self ⌝ }
-    {
-        room(capacity, self.held)
     }
 
     // Whether every slot is zero past its stored bytes.

@@ -2,21 +2,21 @@
 // Promises: it ends and stays in its bounds. What it prints is tested, not proved: tools/reference and the crate give the same answers (docs/EXCEPTIONS.md).
 // Rule: docs/DRILL.md defines the language, RULES the numbers.
 use association::Association;
-use drill_calls::calls;
-use drill_calls::polls;
-use drill_calls::profiles;
-use drill_calls::replies;
-use drill_record::handovers;
-use drill_record::record;
+use drill_commands::calendars;
+use drill_commands::calls;
+use drill_commands::collects;
+use drill_commands::compares;
+use drill_commands::handovers;
+use drill_commands::polls;
+use drill_commands::profiles;
+use drill_commands::record;
+use drill_commands::replies;
+use drill_commands::requests;
+use drill_commands::salvages;
 use drill_text::print;
 use drill_text::run::Ran;
 use drill_text::text;
 use drill_text::text::Found;
-use drill_tools::calendars;
-use drill_tools::collects;
-use drill_tools::compares;
-use drill_tools::requests;
-use drill_tools::salvages;
 use libc::STDIN_FILENO;
 use libc::STDOUT_FILENO;
 

@@ -21,29 +21,29 @@ use Rattle.association.specs.declared.NewAnswer.the-variants as N
 use Rattle.association.specs.Record.{wholeOf}
 use Rattle.association.specs.Whole.{Whole}
 use Rattle.association.specs.New as new
-use Rattle.metered.specs.declared.ProfileAnswer.{ProfileAnswer}
-use Rattle.metered.specs.declared.ProfileAnswer.the-variants as P
-use Rattle.metered.specs.Profile as metered
+use Rattle.association_metered.specs.declared.ProfileAnswer.{ProfileAnswer}
+use Rattle.association_metered.specs.declared.ProfileAnswer.the-variants as P
+use Rattle.association_metered.specs.Profile as metered
 use Rattle.timer_rules.specs.declared.TimerAnswer.{TimerAnswer}
 use Rattle.timer_rules.specs.declared.TimerAnswer.the-variants as Rang
 use Rattle.timer_rules.specs.declared.TimerInput.{TimerInput}
 use Rattle.timer_rules.specs.Answer as timer-answer
 use Rattle.timer.specs.Timer.{timerOf, timedOf}
 use Rattle.timer.proofs.After.{leaves, record-left, pending-left}
-use Rattle.incoming.specs.declared.ReplyRead.{ReplyRead}
+use Rattle.wire_incoming.specs.declared.ReplyRead.{ReplyRead}
 use Rattle.reply_clauses.specs.After.{Arrival}
 use Rattle.reply_rules.specs.declared.ReplyAnswer.{ReplyAnswer}
 use Rattle.reply_rules.specs.Answer as reply-answer
 use Rattle.reply.specs.Reply.{repliedOf}
 use Rattle.reply.proofs.Numbers.{given}
 use Rattle.reply.proofs.After.{heard}
-use Rattle.collector.specs.declared.Collected.{Collected}
-use Rattle.collector.specs.declared.Collected.the-variants as C
-use Rattle.collector.specs.Collector as collector
-use Rattle.request.specs.declared.Requested.{Requested}
-use Rattle.request.specs.declared.Requested.the-variants as R
-use Rattle.request.specs.Request as request-spec
-use Rattle.request.specs.Answer as request
+use Rattle.wire_collector.specs.declared.Collected.{Collected}
+use Rattle.wire_collector.specs.declared.Collected.the-variants as C
+use Rattle.wire_collector.specs.Collector as collector
+use Rattle.wire_request.specs.declared.Requested.{Requested}
+use Rattle.wire_request.specs.declared.Requested.the-variants as R
+use Rattle.wire_request.specs.Request as request-spec
+use Rattle.wire_request.specs.Answer as request
 use Rattle.handover_file.specs.declared.SaveAnswer.{SaveAnswer}
 use Rattle.handover_file.specs.declared.SaveAnswer.the-variants.{Saved, NotWhole, ShortBuffer}
 use Rattle.handover_file.specs.declared.LoadAnswer.{LoadAnswer}
@@ -55,15 +55,15 @@ use Rattle.handover_file.proofs.File.{Fit, read-file}
 use Rattle.record_bytes.specs.Record.{ok, unpacked, packed}
 use Rattle.record_bytes.proofs.RoundTrip.{bytes-again}
 use Rattle.record_stash.specs.Rows.{sizedIn}
-use Rattle.record_timer.specs.Timer as timer
-use Rattle.record_reply.specs.Reply as reply
+use Rattle.record_calls.specs.Timer as timer
+use Rattle.record_calls.specs.Reply as reply
 use Rattle.record_new.specs.New as made
 use Rattle.record_new.specs.declared.NewInBytes.{NewInBytes}
 use Rattle.record_new.specs.declared.NewInBytes.the-variants as B
 use Rattle.record_new.specs.declared.MeteredInBytes.{MeteredInBytes}
 use Rattle.record_new.specs.declared.MeteredInBytes.the-variants as M
-use Rattle.record_save.specs.Save as save
-use Rattle.record_load.specs.Load as load
+use Rattle.record_files.specs.Save as save
+use Rattle.record_files.specs.Load as load
 use Rattle.exports_values.specs.Answers.{collectedAs, requestedAs}
 
 -- ---- the timer: 21, 22, 31 and 32

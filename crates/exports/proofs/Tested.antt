@@ -4,13 +4,13 @@ use Prim.Native.Nat.{ℕ}
 use mathlib.Core.Path.{_≡_, sym, ap, _∙_}
 use mathlib.Core.Bool.{Bool, true, false, cond}
 use mathlib.Core.List.{List}
-use Rattle.metered.specs.Profile as metered
-use Rattle.incoming.specs.declared.DecodedReply.{DecodedReply}
-use Rattle.incoming.specs.declared.ReplyRead.the-variants.{Undecodable}
+use Rattle.association_metered.specs.Profile as metered
+use Rattle.wire_incoming.specs.declared.DecodedReply.{DecodedReply}
+use Rattle.wire_incoming.specs.declared.ReplyRead.the-variants.{Undecodable}
 use Rattle.reply_clauses.specs.After.{Arrival}
 use Rattle.record_bytes.specs.declared.Opened.{Opened}
 use Rattle.record_new.specs.New.{newCall, meteredCall}
-use Rattle.record_reply.specs.Reply.{repliedCall, replyDecodedCall}
+use Rattle.record_calls.specs.Reply.{repliedCall, replyDecodedCall}
 use Rattle.exports_values.specs.declared.CDecoded.{CDecoded}
 use Rattle.exports_values.specs.declared.CSettings.{CSettings}
 use Rattle.exports_values.specs.declared.CState.{CState}

@@ -4,16 +4,16 @@ use mathlib.Core.Bool.{cond}
 use mathlib.Core.List.{List}
 use Prim.Native.Nat.{ℕ}
 use Rattle.cookiestash.specs.Falling.{noneDropped}
-use Rattle.metered.specs.Profile as metered
+use Rattle.association_metered.specs.Profile as metered
 use Rattle.record_bytes.specs.declared.Opened.{Opened}
 use Rattle.record_new.specs.declared.NewInBytes.{NewInBytes}
 use Rattle.record_new.specs.declared.MeteredInBytes.{MeteredInBytes}
 use Rattle.record_new.specs.New.{Call, newNumber, meteredNumber, newCall, meteredCall, blanked}
-use Rattle.record_timer.specs.Timer.{TimerCall}
+use Rattle.record_calls.specs.Timer.{TimerCall}
 use Rattle.reply.specs.declared.Replied as reply
-use Rattle.record_reply.specs.Reply.{ReplyCall}
-use Rattle.record_save.specs.Save.{SaveCall}
-use Rattle.record_load.specs.Load.{LoadCall}
+use Rattle.record_calls.specs.Reply.{ReplyCall}
+use Rattle.record_files.specs.Save.{SaveCall}
+use Rattle.record_files.specs.Load.{LoadCall}
 use Rattle.exports_values.specs.declared.CSettings.{CSettings}
 use Rattle.exports_values.specs.declared.CNewAnswer.{CNewAnswer}
 use Rattle.exports_values.specs.declared.CTimerAnswer.{CTimerAnswer}

@@ -1,10 +1,7 @@
 // What a C or Rust program links: the association's calls, over a record in bytes that the caller lends, and the tools beside it.
 // Promises: each returns as numbers the answer of the call that it makes, and leaves every lent byte as that call does; any bytes get an answer.
-// Rule: RULES, parts 7 and 10 to 12, and No. 1, No. 5, No. 6, No. 9 to No. 11 and No. 13; definitions in specs/Calls.antt, of the tools in exports_tools.
+// Rule: RULES, parts 7 and 10 to 12, and No. 1, No. 5, No. 6, No. 9 to No. 11 and No. 13; definitions in specs/Calls.antt, the tools' in `exports_values`.
 use cookiestash::Dropped;
-use exports_tools::CCalendarAnswer;
-use exports_tools::CCompared;
-use exports_tools::CSalvaged;
 use exports_values::CDecoded;
 use exports_values::CField;
 use exports_values::CLoadAnswer;
@@ -15,29 +12,32 @@ use exports_values::CState;
 use exports_values::CTimerAnswer;
 use exports_values::CUid;
 use exports_values::CWritten;
+use exports_values::tools::CCalendarAnswer;
+use exports_values::tools::CCompared;
+use exports_values::tools::CSalvaged;
 use reply::Replied;
 use time_types::NtpTimestamp;
 use time_types::PollInterval;
 ghost use mathlib.Core.Path.{_≡_};
 ghost use lib.ListN.{length, replicate};
-ghost use Rattle.fields.specs.Field.{packetStep};
-ghost use Rattle.collector.specs.Collector.{collectOf, bufferOf as listed};
-ghost use Rattle.request.specs.Answer.{requestOf, bufferOf as requested};
+ghost use Rattle.wire_fields.specs.Field.{packetStep};
+ghost use Rattle.wire_collector.specs.Collector.{collectOf, bufferOf as listed};
+ghost use Rattle.wire_request.specs.Answer.{requestOf, bufferOf as requested};
 ghost use Rattle.timer_rules.specs.Poll.{timerInput};
 ghost use Rattle.reply_clauses.specs.After.{arrival};
-ghost use Rattle.accept.specs.Accept.{numberOf};
+ghost use Rattle.association_accept.specs.Accept.{numberOf};
 ghost use Rattle.handover_file.specs.Answers.{loadOf};
 ghost use Rattle.record_bytes.specs.Record.{openedOf};
-ghost use Rattle.record_timer.specs.Timer.{timerCall};
-ghost use Rattle.record_reply.specs.Reply.{repliedCall, replyCall};
-ghost use Rattle.record_accept.specs.Accept.{acceptCall};
-ghost use Rattle.record_save.specs.Save.{saveCall};
-ghost use Rattle.record_load.specs.Load.{loadedBy};
+ghost use Rattle.record_calls.specs.Timer.{timerCall};
+ghost use Rattle.record_calls.specs.Reply.{repliedCall, replyCall};
+ghost use Rattle.record_calls.specs.Accept.{acceptCall};
+ghost use Rattle.record_files.specs.Save.{saveCall};
+ghost use Rattle.record_files.specs.Load.{loadedBy};
 ghost use Rattle.salvage.specs.Salvage.{salvageOf, bufferOf as cleaned};
 ghost use Rattle.calendar.specs.Calendar.{checkOf};
 ghost use Rattle.calendar.specs.Plan.{planOf, bufferOf as planned};
 ghost use Rattle.handover_compare.specs.Answers.{compareOf, outOf};
-ghost use Rattle.exports_tools.specs.Told.{salvagedAs, checkedAs, plannedAs, comparedAs};
+ghost use Rattle.exports_values.specs.Told.{salvagedAs, checkedAs, plannedAs, comparedAs};
 ghost use Rattle.exports_values.specs.Codes.{sendIn};
 ghost use Rattle.exports_values.specs.Decoded.{decodedRead};
 ghost use Rattle.exports_values.specs.Answers.{bloomIn, collectedAs, requestedAs, fieldAs};
@@ -116,7 +116,7 @@ pub extern "C" fn reckonstile_profile(settings: CSettings, list: &[u8]) -> u32
         return 30;
     }
     let inner = g.settings;
-    let told = metered::profile(inner, list);
+    let told = association_metered::profile(inner, list);
     let number = told.number();
     number as u32
 }
@@ -136,7 +136,7 @@ pub extern "C" fn reckonstile_timer(
         ≡ timedAs (timerCall (now (bytes .entry)) (timerInput time desired id (uid .bytes)) (now (buffer .entry))) ⌝ }
 {
     let given = uid.bytes;
-    let answer = record_timer::timer(bytes, time, desired, id, given, buffer);
+    let answer = record_calls::polls::timer(bytes, time, desired, id, given, buffer);
     exports_values::timer_answer(answer)
 }
 
@@ -165,7 +165,7 @@ pub extern "C" fn reckonstile_reply(
     ensures { λ r. ⌜ replied r (now (bytes .exit))
         ≡ repliedAs (replyCall (now (bytes .entry)) (now (packet .entry)) end (now (decrypted .entry)) (arrival (now (list .entry)) t1 t4 time)) ⌝ }
 {
-    let out = record_reply::reply(bytes, packet, end, decrypted, list, t1, t4, time);
+    let out = record_calls::replies::reply(bytes, packet, end, decrypted, list, t1, t4, time);
     told(out)
 }
 
@@ -184,11 +184,11 @@ pub extern "C" fn reckonstile_reply_decoded(
         ≡ repliedAs (repliedCall (now (bytes .entry)) (decodedRead d) (arrival (now (list .entry)) t1 t4 time)) ⌝ }
 {
     if !exports_values::decoded_ok(d) {
-        let out = record_reply::undecodable(bytes);
+        let out = record_calls::replies::undecodable(bytes);
         return told(out);
     }
     let reply = exports_values::decoded_in(d);
-    let out = record_reply::reply_decoded(bytes, reply, list, t1, t4, time);
+    let out = record_calls::replies::reply_decoded(bytes, reply, list, t1, t4, time);
     told(out)
 }
 
@@ -199,7 +199,7 @@ pub extern "C" fn reckonstile_accept(bytes: &[u8], stratum: u8, local: &[u32], b
     ensures { λ r. ⌜ r ≡ numberOf (acceptCall (now (bytes .entry)) stratum (now (local .entry)) (bloomIn bloom)) ⌝ }
 {
     let word = exports_values::bloom_in(bloom);
-    let answer = record_accept::accept(bytes, stratum, local, word);
+    let answer = record_calls::accepts::accept(bytes, stratum, local, word);
     let number = answer.number();
     number as u32
 }
@@ -210,7 +210,7 @@ pub extern "C" fn reckonstile_accept(bytes: &[u8], stratum: u8, local: &[u32], b
 pub extern "C" fn reckonstile_save(bytes: &mut [u8], out: &mut [u8]) -> CWritten
     ensures { λ r. ⌜ saved r (now (bytes .exit)) (now (out .exit)) ≡ savedBy (saveCall (now (bytes .entry)) (now (out .entry))) ⌝ }
 {
-    let answer = record_save::save(bytes, out);
+    let answer = record_files::saves::save(bytes, out);
     exports_values::saved(answer)
 }
 
@@ -221,7 +221,7 @@ pub extern "C" fn reckonstile_save(bytes: &mut [u8], out: &mut [u8]) -> CWritten
 pub extern "C" fn reckonstile_load(bytes: &mut [u8], file: &[u8]) -> CLoadAnswer
     ensures { λ r. ⌜ loaded r (now (bytes .exit)) ≡ loadedAs (loadedBy (now (bytes .entry)) (loadOf (now (file .entry)))) ⌝ }
 {
-    let told = record_load::load(bytes, file);
+    let told = record_files::loads::load(bytes, file);
     exports_values::load_answer(told.number, told.retired)
 }
 
@@ -265,7 +265,7 @@ pub extern "C" fn reckonstile_collect(decrypted: &[u8], out: &mut [u8]) -> CWrit
     ensures { λ r. ⌜ (r ≡ collectedAs (collectOf (now (decrypted .entry)) (length (now (out .entry)))))
         × (now (out .exit) ≡ listed (now (decrypted .entry)) (now (out .entry))) ⌝ }
 {
-    let answer = collector::collect(decrypted, out);
+    let answer = wire_collector::collect(decrypted, out);
     exports_values::collected(answer)
 }
 
@@ -287,7 +287,16 @@ pub extern "C" fn reckonstile_write_request(
 {
     let send = exports_values::send_in(kind);
     let bytes = uid.bytes;
-    let answer = request::write_request(send, poll, id, upgrademark, bytes, cookie, asked, out);
+    let answer = wire_request::write_request(
+        send,
+        poll,
+        id,
+        upgrademark,
+        bytes,
+        cookie,
+        asked,
+        out,
+    );
     exports_values::requested(answer)
 }
 
@@ -297,7 +306,7 @@ pub extern "C" fn reckonstile_write_request(
 pub extern "C" fn reckonstile_field_at(packet: &[u8], at: usize) -> CField
     ensures { λ r. ⌜ r ≡ fieldAs (packetStep (now (packet .entry)) at) ⌝ }
 {
-    let step = fields::packet_field_at(packet, at);
+    let step = wire_fields::packet_field_at(packet, at);
     exports_values::field(step)
 }
 
@@ -308,7 +317,7 @@ pub extern "C" fn reckonstile_salvage(list: &[u8], out: &mut [u8]) -> CSalvaged
     ensures { λ r. ⌜ (r ≡ salvagedAs (salvageOf (now (list .entry)) (length (now (out .entry)))))
         × (now (out .exit) ≡ cleaned (now (list .entry)) (now (out .entry))) ⌝ }
 {
-    exports_tools::salvage(list, out)
+    exports_values::tools::salvage(list, out)
 }
 
 // Writes the fields in which two hand-over files differ to the start of the buffer: 0, 61 to 63, 71.
@@ -318,7 +327,7 @@ pub extern "C" fn reckonstile_compare(left: &[u8], right: &[u8], out: &mut [u8])
     ensures { λ r. ⌜ (r ≡ comparedAs (compareOf (now (left .entry)) (now (right .entry)) (length (now (out .entry)))))
         × (now (out .exit) ≡ outOf (now (left .entry)) (now (right .entry)) (now (out .entry))) ⌝ }
 {
-    exports_tools::compare(left, right, out)
+    exports_values::tools::compare(left, right, out)
 }
 
 // Whether a poll calendar is accepted: 0, 80 to 83.
@@ -331,7 +340,7 @@ pub extern "C" fn reckonstile_check_calendar(
 ) -> CCalendarAnswer
     ensures { λ r. ⌜ r ≡ checkedAs (checkOf cap (now (starts .entry)) (now (repeats .entry))) ⌝ }
 {
-    exports_tools::check(cap, starts, repeats)
+    exports_values::tools::check(cap, starts, repeats)
 }
 
 // Writes the starts of a plan to the start of the buffer: 0, 80, 81, 84, 31.
@@ -345,5 +354,5 @@ pub extern "C" fn reckonstile_plan_calendar(
     ensures { λ r. ⌜ (r ≡ plannedAs (planOf cap (now (repeats .entry)) (length (now (starts .entry)))))
         × (now (starts .exit) ≡ planned cap (now (repeats .entry)) (now (starts .entry))) ⌝ }
 {
-    exports_tools::plan(cap, repeats, starts)
+    exports_values::tools::plan(cap, repeats, starts)
 }

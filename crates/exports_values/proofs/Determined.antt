@@ -1,7 +1,7 @@
 -- Each public function's contract determines its result: any two that it allows are equal.
 -- Assumes nothing.
 use mathlib.Core.Path.{_∙_, sym}
-use Rattle.words.specs.Determined.{Determined}
+use Rattle.words.specs.Determined.{Determined, DeterminedLent}
 use Rattle.exports_values.proofs.unpack_settings.Reads as unpack-settings
 use Rattle.exports_values.proofs.pack_settings.Reads as pack-settings
 use Rattle.exports_values.proofs.pack_state.Reads as pack-state
@@ -17,6 +17,11 @@ use Rattle.exports_values.proofs.requested.Reads as requested
 use Rattle.exports_values.proofs.send_in.Reads as send-in
 use Rattle.exports_values.proofs.load_answer.Reads as load-answer
 use Rattle.exports_values.proofs.field.Reads as field
+use denote.Ref.{now}
+use Rattle.exports_values.proofs.tools.salvage.Reads as salvage
+use Rattle.exports_values.proofs.tools.check.Reads as check
+use Rattle.exports_values.proofs.tools.plan.Reads as plan
+use Rattle.exports_values.proofs.tools.compare.Reads as compare
 
 pub unpack-settings-determined : Determined unpack-settings.Post
 unpack-settings-determined κs a y z e f p q = p ∙ sym q
@@ -62,3 +67,15 @@ load-answer-determined κs a y z e f p q = p ∙ sym q
 
 pub field-determined : Determined field.Post
 field-determined κs a y z e f p q = p ∙ sym q
+
+pub salvage-determined : DeterminedLent salvage.Post (λ κs e. now (e .1 .0))
+salvage-determined κs a y z e f p q = (p .0 ∙ sym (q .0), p .1 ∙ sym (q .1))
+
+pub check-determined : Determined check.Post
+check-determined κs a y z e f p q = p ∙ sym q
+
+pub plan-determined : DeterminedLent plan.Post (λ κs e. now (e .1 .1 .0))
+plan-determined κs a y z e f p q = (p .0 ∙ sym (q .0), p .1 ∙ sym (q .1))
+
+pub compare-determined : DeterminedLent compare.Post (λ κs e. now (e .1 .1 .0))
+compare-determined κs a y z e f p q = (p .0 ∙ sym (q .0), p .1 ∙ sym (q .1))

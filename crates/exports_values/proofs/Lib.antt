@@ -1,3 +1,4 @@
 -- The laws of `exports_values`.
 pub mod Laws
 pub mod Determined
+pub mod ToolLaws

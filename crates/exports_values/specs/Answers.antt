@@ -11,20 +11,20 @@ use Rattle.time_types.specs.Poll.{interval}
 use Rattle.time_types.specs.Time.{timestamp, duration}
 use Rattle.timer_rules.specs.declared.TimerAnswer.{TimerAnswer}
 use Rattle.timer_rules.specs.declared.TimerAnswer.the-variants as T
-use Rattle.incoming.specs.Incoming.{leapCode}
+use Rattle.wire_incoming.specs.Incoming.{leapPrinted}
 use Rattle.reply_clauses.specs.declared.Measurement.{Measurement}
 use Rattle.reply_rules.specs.declared.ReplyAnswer.{ReplyAnswer}
 use Rattle.reply_rules.specs.declared.ReplyAnswer.the-variants as R
-use Rattle.accept.specs.declared.Bloom.{Bloom}
-use Rattle.accept.specs.declared.Bloom.the-variants as B
-use Rattle.collector.specs.declared.Collected.{Collected}
-use Rattle.collector.specs.declared.Collected.the-variants as C
-use Rattle.request.specs.declared.Requested.{Requested}
-use Rattle.request.specs.declared.Requested.the-variants as W
+use Rattle.association_accept.specs.declared.Bloom.{Bloom}
+use Rattle.association_accept.specs.declared.Bloom.the-variants as B
+use Rattle.wire_collector.specs.declared.Collected.{Collected}
+use Rattle.wire_collector.specs.declared.Collected.the-variants as C
+use Rattle.wire_request.specs.declared.Requested.{Requested}
+use Rattle.wire_request.specs.declared.Requested.the-variants as W
 use Rattle.handover_file.specs.declared.SaveAnswer.{SaveAnswer}
 use Rattle.handover_file.specs.declared.SaveAnswer.the-variants as H
-use Rattle.fields.specs.declared.Step.{Step}
-use Rattle.fields.specs.declared.Step.the-variants as F
+use Rattle.wire_fields.specs.declared.Step.{Step}
+use Rattle.wire_fields.specs.declared.Step.the-variants as F
 use Rattle.exports_values.specs.declared.CField.{CField}
 use Rattle.exports_values.specs.declared.CWritten.{CWritten}
 use Rattle.exports_values.specs.declared.CLoadAnswer.{CLoadAnswer}
@@ -81,7 +81,7 @@ measuredAs m =
     record {
       number = 0;
       measured = 1;
-      leap = leapCode (m .leap);
+      leap = leapPrinted (m .leap);
       stratum = m .stratum;
       precision = m .precision;
       delay = m .delay;

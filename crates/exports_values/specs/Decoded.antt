@@ -3,17 +3,17 @@
 use mathlib.Core.Bool.{Bool, _&&_, cond}
 use Prim.Native.Nat.{ℕ}
 use lib.Dec.{eqb, leb}
-use Rattle.header.specs.declared.Kisses.{Kisses}
-use Rattle.incoming.specs.declared.NtpLeapIndicator.{NtpLeapIndicator}
-use Rattle.incoming.specs.declared.NtpLeapIndicator.the-variants as L
-use Rattle.incoming.specs.declared.DecodedMode.{DecodedMode}
-use Rattle.incoming.specs.declared.DecodedMode.the-variants as M
-use Rattle.incoming.specs.declared.DecodedReply.{DecodedReply}
-use Rattle.incoming.specs.declared.ReplyRead.{ReplyRead}
-use Rattle.incoming.specs.declared.ReplyRead.the-variants.{Decoded, Undecodable}
-use Rattle.incoming.specs.Incoming.{decodedOf}
-use Rattle.uid_groups.specs.declared.Uid.{Uid}
-use Rattle.uid_groups.specs.declared.Uid.the-variants as U
+use Rattle.wire_header.specs.declared.Kisses.{Kisses}
+use Rattle.wire_incoming.specs.declared.NtpLeapIndicator.{NtpLeapIndicator}
+use Rattle.wire_incoming.specs.declared.NtpLeapIndicator.the-variants as L
+use Rattle.wire_incoming.specs.declared.DecodedMode.{DecodedMode}
+use Rattle.wire_incoming.specs.declared.DecodedMode.the-variants as M
+use Rattle.wire_incoming.specs.declared.DecodedReply.{DecodedReply}
+use Rattle.wire_incoming.specs.declared.ReplyRead.{ReplyRead}
+use Rattle.wire_incoming.specs.declared.ReplyRead.the-variants.{Decoded, Undecodable}
+use Rattle.wire_incoming.specs.Incoming.{decodedOf}
+use Rattle.wire_groups.specs.declared.Uid.{Uid}
+use Rattle.wire_groups.specs.declared.Uid.the-variants as U
 use Rattle.exports_values.specs.Codes.{isBit, truth}
 use Rattle.exports_values.specs.declared.CDecoded.{CDecoded}
 

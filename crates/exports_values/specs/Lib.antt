@@ -3,3 +3,4 @@ pub mod Answers
 pub mod Codes
 pub mod Decoded
 pub mod Packed
+pub mod Told

@@ -1,31 +1,33 @@
-// The values that are passed to C and back: settings, answers and decoded replies as numbers, and what each means to the rules.
-// Promises: every number is read or written as its definition says, in fields of one width on every target; settings have one form.
-// Rule: RULES, "Settings and a whole record", parts 10 to 12, No. 5 and No. 6; definitions in specs/, where Codes.antt has the numbers.
-use accept::Bloom;
+// What is passed to C and back: settings, answers and decoded replies as numbers, and what each means to the rules. Module `tools` has the tools' calls.
+// Promises: every number is read or written as defined, in fields of one width on every target; settings have one form; tools answer what their calls answer.
+// Rule: RULES, "Settings and a whole record", parts 10 to 12, No. 5, 6, 9, 10 and 13; definitions in specs/: Codes.antt has the numbers, Told.antt the tools.
+pub mod tools;
+
 use association::Polls;
 use association::Settings;
 use association::State;
-use collector::Collected;
+use association_accept::Bloom;
 use cookiestash::Dropped;
-use fields::Step;
 use handover_file::SaveAnswer;
-use header::Kisses;
 use identifiers::ReferenceId;
-use incoming::DecodedMode;
-use incoming::DecodedReply;
-use incoming::NtpLeapIndicator;
 use reach::Reach;
 use reply_clauses::Measurement;
 use reply_rules::ReplyAnswer;
-use request::Requested;
 use time_types::NtpDuration;
 use time_types::NtpTimestamp;
 use time_types::PollInterval;
 use timer_rules::TimerAnswer;
-use uid_groups::Uid;
 use version::ProtocolVersion;
 use version::SendKind;
 use version::Version;
+use wire_collector::Collected;
+use wire_fields::Step;
+use wire_groups::Uid;
+use wire_header::Kisses;
+use wire_incoming::DecodedMode;
+use wire_incoming::DecodedReply;
+use wire_incoming::NtpLeapIndicator;
+use wire_request::Requested;
 ghost use mathlib.Core.Path.{_≡_};
 ghost use mathlib.Core.Bool.{_&&_};
 ghost use lib.Dec.{leb, eqb};

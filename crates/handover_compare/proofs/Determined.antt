@@ -5,9 +5,13 @@ use denote.Ref.{now}
 use Rattle.words.specs.Determined.{Determined, DeterminedLent}
 use Rattle.handover_compare.proofs.CompareAnswer.number.Reads as number
 use Rattle.handover_compare.proofs.compare.Reads as compare
+use Rattle.handover_compare.proofs.fields.fields.Reads as fields
 
 pub compare-determined : DeterminedLent compare.Post (λ κs e. now (e .1 .1 .0))
 compare-determined κs a y z e f p q = (p .0 ∙ sym (q .0), p .1 ∙ sym (q .1))
 
 pub number-determined : Determined number.Post
 number-determined κs a y z e f p q = p ∙ sym q
+
+pub fields-determined : Determined fields.Post
+fields-determined κs a y z e f p q = p ∙ sym q

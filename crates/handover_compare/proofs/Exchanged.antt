@@ -6,9 +6,9 @@ use Prim.Native.Nat.{ℕ, _*_, _≤_, _<_}
 use native.Mathlib.Omega.{arith}
 use lib.ListN.{length, length-map}
 use Rattle.handover_file.specs.Answers.{over, loadNumber, loadOf}
-use Rattle.compare_fields.specs.declared.Field.{Field}
-use Rattle.compare_fields.specs.Fields.{listOf, listBytes, swapped}
-use Rattle.compare_fields.proofs.Listed.{exchanged, list-long}
+use Rattle.handover_compare.specs.declared.fields.Field.{Field}
+use Rattle.handover_compare.specs.Fields.{listOf, listBytes, swapped}
+use Rattle.handover_compare.proofs.Listed.{exchanged, list-long}
 use Rattle.handover_compare.specs.Answer.{compareNumber}
 use Rattle.handover_compare.specs.Answers.{compareOf, outOf}
 use Rattle.handover_compare.specs.Numbers.{list, short-buffer, listed}

@@ -29,8 +29,8 @@ use Rattle.handover_file.specs.Answers.{loadNumber, loadOf}
 use Rattle.handover_file.specs.Numbers.{LoadGiven, wrong-mark, wrong-length, left-over, no-association, association}
 use Rattle.handover_file.proofs.Numbers.{load-given}
 use Rattle.handover_file.proofs.Again.{loads, one-file}
-use Rattle.compare_fields.specs.Fields.{listOf}
-use Rattle.compare_fields.proofs.Same.{Held, empty-exactly}
+use Rattle.handover_compare.specs.Fields.{listOf}
+use Rattle.handover_compare.proofs.Same.{Held, empty-exactly}
 
 -- ---- what the types say of a record, of a loaded one
 

@@ -5,3 +5,10 @@ pub mod Numbers
 pub mod Files
 pub mod Exchanged
 pub mod Determined
+pub mod Places
+pub mod Ages
+pub mod FieldNumbers
+pub mod Grouped
+pub mod Listed
+pub mod Same
+pub mod Longest

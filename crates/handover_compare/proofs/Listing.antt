@@ -8,13 +8,13 @@ use native.Mathlib.Omega.{arith}
 use native.Mathlib.Numerals.{add-one}
 use lib.ListN.{length, getD, drop, length-append, drop-of-length-le}
 use lib.Seq.{drop-cons}
-use Rattle.handover_save.specs.Put.{laidAt, Put}
-use Rattle.handover_save.proofs.Laid.{laid-none, laid-on, put-put, put-long}
-use Rattle.compare_fields.specs.declared.Field.{Field}
-use Rattle.compare_fields.specs.declared.Groups.{Groups}
-use Rattle.compare_fields.specs.Fields.{differing, listBytes, entryBytes}
-use Rattle.compare_fields.specs.Steps.{allOf}
-use Rattle.compare_fields.proofs.Listed.{entry-long, list-long}
+use Rattle.words.specs.Put.{laidAt, Put}
+use Rattle.words.proofs.Put.{laid-none, laid-on, put-put, put-long}
+use Rattle.handover_compare.specs.declared.fields.Field.{Field}
+use Rattle.handover_compare.specs.declared.fields.Groups.{Groups}
+use Rattle.handover_compare.specs.Fields.{differing, listBytes, entryBytes}
+use Rattle.handover_compare.specs.Steps.{allOf}
+use Rattle.handover_compare.proofs.Listed.{entry-long, list-long}
 
 -- ---- lists of fields, one behind the other
 

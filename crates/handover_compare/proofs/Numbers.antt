@@ -13,8 +13,8 @@ use lib.ListN.{length}
 use Rattle.handover_file.specs.declared.LoadAnswer.{LoadAnswer}
 use Rattle.handover_file.specs.declared.LoadAnswer.the-variants.{Loaded, WrongMark, WrongLength, NoAssociation}
 use Rattle.handover_file.specs.Answers.{over, loadNumber, loadOf}
-use Rattle.compare_fields.specs.Fields.{listOf, listBytes}
-use Rattle.compare_fields.proofs.Listed.{at-most, list-long}
+use Rattle.handover_compare.specs.Fields.{listOf, listBytes}
+use Rattle.handover_compare.proofs.Listed.{at-most, list-long}
 use Rattle.handover_compare.specs.declared.Side.the-variants.{Left, Right}
 use Rattle.handover_compare.specs.declared.CompareAnswer.{CompareAnswer}
 use Rattle.handover_compare.specs.declared.CompareAnswer.the-variants as says

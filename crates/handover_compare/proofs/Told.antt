@@ -15,17 +15,17 @@ use Rattle.association.specs.declared.Association.{Association}
 use Rattle.handover_file.specs.declared.LoadAnswer.{LoadAnswer}
 use Rattle.handover_file.specs.Cookies.{stashFits, stashKnown}
 use Rattle.handover_file.specs.Answers.{over, loadOf}
-use Rattle.handover_read.specs.declared.FileRead.{FileRead}
-use Rattle.handover_read.specs.Reading.{readOf}
-use Rattle.handover_read.proofs.Within.{answer-is}
-use Rattle.handover_save.specs.Put.{Put}
-use Rattle.handover_save.proofs.Laid.{laid-over}
-use Rattle.compare_fields.specs.declared.Field.{Field}
-use Rattle.compare_fields.specs.declared.Groups.{Groups}
-use Rattle.compare_fields.specs.Fields.{differing, listOf, listBytes}
-use Rattle.compare_fields.specs.Steps.{groupsIn, allOf}
-use Rattle.compare_fields.proofs.Grouped.{Of, all-fields}
-use Rattle.compare_fields.proofs.Listed.{list-long}
+use Rattle.handover_load.specs.declared.read.FileRead.{FileRead}
+use Rattle.handover_load.specs.Reading.{readOf}
+use Rattle.handover_load.proofs.Within.{answer-is}
+use Rattle.words.specs.Put.{Put}
+use Rattle.words.proofs.Put.{laid-over}
+use Rattle.handover_compare.specs.declared.fields.Field.{Field}
+use Rattle.handover_compare.specs.declared.fields.Groups.{Groups}
+use Rattle.handover_compare.specs.Fields.{differing, listOf, listBytes}
+use Rattle.handover_compare.specs.Steps.{groupsIn, allOf}
+use Rattle.handover_compare.proofs.Grouped.{Of, all-fields}
+use Rattle.handover_compare.proofs.Listed.{list-long}
 use Rattle.handover_compare.specs.declared.Side.the-variants.{Left, Right}
 use Rattle.handover_compare.specs.declared.CompareAnswer.the-variants.{Listed, ShortBuffer}
 use Rattle.handover_compare.specs.Made.{madeOf}
@@ -74,19 +74,24 @@ module _ (f : List ℕ) (o : FileRead) (e : o ≡ readOf f) {x : LoadAnswer} (h 
   said-is : x ≡ loadOf f .answer
   said-is = sym h ∙ answer-is f o e
 
-  module _ (b : Association) (is : b ≡ loadOf f .association) where
-    pub right-by : (a : Association) (room : ℕ) → onLoad Right x (toldIn a b room) ≡ rightOf a f room
-    unfolding rightOf
-    right-by a room = λ i. onLoad Right (said-is i) (toldIn a (is i) room)
+  -- the right file: b is what it loads as, or its answer stops the comparison
+  module _ (a : Association) (out : List ℕ) where
+    pub right-by : (b : Association) → b ≡ loadOf f .association →
+        (onLoad Right x (toldIn a b (length out)) ≡ rightOf a f (length out)) × (ifLoaded x (writtenIn a b out) out ≡ rightOut a f out)
+    unfolding rightOf rightOut
+    right-by b is = (λ i. onLoad Right (said-is i) (toldIn a (is i) (length out)), λ i. ifLoaded (said-is i) (writtenIn a (is i) out) out)
 
-    pub right-out-by : (a : Association) (out : List ℕ) → ifLoaded x (writtenIn a b out) out ≡ rightOut a f out
-    unfolding rightOut
-    right-out-by a out = λ i. ifLoaded (said-is i) (writtenIn a (is i) out) out
+    pub right-stops : let b = loadOf f .association in
+        (onLoad Right x (toldIn a b (length out)) ≡ rightOf a f (length out)) × (ifLoaded x (writtenIn a b out) out ≡ rightOut a f out)
+    right-stops = right-by (loadOf f .association) refl
 
-    pub left-by : (g : List ℕ) (room : ℕ) → onLoad Left x (rightOf b g room) ≡ compareOf f g room
-    unfolding compareOf
-    left-by g room = λ i. onLoad Left (said-is i) (rightOf (is i) g room)
+  -- and the left one
+  module _ (g out : List ℕ) where
+    pub left-by : (b : Association) → b ≡ loadOf f .association →
+        (onLoad Left x (rightOf b g (length out)) ≡ compareOf f g (length out)) × (ifLoaded x (rightOut b g out) out ≡ outOf f g out)
+    unfolding compareOf outOf
+    left-by b is = (λ i. onLoad Left (said-is i) (rightOf (is i) g (length out)), λ i. ifLoaded (said-is i) (rightOut (is i) g out) out)
 
-    pub left-out-by : (g out : List ℕ) → ifLoaded x (rightOut b g out) out ≡ outOf f g out
-    unfolding outOf
-    left-out-by g out = λ i. ifLoaded (said-is i) (rightOut (is i) g out) out
+    pub left-stops : let b = loadOf f .association in
+        (onLoad Left x (rightOf b g (length out)) ≡ compareOf f g (length out)) × (ifLoaded x (rightOut b g out) out ≡ outOf f g out)
+    left-stops = left-by (loadOf f .association) refl

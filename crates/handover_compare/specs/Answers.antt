@@ -9,7 +9,7 @@ use Rattle.association.specs.declared.Association.{Association}
 use Rattle.handover_file.specs.declared.LoadAnswer.{LoadAnswer}
 use Rattle.handover_file.specs.declared.LoadAnswer.the-variants.{Loaded, WrongMark, WrongLength, NoAssociation}
 use Rattle.handover_file.specs.Answers.{over, loadOf}
-use Rattle.compare_fields.specs.Fields.{listOf, listBytes}
+use Rattle.handover_compare.specs.Fields.{listOf, listBytes}
 use Rattle.handover_compare.specs.declared.Side.{Side}
 use Rattle.handover_compare.specs.declared.Side.the-variants.{Left, Right}
 use Rattle.handover_compare.specs.declared.CompareAnswer.{CompareAnswer}

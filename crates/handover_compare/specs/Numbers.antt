@@ -5,8 +5,8 @@ use mathlib.Core.Path.{_≡_}
 use mathlib.Core.List.{List}
 use lib.ListN.{length}
 use Rattle.handover_file.specs.Answers.{over, loadNumber, loadOf}
-use Rattle.compare_fields.specs.Fields.{listOf, listBytes}
-use Rattle.compare_fields.specs.declared.Field.{Field}
+use Rattle.handover_compare.specs.Fields.{listOf, listBytes}
+use Rattle.handover_compare.specs.declared.fields.Field.{Field}
 use Rattle.handover_compare.specs.declared.Side.the-variants.{Left, Right}
 use Rattle.handover_compare.specs.declared.CompareAnswer.{CompareAnswer}
 use Rattle.handover_compare.specs.declared.CompareAnswer.the-variants.{Listed, WrongMark, WrongLength, NoAssociation, ShortBuffer}

@@ -1,19 +1,21 @@
-// Compares two hand-over files, each read in place: every field in which the two boxes differ, as a list of bytes.
+// Compares two hand-over files, each read in place: every field in which the two boxes differ, as a list of bytes. Module `fields` compares what was read.
 // Promises: the list is empty exactly when the two loaded records are equal; the left file is rejected before the right one; a rejected call writes nothing.
-// Rule: RULES, No. 10; the fields are defined in `compare_fields`, the answers in specs/Answers.antt, number by number in specs/Numbers.antt.
+// Rule: RULES, No. 10 and No. 12; fields in specs/Readings.antt and specs/Fields.antt, answers in specs/Answers.antt, number by number in specs/Numbers.antt.
+pub mod fields;
+
+use crate::fields::Field;
+use crate::fields::Groups;
 use association::Settings;
 use association::State;
-use compare_fields::Field;
-use compare_fields::Groups;
 use handover_file::LoadAnswer;
 ghost use mathlib.Core.Path.{_≡_};
 ghost use mathlib.Core.Bool.{true};
 ghost use Prim.Native.Nat.{_+_, _≤_};
 ghost use lib.ListN.{length};
 ghost use mathlib.Core.List.{_∷_, []};
-ghost use Rattle.compare_fields.specs.Fields.{differing, entryBytes, listBytes};
-ghost use Rattle.compare_fields.specs.Steps.{allOf};
-ghost use Rattle.handover_save.specs.Put.{Put};
+ghost use Rattle.handover_compare.specs.Fields.{differing, entryBytes, listBytes};
+ghost use Rattle.handover_compare.specs.Steps.{allOf};
+ghost use Rattle.words.specs.Put.{Put};
 ghost use Rattle.handover_file.specs.Cookies.{stashFits, stashKnown};
 ghost use Rattle.handover_compare.specs.Answer.{compareNumber};
 ghost use Rattle.handover_compare.specs.Made.{madeOf};
@@ -127,7 +129,7 @@ fn put_field(out: &mut [u8], at: usize, f: Field) -> usize
         return at;
     }
     let e = entry(f);
-    handover_save::lay(out, at, &e)
+    words::lay(out, at, &e)
 }
 
 // Writes the entries of eight fields.
@@ -176,7 +178,7 @@ fn compare_found(
     ensures { λ x. ⌜ (x ≡ toldIn (madeOf l p (now (left .entry))) (madeOf r q (now (right .entry))) (length (now (out .entry))))
         × (now (out .exit) ≡ writtenIn (madeOf l p (now (left .entry))) (madeOf r q (now (right .entry))) (now (out .entry))) ⌝ }
 {
-    let g = compare_fields::fields(l, p, left, r, q, right);
+    let g = crate::fields::fields(l, p, left, r, q, right);
     let n = entries(g);
     if out.len() < ENTRY * n {
         return CompareAnswer::ShortBuffer;
@@ -191,7 +193,7 @@ fn compare_right(l: Settings, p: State, left: &[u8], right: &[u8], out: &mut [u8
     ensures { λ x. ⌜ (x ≡ rightOf (madeOf l p (now (left .entry))) (now (right .entry)) (length (now (out .entry))))
         × (now (out .exit) ≡ rightOut (madeOf l p (now (left .entry))) (now (right .entry)) (now (out .entry))) ⌝ }
 {
-    let found = handover_read::read(right);
+    let found = handover_load::read::read(right);
     let answer = found.answer;
     let r = found.settings;
     let q = found.state;
@@ -219,7 +221,7 @@ pub fn compare(left: &[u8], right: &[u8], out: &mut [u8]) -> CompareAnswer
     ensures { λ x. ⌜ (x ≡ compareOf (now (left .entry)) (now (right .entry)) (length (now (out .entry)))) ×
         (now (out .exit) ≡ outOf (now (left .entry)) (now (right .entry)) (now (out .entry))) ⌝ }
 {
-    let found = handover_read::read(left);
+    let found = handover_load::read::read(left);
     let answer = found.answer;
     let l = found.settings;
     let p = found.state;

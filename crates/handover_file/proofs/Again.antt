@@ -11,6 +11,7 @@ use borrow.Author.Tests.{eqb-true}
 use lib.Dec.{lit<}
 use lib.ListN.{length, getD, length-append}
 use Rattle.words.specs.Bytes.{toBe}
+use Rattle.words.specs.Put.{recordOf}
 use Rattle.words.proofs.Bytes.{Bytes}
 use Rattle.words.proofs.Tests.{both}
 use Rattle.cookiestash.specs.Whole as stash
@@ -24,7 +25,7 @@ use Rattle.handover_groups.proofs.OfSettings.{settings-again, settings-old, kno
 use Rattle.handover_groups.proofs.OfState.{effort-again, version-again, polls-again, source-again}
 use Rattle.handover_file.specs.declared.LoadAnswer.the-variants.{Loaded}
 use Rattle.handover_file.specs.declared.LoadOut.{LoadOut}
-use Rattle.handover_file.specs.Sections.{Shape, recordOf, joined, Fitting, bodyLength}
+use Rattle.handover_file.specs.Sections.{Shape, joined, Fitting, bodyLength}
 use Rattle.handover_file.specs.Cookies.{stashFits, stashKnown, stashOf}
 use Rattle.handover_file.specs.File.{shapes, partsOf, fileOf, known, recordIn, retired, settledState, settled}
 use Rattle.handover_file.specs.Answers.{loadNumber, loadIn, onCut, loadOf}

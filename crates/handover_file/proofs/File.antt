@@ -9,8 +9,9 @@ use mathlib.Core.Logic.{_↔_}
 use native.Mathlib.Omega.{arith}
 use borrow.Author.Tests.{eq-eqb}
 use lib.Dec.{lit<, eqb}
-use lib.ListN.{length}
+use lib.ListN.{length, length-append}
 use Rattle.words.specs.Bytes.{zeros}
+use Rattle.words.proofs.Put.{record-long}
 use Rattle.words.proofs.Tests.{passes, both}
 use Rattle.words.proofs.Zeros.{of-zeros}
 use Rattle.cookiestash.specs.Queue.{cookies}
@@ -41,7 +42,7 @@ use Rattle.handover_file.specs.Cookies.{stashBytes, stashKnown, stashOf}
 use Rattle.handover_file.specs.File.{settingsFits, shapes, partsOf, fileOf, unsent, known, recordIn}
 use Rattle.handover_file.specs.Answers as answers
 use Rattle.handover_file.proofs.Settled.{settled-same, retired-none}
-use Rattle.handover_file.proofs.Sections.{length-record, cut-joined}
+use Rattle.handover_file.proofs.Sections.{cut-joined}
 use Rattle.handover_file.proofs.Cookies.{AllFill, stash-back, stash-known, stash-fits, stash-most, stash-long, stash-longest}
 
 -- what the types say of a record
@@ -79,7 +80,8 @@ pub file-length : (a : Association) → length (fileOf a) ≡ 63 + length (stash
 unfolding fileOf
 file-length a =
     simp (
-      length-record,
+      length-append,
+      record-long,
       settings-long (a .settings),
       effort-long (a .state .effort),
       version-long (a .state .version),

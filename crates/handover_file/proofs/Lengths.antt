@@ -10,9 +10,9 @@ use borrow.Author.Tests.{eqb-true}
 use lib.Dec.{eqb}
 use lib.ListN.{length}
 use Rattle.words.specs.Bytes.{toBe}
+use Rattle.words.specs.Put.{recordOf}
 use Rattle.words.proofs.Bytes.{Bytes}
 use Rattle.handover_file.specs.declared.LoadOut.{LoadOut}
-use Rattle.handover_file.specs.Sections.{recordOf}
 use Rattle.handover_file.specs.Answers.{loadNumber, loadOf}
 use Rattle.handover_file.specs.Numbers.{LoadGiven, wrong-mark, wrong-length, left-over, no-association, association}
 use Rattle.handover_file.proofs.Numbers.{load-given}

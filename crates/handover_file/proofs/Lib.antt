@@ -1,4 +1,4 @@
--- Laws of the hand-over file.
+-- Laws of the hand-over file, and of the steps through one.
 pub mod Sections
 pub mod Cookies
 pub mod Fit
@@ -12,3 +12,8 @@ pub mod Emptied
 pub mod Lengths
 pub mod Retired
 pub mod Determined
+pub mod Places
+pub mod At
+pub mod Turn
+pub mod Records
+pub mod Six

@@ -1,6 +1,6 @@
 -- What a file of bytes is cut into, for any row of records: all of them and nothing else, or the first fault, with all before it as it should be.
 -- Assumes nothing.
-use Prim.Native.Nat.{ℕ, _+_, _-_, _^_, _≤_, _<_}
+use Prim.Native.Nat.{ℕ, _+_, _-_, _≤_, _<_}
 use mathlib.Core.Path.{_≡_, refl, sym, ap, _∙_}
 use mathlib.Core.Bool.{Bool, true, false, cond}
 use mathlib.Core.List.{List, [], _∷_, _++_, append-assoc}
@@ -9,11 +9,12 @@ use borrow.Author.Tests.{ltb-true, ltb-false, eqb-true, eqb-false}
 use lib.Dec.{ltb, eqb}
 use lib.ListN.{length, drop}
 use lib.Seq.{getD-drop}
-use Rattle.words.specs.Bytes.{be, part, toBe}
-use Rattle.words.proofs.Bytes.{Bytes, toBe-be, bytes-part, be-below, length-part, part-drop}
+use Rattle.words.specs.Bytes.{be, part}
+use Rattle.words.specs.Put.{recordOf}
+use Rattle.words.proofs.Bytes.{Bytes}
+use Rattle.words.proofs.Records.{body-short, write-back}
 use Rattle.handover_file.specs.Sections.{
   Shape,
-  recordOf,
   joined,
   Fitting,
   Found,
@@ -54,26 +55,13 @@ view s l = go (ltb (length l) 2) (eqb (be (part l 0 2)) (s .mark)) (ltb (length 
 
 -- a body that is there, and what follows it, are the bytes that they are written in
 module _ (s : Shape) (l : List ℕ) (y : Bytes l) (h : 4 ≤ length l) (m : be (part l 0 2) ≡ s .mark) (k : bodyLength l ≤ length l - 4) where
-  body-long : length (part l 4 (bodyLength l)) ≡ bodyLength l
-  body-long = length-part l 4 (bodyLength l) (omega arith)
-
-  body-short : length (part l 4 (bodyLength l)) ≤ 65535
+  in-two-bytes : length (part l 4 (bodyLength l)) ≤ 65535
   unfolding bodyLength
-  body-short = omega (arith, body-long, be-below (part l 2 2) (bytes-part l 2 2 y), ap (λ (n : ℕ). 256 ^ n) (length-part l 2 2 (omega arith)))
+  in-two-bytes = body-short l y 0 (s .mark) (bodyLength l) m refl (omega arith)
 
   written : recordOf (s .mark) (part l 4 (bodyLength l)) ++ drop (4 + bodyLength l) l ≡ l
-  unfolding recordOf bodyLength
-  written =
-      let a : toBe 2 (s .mark) ≡ part l 0 2 = ap (toBe 2) (sym m) ∙ toBe-be 2 (part l 0 2) (bytes-part l 0 2 y) (length-part l 0 2 (omega arith)) in
-      let b : toBe 2 (length (part l 4 (bodyLength l))) ≡ part l 2 2 = ap (toBe 2) body-long
-      ∙ toBe-be 2 (part l 2 2) (bytes-part l 2 2 y) (length-part l 2 2 (omega arith)) in
-      let c = part l 4 (bodyLength l) in
-      let d = drop (4 + bodyLength l) l in
-      append-assoc (toBe 2 (s .mark)) (toBe 2 (length c) ++ c) d
-      ∙ ap (λ (r : List ℕ). toBe 2 (s .mark) ++ r) (append-assoc (toBe 2 (length c)) c d)
-      ∙ (λ i. a i ++ (b i ++ part-drop l 4 (bodyLength l) i))
-      ∙ ap (λ (r : List ℕ). part l 0 2 ++ r) (part-drop l 2 2)
-      ∙ part-drop l 0 2
+  unfolding bodyLength
+  written = write-back l y 0 (s .mark) (bodyLength l) m refl (omega arith)
 
 bytes-drop : (n : ℕ) (l : List ℕ) → Bytes l → Bytes (drop n l)
 bytes-drop n l y i = rw getD-drop (y (n + i))
@@ -130,7 +118,7 @@ outcome (s ∷ ss) k f y = go (found (s .mark) f) (view s f) (outcome ss (k .1) 
         → (t : Bool) → s .fits (part f 4 (bodyLength f)) ≡ t
         → Outcome (s ∷ ss) f (cond t (before (part f 4 (bodyLength f)) (cutAs ss (drop (4 + bodyLength f) f))) missized)
     fitted h m n o true e =
-        behind s ss (k .0) (part f 4 (bodyLength f)) (drop (4 + bodyLength f) f) f (body-short s f y h m n) e (written s f y h m n)
+        behind s ss (k .0) (part f 4 (bodyLength f)) (drop (4 + bodyLength f) f) f (in-two-bytes s f y h m n) e (written s f y h m n)
         (cutAs ss (drop (4 + bodyLength f) f)) o
     fitted h m n o false e = fault [] ss s [] f refl (starts f) (unfit h m n e)
 

@@ -4,16 +4,14 @@ use Prim.Native.Nat.{ℕ, _+_, _-_, _≤_, _<_}
 use mathlib.Core.Path.{_≡_, refl, sym, ap, _∙_}
 use mathlib.Core.Bool.{Bool, false, cond}
 use mathlib.Core.List.{List, [], _∷_, _++_, append-assoc, append-nil}
-use native.Mathlib.Nat.{mod-eq-of-lt}
 use native.Mathlib.Omega.{arith}
 use borrow.Author.Tests.{lt-ltb, le-ltb, eq-eqb, ne-eqb}
-use lib.ListN.{length, drop, length-append}
-use lib.Seq.{take-at, drop-at, drop-drop}
+use lib.ListN.{length, drop}
 use Rattle.words.specs.Bytes.{be, part}
-use Rattle.words.proofs.Bytes.{be-toBe}
+use Rattle.words.specs.Put.{recordOf}
+use Rattle.words.proofs.Records.{ReadBack, read-back}
 use Rattle.handover_file.specs.Sections.{
   Shape,
-  recordOf,
   joined,
   Fitting,
   body,
@@ -30,38 +28,25 @@ use Rattle.handover_file.specs.Sections.{
 
 -- ---- one record
 
-pub length-record : (m : ℕ) (b rest : List ℕ) → length (recordOf m b ++ rest) ≡ 4 + (length b + length rest)
-unfolding recordOf
-length-record m b rest = simp length-append (omega arith)
-
 module _ (m : ℕ) (b rest : List ℕ) (h : m < 65536) (k : length b ≤ 65535) where
-  mark-read : be (part (recordOf m b ++ rest) 0 2) ≡ m
-  unfolding recordOf part
-  mark-read = be-toBe 2 m ∙ mod-eq-of-lt (omega arith)
+  there : ReadBack (recordOf m b ++ rest) m b rest 0
+  there = read-back (recordOf m b ++ rest) m b rest 0 h k refl
 
   pub length-read : bodyLength (recordOf m b ++ rest) ≡ length b
-  unfolding recordOf part bodyLength
-  length-read = be-toBe 2 (length b) ∙ mod-eq-of-lt (omega arith)
-
-  body-read : part (recordOf m b ++ rest) 4 (length b) ≡ b
-  unfolding recordOf part
-  body-read = take-at b rest (length b) refl
-
-  rest-read : drop (4 + length b) (recordOf m b ++ rest) ≡ rest
-  unfolding recordOf
-  rest-read = sym (drop-drop (length b) 4 (recordOf m b ++ rest)) ∙ drop-at b rest (length b) refl
+  unfolding bodyLength
+  length-read = there .len
 
   pub found-record : found m (recordOf m b ++ rest) ≡ body b rest
   unfolding found
   found-record =
       simp (
-        le-ltb (length (recordOf m b ++ rest)) 2 (omega (arith, length-record m b rest)),
-        eq-eqb (be (part (recordOf m b ++ rest) 0 2)) m mark-read,
-        le-ltb (length (recordOf m b ++ rest)) 4 (omega (arith, length-record m b rest)),
+        le-ltb (length (recordOf m b ++ rest)) 2 (omega (arith, there .long)),
+        eq-eqb (be (part (recordOf m b ++ rest) 0 2)) m (there .mark),
+        le-ltb (length (recordOf m b ++ rest)) 4 (omega (arith, there .long)),
         length-read,
-        le-ltb (length (recordOf m b ++ rest) - 4) (length b) (omega (arith, length-record m b rest)),
-        body-read,
-        rest-read,
+        le-ltb (length (recordOf m b ++ rest) - 4) (length b) (omega (arith, there .long)),
+        there .body,
+        there .behind,
       )
 
 -- ---- all of them

@@ -14,6 +14,7 @@ use Rattle.association.specs.declared.State.{State}
 use Rattle.association.specs.declared.Association.{Association}
 use Rattle.association.specs.Settings.{settingsValid}
 use Rattle.association.specs.Record.{blankOf, versionsValid, wholeSeen, wholeOf}
+use Rattle.association.specs.Whole.{Current}
 use Rattle.handover_file.specs.declared.LoadAnswer.the-variants.{Loaded, NoAssociation}
 use Rattle.handover_file.specs.declared.LoadOut.{LoadOut}
 use Rattle.handover_file.specs.Sections.{Cut, bodies, misplaced, missized, cutAs}
@@ -39,12 +40,8 @@ version-same : (v : Version) → upgrading (v .kind) ≡ false → settledOf v �
 version-same v e = λ i. record { kind = version.settled-same (v .kind) e i }
 
 module _ (a : Association) where
-  -- neither its start version nor its version is of it
-  abbrev pub Current : Type 0
-  Current = (upgrading (a .settings .start .kind) ≡ false) × (upgrading (a .state .version .kind) ≡ false)
-
   -- promise: no14.5
-  pub settled-same : Current → settled a ≡ a
+  pub settled-same : Current a → settled a ≡ a
   unfolding settled settledSettings settledState
   settled-same c =
       let s = a .settings in
@@ -68,11 +65,11 @@ module _ (a : Association) where
         state = record { effort = q .effort; version = spoken i; polls = q .polls; source = q .source; request = q .request };
       }
 
-  pub retired-none : Current → retired (a .settings) (a .state) ≡ false
+  pub retired-none : Current a → retired (a .settings) (a .state) ≡ false
   unfolding retired
   retired-none c = ap (λ (b : Bool). b || upgrading (a .state .version .kind)) (c .0) ∙ c .1
 
-  pub none-retired : retired (a .settings) (a .state) ≡ false → Current
+  pub none-retired : retired (a .settings) (a .state) ≡ false → Current a
   unfolding retired
   none-retired e = by (upgrading (a .settings .start .kind)) (upgrading (a .state .version .kind)) e
     where
@@ -81,7 +78,7 @@ module _ (a : Association) where
       by false c e = (refl, e)
 
   -- what is settled has none of it
-  pub settled-current : (upgrading (settled a .settings .start .kind) ≡ false) × (upgrading (settled a .state .version .kind) ≡ false)
+  pub settled-current : Current (settled a)
   unfolding settled settledSettings settledState
   settled-current = (version.settled-stays (a .settings .start .kind), version.settled-stays (a .state .version .kind))
 

@@ -29,7 +29,7 @@ saved x a = record { answer = x; association = a }
 
 -- in order 32, 60; a rejected call does not change the record
 -- promise no6.6: Writing a file answers 32, then 60, and on these writes nothing. Bytes past the file stay.
---     edit: handover_save/a_piece_that_ends_with_the_buffer_is_left_out
+--     edit: words/a_piece_that_ends_with_the_buffer_is_left_out
 unfoldable pub saveOf : Association → ℕ → SaveOut
 saveOf a room =
     cond (wholeOf a)

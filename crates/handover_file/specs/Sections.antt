@@ -7,7 +7,8 @@ use mathlib.Core.Bool.{Bool, true, cond}
 use mathlib.Core.List.{List, [], _∷_, _++_}
 use lib.Dec.{ltb, eqb}
 use lib.ListN.{length, drop}
-use Rattle.words.specs.Bytes.{be, part, toBe}
+use Rattle.words.specs.Bytes.{be, part}
+use Rattle.words.specs.Put.{recordOf}
 
 -- a record of the file: its mark, and the test of its body (62 if it fails)
 pub record Shape : Type 0 where
@@ -15,10 +16,6 @@ pub record Shape : Type 0 where
   pub fits : List ℕ → Bool
 
 -- ---- the writer
-
--- promise: no6.1
-unfoldable pub recordOf : ℕ → List ℕ → List ℕ
-recordOf m b = toBe 2 m ++ (toBe 2 (length b) ++ b)
 
 -- promise: no6.1
 abbrev pub joined : List Shape → List (List ℕ) → List ℕ
@@ -70,7 +67,7 @@ onFound fits rest other = misplaced
 onFound fits rest short = missized
 
 -- promise no6.7: Reading a file answers the first of 61 and 62 in the file, then 63, with the blank record.
---     edit: handover_cut/a_byte_left_over_is_accepted, handover_load/a_wrong_mark_is_answered_as_a_length
+--     edit: handover_file/a_byte_left_over_is_accepted, handover_load/a_wrong_mark_is_answered_as_a_length
 abbrev pub cutAs : List Shape → List ℕ → Cut
 cutAs [] l = cond (eqb (length l) 0) (bodies []) missized
 cutAs (s ∷ ss) l = onFound (s .fits) (λ r. cutAs ss r) (found (s .mark) l)

@@ -1,6 +1,8 @@
-// The hand-over file: what it is, byte by byte, and what its writer and its reader answer.
-// Promises (theorems): a written file is read as its record with nothing sent; whole records have the same file exactly if they agree in all that is written.
-// Rule: RULES, No. 6 and No. 14; definitions in specs/Sections.antt, Cookies.antt, File.antt and Answers.antt, number by number in specs/Numbers.antt.
+// The hand-over file: what it is, byte by byte, and what its writer and its readers answer. Module `cut` finds its records and its cookies.
+// Promises: what is written is read back; two whole records have the same file exactly if all that is written agrees; the first wrong mark or length is found.
+// Rule: RULES, No. 6, No. 12 and No. 14; definitions in specs/Sections.antt, Cookies.antt, File.antt, Answers.antt and Steps.antt, by number in Numbers.antt.
+pub mod cut;
+
 use association::Association;
 ghost use mathlib.Core.Path.{_≡_};
 ghost use Rattle.handover_file.specs.Answers.{saveNumber, loadNumber, saysRetired};

@@ -21,10 +21,10 @@ use Rattle.handover_file.specs.Cookies.{stashKnown, stashOf}
 use Rattle.handover_file.specs.File.{shapes, stateIn, known, recordIn, retired, settledSettings, settledState, settled}
 use Rattle.handover_file.specs.Answers.{loaded, refused, loadAs, loadIn, onCut, loadOf}
 use Rattle.handover_load.specs.declared.Stashed.{Stashed}
-use Rattle.handover_cut.specs.declared.Stop.the-variants.{Misplaced, Missized}
-use Rattle.handover_cut.specs.Steps.{stopOf}
+use Rattle.handover_file.specs.declared.cut.Stop.the-variants.{Misplaced, Missized}
+use Rattle.handover_file.specs.Steps.{stopOf}
 use Rattle.handover_load.specs.Read.{stashedOf}
-use Rattle.handover_cut.proofs.Six.{partsAt, Six}
+use Rattle.handover_file.proofs.Six.{partsAt, Six}
 
 -- ---- the stash that was read
 

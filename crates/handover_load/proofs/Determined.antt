@@ -8,6 +8,7 @@ use Rattle.handover_load.proofs.state_in.Reads as state-in
 use Rattle.handover_load.proofs.is_retired.Reads as is-retired
 use Rattle.handover_load.proofs.settled_settings.Reads as settled-settings
 use Rattle.handover_load.proofs.settled_state.Reads as settled-state
+use Rattle.handover_load.proofs.read.read.Reads as read
 
 pub load-determined : Determined load.Post
 load-determined κs a y z e f p q = p ∙ sym q
@@ -26,3 +27,6 @@ settled-settings-determined κs a y z e f p q = p ∙ sym q
 
 pub settled-state-determined : Determined settled-state.Post
 settled-state-determined κs a y z e f p q = p ∙ sym q
+
+pub read-determined : Determined read.Post
+read-determined κs a y z e f p q = p ∙ sym q

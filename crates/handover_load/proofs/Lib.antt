@@ -1,4 +1,7 @@
--- Laws of the reader.
+-- Laws of both readers.
 pub mod Reading
 pub mod Decided
 pub mod Determined
+pub mod Counted
+pub mod Decides
+pub mod Within

@@ -17,9 +17,9 @@ use Rattle.cookiestash.specs.Queue.{Cookie}
 use Rattle.cookiestash.proofs.Stored.{stored-bounds}
 use Rattle.handover_file.specs.Cookies.{Run, whole, broken, ahead, runOf, isRun, cookiesOf, stashFits, heldIn, stashKnown, slotFor, emptyAt, laidIn, stashOf}
 use Rattle.handover_file.proofs.Cookies.{put-held}
-use Rattle.handover_cut.specs.declared.Held.the-variants.{One, End, Broken}
-use Rattle.handover_cut.specs.Steps.{heldAt, cookie, onHeld}
-use Rattle.handover_cut.proofs.Turn.{run-at, one-within, run-ahead}
+use Rattle.handover_file.specs.declared.cut.Held.the-variants.{One, End, Broken}
+use Rattle.handover_file.specs.Steps.{heldAt, cookie, onHeld}
+use Rattle.handover_file.proofs.Turn.{run-at, one-within, run-ahead}
 
 kept : (n : ℕ) → n ≤ 724 → stored n ≡ n
 unfolding stored

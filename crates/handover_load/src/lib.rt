@@ -1,16 +1,18 @@
-// The reader of the hand-over file: a box that is swapped in starts with the association of the one before it.
-// Promises: for any bytes, the answer of the file's definition; the first fault decides between 61 and 62; a rejected file leaves the blank record.
-// Rule: RULES, No. 6, No. 12 and No. 14; `handover_file` defines the file, `handover_cut` finds its records, specs/Read.antt defines the stash that is read.
+// The readers of the hand-over file: by value, for a box that is swapped in and starts with the association of the one before it; and in place, module `read`.
+// Promises: for any bytes both give the answer of the file's definition; the first fault decides between 61 and 62; a rejected file leaves the blank record.
+// Rule: RULES, No. 6, No. 12 and No. 14; `handover_file` defines the file, specs/Read.antt the stash that is read, specs/Reading.antt reading in place.
+pub mod read;
+
 use association::Association;
 use association::Pending;
 use association::Settings;
 use association::State;
 use cookiestash::CookieStash;
 use cookiestash::Slot;
-use handover_cut::Held;
-use handover_cut::Stop;
 use handover_file::LoadAnswer;
 use handover_file::LoadOut;
+use handover_file::cut::Held;
+use handover_file::cut::Stop;
 ghost use mathlib.Core.Path.{_≡_};
 ghost use mathlib.Core.Bool.{true};
 ghost use mathlib.Core.List.{[], _∷_};
@@ -20,7 +22,7 @@ ghost use Rattle.cookiestash.specs.Stash.{stored, putOf};
 ghost use Rattle.handover_file.specs.Cookies.{stashFits, slotFor};
 ghost use Rattle.handover_file.specs.File.{stateIn, retired, settledSettings, settledState};
 ghost use Rattle.handover_file.specs.Answers.{refused, loadAs, loadIn, loadOf};
-ghost use Rattle.handover_cut.specs.Steps.{cookie};
+ghost use Rattle.handover_file.specs.Steps.{cookie};
 ghost use Rattle.handover_load.specs.Read.{noStash, stashedOf};
 
 // How many bytes a file has after the stash's body.
@@ -78,7 +80,7 @@ fn stash_in(b: &[u8], capacity: u8) -> Stashed
     s.read = read;
     let mut at: usize = 1;
     loop {
-        match handover_cut::held_at(b, at) {
+        match handover_file::cut::held_at(b, at) {
             Held::One { len, start, end } => {
                 if s.held == capacity as usize {
                     return no_stash();
@@ -217,7 +219,7 @@ fn association_in(
 pub fn load(file: &[u8]) -> LoadOut
     ensures { λ r. ⌜ r ≡ loadOf (now (file .entry)) ⌝ }
 {
-    match handover_cut::cut(file) {
+    match handover_file::cut::cut(file) {
         Stop::Good => {
             let k = words::be16_at(file, 2) as usize;
             let end = file.len() - BEHIND;

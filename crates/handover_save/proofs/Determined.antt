@@ -4,23 +4,15 @@ use mathlib.Core.Path.{sym, ap, _∙_}
 use mathlib.Core.List.{List}
 use Prim.Native.Nat.{ℕ}
 use denote.Ref.{now}
-use Rattle.words.specs.Determined.{Determined, DeterminedLent}
+use Rattle.words.specs.Determined.{DeterminedLent}
+use Rattle.words.specs.Put.{Laid}
 use Rattle.handover_file.specs.Answers.{Handed}
-use Rattle.handover_save.specs.Put.{Laid}
-use Rattle.handover_save.proofs.head.Reads as head
-use Rattle.handover_save.proofs.lay.Reads as lay
 use Rattle.handover_save.proofs.lay_settings.Reads as lay-settings
 use Rattle.handover_save.proofs.lay_state.Reads as lay-state
 use Rattle.handover_save.proofs.save.Reads as save
 
 pub save-determined : DeterminedLent save.Post (λ κs e. now (e .1 .0))
 save-determined κs a y z e f p q = let e = p ∙ sym q in (ap (λ (h : Handed). h .gives) e, ap (λ (h : Handed). h .left) e)
-
-pub head-determined : Determined head.Post
-head-determined κs a y z e f p q = p ∙ sym q
-
-pub lay-determined : DeterminedLent lay.Post (λ κs e. now (e .0))
-lay-determined κs a y z e f p q = let e = p ∙ sym q in (ap (λ (l : Laid). l .ends) e, ap (λ (l : Laid). l .left) e)
 
 pub lay-settings-determined : DeterminedLent lay-settings.Post (λ κs e. now (e .0))
 lay-settings-determined κs a y z e f p q = let e = p ∙ sym q in (ap (λ (l : Laid). l .ends) e, ap (λ (l : Laid). l .left) e)

@@ -13,13 +13,13 @@ use Rattle.association.specs.Record.{wholeOf}
 use Rattle.handover_groups.specs.Settings.{settingsBytes}
 use Rattle.handover_groups.specs.State.{effortBytes, versionBytes, pollsBytes, sourceBytes}
 use Rattle.handover_file.specs.declared.SaveAnswer.the-variants.{Saved, NotWhole, ShortBuffer}
-use Rattle.handover_file.specs.Sections.{recordOf}
 use Rattle.handover_file.specs.Cookies.{stashBytes, emptyAt}
 use Rattle.handover_file.specs.File.{fileOf, emptied}
 use Rattle.handover_file.specs.Answers.{saved, saveOf, over, bufferOf, handed, handedOf}
 use Rattle.handover_file.proofs.File.{file-length}
-use Rattle.handover_save.specs.Put.{Put, stateRecords, groupsFile}
-use Rattle.handover_save.proofs.Laid.{laid-over}
+use Rattle.words.specs.Put.{Put, recordOf}
+use Rattle.words.proofs.Put.{laid-over}
+use Rattle.handover_save.specs.Groups.{stateRecords, groupsFile}
 
 -- the file by its parts is the file
 groups-file : (a : Association) → groupsFile (a .settings) (a .stash) (a .state) ≡ fileOf a

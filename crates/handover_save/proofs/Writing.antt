@@ -9,6 +9,8 @@ use lib.Dec.{leb}
 use lib.ListN.{length, take, length-append}
 use lib.Seq.{length-take-le}
 use Rattle.words.specs.Bytes.{toBe}
+use Rattle.words.specs.Put.{laidAt, Put, laid, layOf, recordOf}
+use Rattle.words.proofs.Put.{laid-none, laid-on, put-put, put-long, lays, lays-not, laid-put, record-long, record-put}
 use Rattle.cookiestash.specs.declared.Slot.{Slot}
 use Rattle.cookiestash.specs.declared.CookieStash.{CookieStash}
 use Rattle.cookiestash.specs.Stash.{stored, slotAt, wrap}
@@ -22,10 +24,8 @@ use Rattle.handover_groups.specs.Settings.{settingsBytes}
 use Rattle.handover_groups.specs.State.{effortBytes, versionBytes, pollsBytes, sourceBytes}
 use Rattle.handover_groups.proofs.OfSettings.{settings-long}
 use Rattle.handover_groups.proofs.OfState.{effort-long, version-long, polls-long, source-long}
-use Rattle.handover_file.specs.Sections.{recordOf}
 use Rattle.handover_file.specs.Cookies.{cookieBytes, cookiesBytes, stashBytes}
-use Rattle.handover_save.specs.Put.{laidAt, Put, headOf, stateRecords, groupsFile, laid, layOf}
-use Rattle.handover_save.proofs.Laid.{laid-none, laid-on, put-put, put-long, lays, lays-not}
+use Rattle.handover_save.specs.Groups.{stateRecords, groupsFile}
 
 -- ---- one cookie
 
@@ -41,18 +41,6 @@ cookie-put {out = out} {p = p} {q = q} {at = at} {r = r} {s = s} x eh eb en a b 
     let first : Put out at (toBe 2 (x .len)) r p = subst (λ (w : List ℕ). Put out at w r p) eh a in
     let then : Put p r (take (stored (x .len)) (x .bytes)) s q = subst (λ (w : List ℕ). Put p r w s q) (eb ∙ ap (λ (j : ℕ). take j (x .bytes)) en) b in
     put-put (toBe 2 (x .len)) (take (stored (x .len)) (x .bytes)) first then k
-
--- ---- a record: its head, and its body
-
-pub record-put : {out p q : List ℕ} {at r s : ℕ} {h : List ℕ} (m n : ℕ) (body : List ℕ) → h ≡ headOf m n → n ≡ length body → Put out at h r p →
-    Put p r body s q → at + 4 ≤ length out →
-    Put out at (recordOf m body) s q
-unfolding recordOf
-record-put {out = out} {p = p} {q = q} {at = at} {r = r} {s = s} m n body eh en a b k =
-    let first : Put out at (headOf m n) r p = subst (λ (w : List ℕ). Put out at w r p) eh a in
-    subst (λ (w : List ℕ). Put out at w s q)
-    (append-assoc (toBe 2 m) (toBe 2 n) body ∙ ap (λ (j : ℕ). toBe 2 m ++ (toBe 2 j ++ body)) en)
-    (put-put (headOf m n) body first b k)
 
 -- ---- the cookies that are still to come
 
@@ -175,26 +163,24 @@ module _ (cap : ℕ) (s : CookieStash) (v : Whole cap s) (sum place n : ℕ) (w 
 
 -- ---- the records, one behind the other
 
-pub record-long : (m : ℕ) (b : List ℕ) → length (recordOf m b) ≡ 4 + length b
-unfolding recordOf
-record-long m b = simp length-append (omega arith)
-
 pub stash-long : (cap : ℕ) (s : CookieStash) → length (stashBytes cap s) ≡ 1 + length (cookiesBytes (cookies cap s))
 unfolding stashBytes
 stash-long cap s = omega arith
 
 -- the stash's: its head, the reading place, the cookies
-pub stash-put : {out p q z : List ℕ} {at r t u n : ℕ} {h b : List ℕ} (cap : ℕ) (s : CookieStash) → h ≡ headOf 0x5354 n → n ≡ length (stashBytes cap s) →
-    b ≡ s .read ∷ [] →
+pub stash-put : {out p q z : List ℕ} {at r t u n : ℕ} {h b : List ℕ} (cap : ℕ) (s : CookieStash) → h ≡ toBe 2 0x5354 ++ toBe 2 n →
+    n ≡ length (stashBytes cap s) → b ≡ s .read ∷ [] →
     Put out at h r p → Put p r b t q → Put q t (cookiesBytes (cookies cap s)) u z → at + 5 ≤ length out → Put out at (recordOf 0x5354 (stashBytes cap s)) u z
-unfolding recordOf stashBytes
-stash-put {out = out} {p = p} {q = q} {z = z} {at = at} {r = r} {t = t} {u = u} {n = n} cap s eh en eb a b c k =
-    let first : Put out at (headOf 0x5354 n) r p = subst (λ (w : List ℕ). Put out at w r p) eh a in
+unfolding stashBytes
+stash-put {p = p} {q = q} {at = at} {r = r} {t = t} {n = n} cap s eh en eb a b c k =
+    let first = put-long _ a (omega (arith, ap length eh)) in
     let place : Put p r (s .read ∷ []) t q = subst (λ (w : List ℕ). Put p r w t q) eb b in
-    let both : Put out at (headOf 0x5354 n ++ (s .read ∷ [])) t q = put-put (headOf 0x5354 n) (s .read ∷ []) first place (omega arith) in
-    let all : Put out at ((headOf 0x5354 n ++ (s .read ∷ [])) ++ cookiesBytes (cookies cap s)) u z = put-put (headOf 0x5354 n ++ (s .read ∷ []))
-    (cookiesBytes (cookies cap s)) both c (omega arith) in
-    subst (λ (j : ℕ). Put out at (toBe 2 0x5354 ++ (toBe 2 j ++ (s .read ∷ cookiesBytes (cookies cap s)))) u z) en all
+    record-put 0x5354 n (stashBytes cap s) eh (ap (toBe 2) en) a
+    (put-put (s .read ∷ []) (cookiesBytes (cookies cap s)) place c (omega (arith, a .ends, ap length eh))) (omega arith)
+
+-- of a body whose length is fixed
+fixed : (m : ℕ) {b c : List ℕ} {n : ℕ} → b ≡ c → length c ≡ n → length (recordOf m b) ≡ 4 + n
+fixed m {b} e n = record-long m b ∙ ap (λ (j : ℕ). 4 + j) (ap length e ∙ n)
 
 module _ (state : State) {e v p s : List ℕ} (ee : e ≡ effortBytes (state .effort)) (ev : v ≡ versionBytes (state .version))
     (ep : p ≡ pollsBytes (state .polls)) (es : s ≡ sourceBytes (state .source)) where
@@ -202,62 +188,59 @@ module _ (state : State) {e v p s : List ℕ} (ee : e ≡ effortBytes (state .ef
   unfolding stateRecords
   records-are = λ i. recordOf 0x5245 (ee i) ++ (recordOf 0x5645 (ev i) ++ (recordOf 0x504F (ep i) ++ recordOf 0x534F (es i)))
 
-  pub state-put : {o o₁ o₂ o₃ o₄ : List ℕ} {at r₁ r₂ r₃ r₄ : ℕ} → Put o at (recordOf 0x5245 e) r₁ o₁ → Put o₁ r₁ (recordOf 0x5645 v) r₂ o₂ →
-      Put o₂ r₂ (recordOf 0x504F p) r₃ o₃ → Put o₃ r₃ (recordOf 0x534F s) r₄ o₄ →
+  pub state-put : {o o₁ o₂ o₃ o₄ : List ℕ} {at r₁ r₂ r₃ r₄ : ℕ} → laid r₁ o₁ ≡ layOf o at (recordOf 0x5245 e) →
+      laid r₂ o₂ ≡ layOf o₁ r₁ (recordOf 0x5645 v) → laid r₃ o₃ ≡ layOf o₂ r₂ (recordOf 0x504F p) → laid r₄ o₄ ≡ layOf o₃ r₃ (recordOf 0x534F s) →
       at + 28 ≤ length o → Put o at (stateRecords state) r₄ o₄
-  state-put {o = o} {o₁ = o₁} {o₂ = o₂} {o₃ = o₃} {o₄ = o₄} {at = at} {r₁ = r₁} {r₂ = r₂} {r₃ = r₃} {r₄ = r₄} a b c d k =
-      let n₁ : length e ≡ 2 = ap length ee ∙ effort-long (state .effort) in
-      let n₂ : length v ≡ 2 = ap length ev ∙ version-long (state .version) in
-      let n₃ : length p ≡ 2 = ap length ep ∙ polls-long (state .polls) in
-      let l₁ : length (recordOf 0x5245 e) ≡ 6 = record-long 0x5245 e ∙ ap (λ (j : ℕ). 4 + j) n₁ in
-      let l₂ : length (recordOf 0x5645 v) ≡ 6 = record-long 0x5645 v ∙ ap (λ (j : ℕ). 4 + j) n₂ in
-      let l₃ : length (recordOf 0x504F p) ≡ 6 = record-long 0x504F p ∙ ap (λ (j : ℕ). 4 + j) n₃ in
+  state-put {o = o} {o₁ = o₁} {o₂ = o₂} {o₃ = o₃} {o₄ = o₄} {at = at} {r₁ = r₁} {r₂ = r₂} {r₃ = r₃} {r₄ = r₄} f g h i k =
+      let l₁ : length (recordOf 0x5245 e) ≡ 6 = fixed 0x5245 ee (effort-long (state .effort)) in
+      let l₂ : length (recordOf 0x5645 v) ≡ 6 = fixed 0x5645 ev (version-long (state .version)) in
+      let l₃ : length (recordOf 0x504F p) ≡ 6 = fixed 0x504F ep (polls-long (state .polls)) in
+      let l₄ : length (recordOf 0x534F s) ≡ 10 = fixed 0x534F es (source-long (state .source)) in
       let k₁ : at + length (recordOf 0x5245 e) ≤ length o = omega arith in
+      let a : Put o at (recordOf 0x5245 e) r₁ o₁ = laid-put o at (recordOf 0x5245 e) f k₁ in
       let m₁ : length o₁ ≡ length o = put-long (recordOf 0x5245 e) a k₁ in
       let k₂ : r₁ + length (recordOf 0x5645 v) ≤ length o₁ = omega (arith, a .ends) in
+      let b : Put o₁ r₁ (recordOf 0x5645 v) r₂ o₂ = laid-put o₁ r₁ (recordOf 0x5645 v) g k₂ in
       let m₂ : length o₂ ≡ length o₁ = put-long (recordOf 0x5645 v) b k₂ in
       let k₃ : r₂ + length (recordOf 0x504F p) ≤ length o₂ = omega (arith, a .ends, b .ends) in
+      let c : Put o₂ r₂ (recordOf 0x504F p) r₃ o₃ = laid-put o₂ r₂ (recordOf 0x504F p) h k₃ in
+      let m₃ : length o₃ ≡ length o₂ = put-long (recordOf 0x504F p) c k₃ in
+      let k₄ : r₃ + length (recordOf 0x534F s) ≤ length o₃ = omega (arith, a .ends, b .ends, c .ends) in
+      let d : Put o₃ r₃ (recordOf 0x534F s) r₄ o₄ = laid-put o₃ r₃ (recordOf 0x534F s) i k₄ in
       subst (λ (w : List ℕ). Put o at w r₄ o₄) records-are
       (put-put (recordOf 0x5245 e) (recordOf 0x5645 v ++ (recordOf 0x504F p ++ recordOf 0x534F s)) a
       (put-put (recordOf 0x5645 v) (recordOf 0x504F p ++ recordOf 0x534F s) b (put-put (recordOf 0x504F p) (recordOf 0x534F s) c d k₃) k₂) k₁)
 
--- all of them
-pub file-put : (settings : Settings) (s : CookieStash) (state : State) {f : List ℕ} → f ≡ settingsBytes settings → {o o₁ o₂ o₃ : List ℕ} {r₁ r₂ r₃ : ℕ} →
-    Put o 0 (recordOf 0x5345 f) r₁ o₁ → Put o₁ r₁ (recordOf 0x5354 (stashBytes (settings .capacity) s)) r₂ o₂ → Put o₂ r₂ (stateRecords state) r₃ o₃ →
-    63 + length (stashBytes (settings .capacity) s) ≤ length o →
-    Put o 0 (groupsFile settings s state) r₃ o₃
-unfolding groupsFile
-file-put settings s state {f = f} e {o = o} {o₁ = o₁} {o₃ = o₃} {r₁ = r₁} {r₃ = r₃} a b c k =
-    let n : length f ≡ 27 = ap length e ∙ settings-long settings in
-    let l₁ : length (recordOf 0x5345 f) ≡ 31 = record-long 0x5345 f ∙ ap (λ (j : ℕ). 4 + j) n in
-    let l₂ = record-long 0x5354 (stashBytes (settings .capacity) s) in
-    let k₁ : 0 + length (recordOf 0x5345 f) ≤ length o = omega arith in
-    let m₁ : length o₁ ≡ length o = put-long (recordOf 0x5345 f) a k₁ in
-    let k₂ : r₁ + length (recordOf 0x5354 (stashBytes (settings .capacity) s)) ≤ length o₁ = omega (arith, a .ends) in
-    subst (λ (w : List ℕ). Put o 0 (recordOf 0x5345 w ++ (recordOf 0x5354 (stashBytes (settings .capacity) s) ++ stateRecords state)) r₃ o₃) e
-    (put-put (recordOf 0x5345 f) (recordOf 0x5354 (stashBytes (settings .capacity) s) ++ stateRecords state) a
-    (put-put (recordOf 0x5354 (stashBytes (settings .capacity) s)) (stateRecords state) b c k₂) k₁)
-
--- ---- records laid where they fit
-
 pub settings-record-long : (s : Settings) → length (recordOf 0x5345 (settingsBytes s)) ≡ 31
-settings-record-long s = record-long 0x5345 (settingsBytes s) ∙ ap (λ (j : ℕ). 4 + j) (settings-long s)
+settings-record-long s = fixed 0x5345 refl (settings-long s)
 
 pub state-records-long : (s : State) → length (stateRecords s) ≡ 28
 unfolding stateRecords
 state-records-long s =
     simp (length-append, record-long, effort-long, version-long, polls-long, source-long)
 
+-- all of them
+pub file-put : (settings : Settings) (s : CookieStash) (state : State) {o o₁ o₂ o₃ : List ℕ} {r₁ r₂ r₃ : ℕ} →
+    laid r₁ o₁ ≡ layOf o 0 (recordOf 0x5345 (settingsBytes settings)) → Put o₁ r₁ (recordOf 0x5354 (stashBytes (settings .capacity) s)) r₂ o₂ →
+    laid r₃ o₃ ≡ layOf o₂ r₂ (stateRecords state) → 63 + length (stashBytes (settings .capacity) s) ≤ length o → Put o 0 (groupsFile settings s state) r₃ o₃
+unfolding groupsFile
+file-put settings s state {o = o} {o₁ = o₁} {o₂ = o₂} {r₁ = r₁} {r₂ = r₂} e b f k =
+    let first = recordOf 0x5345 (settingsBytes settings) in
+    let second = recordOf 0x5354 (stashBytes (settings .capacity) s) in
+    let l₁ = settings-record-long settings in
+    let l₂ = record-long 0x5354 (stashBytes (settings .capacity) s) in
+    let l₃ = state-records-long state in
+    let k₁ : 0 + length first ≤ length o = omega arith in
+    let a = laid-put o 0 first e k₁ in
+    let m₁ : length o₁ ≡ length o = put-long first a k₁ in
+    let k₂ : r₁ + length second ≤ length o₁ = omega (arith, a .ends) in
+    let m₂ : length o₂ ≡ length o₁ = put-long second b k₂ in
+    let k₃ : r₂ + length (stateRecords state) ≤ length o₂ = omega (arith, a .ends, b .ends) in
+    put-put first (second ++ stateRecords state) a (put-put second (stateRecords state) b (laid-put o₂ r₂ (stateRecords state) f k₃) k₂) k₁
+
+-- ---- records laid where they fit
+
 module _ (out : List ℕ) (at : ℕ) where
-  pub settings-lays : (s : Settings) {f : List ℕ} {r : ℕ} {left : List ℕ} → f ≡ settingsBytes s → at + 31 ≤ length out → Put out at (recordOf 0x5345 f) r left
-      → laid r left ≡ layOf out at (recordOf 0x5345 (settingsBytes s))
-  settings-lays s {r = r} {left = left} e h p =
-      lays out at (recordOf 0x5345 (settingsBytes s)) (omega (arith, settings-record-long s))
-      (subst (λ (f : List ℕ). Put out at (recordOf 0x5345 f) r left) e p)
-
-  pub settings-lays-not : (s : Settings) → leb (at + 31) (length out) ≡ false → laid at out ≡ layOf out at (recordOf 0x5345 (settingsBytes s))
-  settings-lays-not s e = lays-not out at (recordOf 0x5345 (settingsBytes s)) (ap (λ (n : ℕ). leb (at + n) (length out)) (settings-record-long s) ∙ e)
-
   pub state-lays : (s : State) {r : ℕ} {left : List ℕ} → at + 28 ≤ length out → Put out at (stateRecords s) r left → laid r left ≡ layOf out at (stateRecords s)
   state-lays s h p = lays out at (stateRecords s) (omega (arith, state-records-long s)) p
 

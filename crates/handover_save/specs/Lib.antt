@@ -1,2 +1,2 @@
 -- The definitions that the contracts of `handover_save` cite beside those of the file.
-pub mod Put
+pub mod Groups

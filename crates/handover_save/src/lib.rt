@@ -1,6 +1,6 @@
 // The writer of the hand-over file: at power-down it writes the association, with its cookies, to a file.
 // Promises: the file byte by byte, and nothing past it; a rejected call writes nothing; the returned association has no cookie and is otherwise unchanged.
-// Rule: RULES, No. 6 and No. 12; the file is defined in `handover_file`, how bytes are written to the buffer in specs/Put.antt.
+// Rule: RULES, No. 6 and No. 12; the file is defined in `handover_file`, how bytes are written to the buffer in `words`.
 use association::Association;
 use association::Settings;
 use association::State;
@@ -9,18 +9,15 @@ use cookiestash::Slot;
 use handover_file::SaveAnswer;
 use handover_file::SaveOut;
 ghost use mathlib.Core.Path.{_≡_};
-ghost use mathlib.Core.List.{_++_};
-ghost use Prim.Native.Nat.{_+_, _≤_, _<_};
-ghost use lib.Dec.{leb};
+ghost use Prim.Native.Nat.{_+_, _≤_};
 ghost use lib.ListN.{length};
-ghost use Rattle.words.specs.Bytes.{toBe};
+ghost use Rattle.words.specs.Put.{Put, laid, layOf, recordOf};
 ghost use Rattle.cookiestash.specs.Whole.{WholeSlot, Whole};
 ghost use Rattle.cookiestash.specs.Queue.{seen, cookies};
 ghost use Rattle.handover_groups.specs.Settings.{settingsBytes};
-ghost use Rattle.handover_file.specs.Sections.{recordOf};
 ghost use Rattle.handover_file.specs.Cookies.{cookieBytes, cookiesBytes, stashBytes, emptyAt};
 ghost use Rattle.handover_file.specs.Answers.{handed, handedOf};
-ghost use Rattle.handover_save.specs.Put.{Put, laid, layOf, headOf, stateRecords, groupsFile};
+ghost use Rattle.handover_save.specs.Groups.{stateRecords, groupsFile};
 
 // The marks of the records: S E, S T, R E, V E, P O, S O.
 const SETTINGS_MARK: u16 = 0x5345;
@@ -38,45 +35,16 @@ const SOURCE_MARK: u16 = 0x534F;
 // How many bytes a file has besides the stash's body.
 const BESIDES: usize = 63;
 
-// Copies bytes to an offset of the buffer, and returns the offset after them.
-fn put(out: &mut [u8], at: usize, piece: &[u8]) -> usize
-    requires { ⌜ at + length (now piece) ≤ length (now out) ⌝ }
-    ensures { λ r. ⌜ Put (now (out .entry)) at (now (piece .entry)) r (now (out .exit)) ⌝ }
-{
-    let n = piece.len();
-    bytes::copy(piece, &mut out[at..]);
-    at + n
-}
-
-// The head of a record: its mark, and the length of its body.
-pub fn head(mark: u16, len: u16) -> [u8; 4]
-    ensures { λ r. ⌜ r ≡ headOf mark len ⌝ }
-{
-    let m = words::be16_bytes(mark);
-    let n = words::be16_bytes(len);
-    [m[0], m[1], n[0], n[1]]
-}
-
-// Writes a record of a fixed length.
-fn put_record(out: &mut [u8], at: usize, mark: u16, body: &[u8]) -> usize
-    requires { ⌜ (length (now body) ≤ 65535) × (at + (4 + length (now body)) ≤ length (now out)) ⌝ }
-    ensures { λ r. ⌜ (r ≡ at + (4 + length (now (body .entry)))) × (Put (now (out .entry)) at (recordOf mark (now (body .entry))) r (now (out .exit))) ⌝ }
-{
-    let h = head(mark, body.len() as u16);
-    let to = put(out, at, &h);
-    put(out, to, body)
-}
-
 // Writes a cookie's length and its stored bytes; none if the cookie is longer than a slot.
 fn put_cookie(out: &mut [u8], at: usize, slot: Slot) -> usize
     requires { ⌜ (WholeSlot slot) × (at + length (cookieBytes (seen slot)) ≤ length (now out)) ⌝ }
     ensures { λ r. ⌜ Put (now (out .entry)) at (cookieBytes (seen slot)) r (now (out .exit)) ⌝ }
 {
     let h = words::be16_bytes(slot.len);
-    let to = put(out, at, &h);
+    let to = words::lay(out, at, &h);
     let bytes = slot.bytes;
     let n = cookiestash::stored_bytes(slot.len as usize);
-    put(out, to, &bytes[0..n])
+    words::lay(out, to, &bytes[0..n])
 }
 
 // Writes the cookies of a stash of this capacity, oldest first.
@@ -118,26 +86,36 @@ fn put_stash(out: &mut [u8], at: usize, s: CookieStash, capacity: u8, len: usize
     requires { ⌜ (Whole capacity s) × (len ≡ length (stashBytes capacity s)) × (len ≤ 65535) × (at + (4 + len) ≤ length (now out)) ⌝ }
     ensures { λ r. ⌜ (r ≡ at + (4 + len)) × (Put (now (out .entry)) at (recordOf 0x5354 (stashBytes capacity s)) r (now (out .exit))) ⌝ }
 {
-    let h = head(STASH_MARK, len as u16);
-    let to = put(out, at, &h);
+    let h = words::be16_pair(STASH_MARK, len as u16);
+    let to = words::lay(out, at, &h);
     let read = [s.read as u8];
-    let to = put(out, to, &read);
+    let to = words::lay(out, to, &read);
     put_cookies(out, to, s, capacity)
 }
 
-// Writes the records of the state; the pending request is not written.
-fn put_state(out: &mut [u8], at: usize, state: State) -> usize
-    requires { ⌜ at + 28 ≤ length (now out) ⌝ }
-    ensures { λ r. ⌜ Put (now (out .entry)) at (stateRecords state) r (now (out .exit)) ⌝ }
+// Writes the record of the settings, as `words::lay` does.
+pub fn lay_settings(out: &mut [u8], at: usize, settings: Settings) -> usize
+    ensures { λ r. ⌜ laid r (now (out .exit)) ≡ layOf (now (out .entry)) at (recordOf 0x5345 (settingsBytes settings)) ⌝ }
 {
+    let first = handover_groups::settings_bytes(settings);
+    words::lay_record(out, at, SETTINGS_MARK, &first)
+}
+
+// Writes the records of the state, as `words::lay` does; the pending request is not written.
+pub fn lay_state(out: &mut [u8], at: usize, state: State) -> usize
+    ensures { λ r. ⌜ laid r (now (out .exit)) ≡ layOf (now (out .entry)) at (stateRecords state) ⌝ }
+{
+    if !words::fits(out.len(), at, 28) {
+        return at;
+    }
     let effort = handover_groups::effort_bytes(state.effort);
     let version = handover_groups::version_bytes(state.version);
     let polls = handover_groups::polls_bytes(state.polls);
     let source = handover_groups::source_bytes(state.source);
-    let to = put_record(out, at, EFFORT_MARK, &effort);
-    let to = put_record(out, to, VERSION_MARK, &version);
-    let to = put_record(out, to, POLLS_MARK, &polls);
-    put_record(out, to, SOURCE_MARK, &source)
+    let to = words::lay_record(out, at, EFFORT_MARK, &effort);
+    let to = words::lay_record(out, to, VERSION_MARK, &version);
+    let to = words::lay_record(out, to, POLLS_MARK, &polls);
+    words::lay_record(out, to, SOURCE_MARK, &source)
 }
 
 // Writes the whole file to the start of the buffer.
@@ -145,51 +123,9 @@ fn put_file(out: &mut [u8], settings: Settings, s: CookieStash, state: State, le
     requires { ⌜ (Whole (settings .capacity) s) × (len ≡ length (stashBytes (settings .capacity) s)) × (len ≤ 65535) × (63 + len ≤ length (now out)) ⌝ }
     ensures { λ r. ⌜ Put (now (out .entry)) 0 (groupsFile settings s state) r (now (out .exit)) ⌝ }
 {
-    let first = handover_groups::settings_bytes(settings);
-    let to = put_record(out, 0, SETTINGS_MARK, &first);
+    let to = lay_settings(out, 0, settings);
     let to = put_stash(out, to, s, settings.capacity, len);
-    put_state(out, to, state)
-}
-
-// Whether n bytes fit at an offset of a buffer with so much room.
-fn fits(room: usize, at: usize, n: usize) -> bool
-    ensures { λ r. ⌜ r ≡ leb (at + n) room ⌝ }
-{
-    if room < n {
-        return false;
-    }
-    at <= room - n
-}
-
-// Writes bytes at an offset of the buffer, and returns the offset after them. If they do not fit it writes nothing, and returns the offset itself.
-pub fn lay(out: &mut [u8], at: usize, piece: &[u8]) -> usize
-    ensures { λ r. ⌜ laid r (now (out .exit)) ≡ layOf (now (out .entry)) at (now (piece .entry)) ⌝ }
-{
-    if !fits(out.len(), at, piece.len()) {
-        return at;
-    }
-    put(out, at, piece)
-}
-
-// Writes the record of the settings, as `lay` does.
-pub fn lay_settings(out: &mut [u8], at: usize, settings: Settings) -> usize
-    ensures { λ r. ⌜ laid r (now (out .exit)) ≡ layOf (now (out .entry)) at (recordOf 0x5345 (settingsBytes settings)) ⌝ }
-{
-    if !fits(out.len(), at, 31) {
-        return at;
-    }
-    let first = handover_groups::settings_bytes(settings);
-    put_record(out, at, SETTINGS_MARK, &first)
-}
-
-// Writes the records of the state, as `lay` does.
-pub fn lay_state(out: &mut [u8], at: usize, state: State) -> usize
-    ensures { λ r. ⌜ laid r (now (out .exit)) ≡ layOf (now (out .entry)) at (stateRecords state) ⌝ }
-{
-    if !fits(out.len(), at, 28) {
-        return at;
-    }
-    put_state(out, at, state)
+    lay_state(out, to, state)
 }
 
 // An empty stash with a reading place.

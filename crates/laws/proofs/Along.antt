@@ -4,8 +4,8 @@ use mathlib.Core.Path.{_≡_, refl, sym, ap, _∙_}
 use mathlib.Core.List.{List, [], _∷_, _++_}
 use Prim.Native.Nat.{ℕ}
 use native.Mathlib.Omega.{arith}
-use Rattle.log.specs.Log.{Rule, Entry, timed, replied}
-use Rattle.log.specs.Machine.{Machine, Call, timer, reply, Done, note, made, step, run, after, logOf}
+use Rattle.laws_log.specs.Log.{Rule, Entry, timed, replied}
+use Rattle.laws_log.specs.Machine.{Machine, Call, timer, reply, Done, note, made, step, run, after, logOf}
 use Rattle.laws.specs.Along.{KeptWith, Kept, Orders, withReply}
 
 one-by-one : {A : Type 0} (xs : List A) (y : A) (ys : List A) → (xs ++ y ∷ []) ++ ys ≡ xs ++ y ∷ ys

@@ -26,11 +26,11 @@ use Rattle.handover_file.specs.declared.SaveOut.{SaveOut}
 use Rattle.handover_file.specs.Cookies.{emptyAt}
 use Rattle.handover_file.specs.File.{fileOf, emptied}
 use Rattle.handover_file.specs.Answers.{saveOf, loadNumber, loadOf}
-use Rattle.log.specs.Log as log
-use Rattle.log.specs.Why.{NoZero}
-use Rattle.log.specs.Machine as M
-use Rattle.association_log.specs.Association.{rule, machine}
-use Rattle.association_log.proofs.Obeys.{laws}
+use Rattle.laws_log.specs.Log as log
+use Rattle.laws_log.specs.Why.{NoZero}
+use Rattle.laws_log.specs.Machine as M
+use Rattle.laws.specs.Association.{rule, machine}
+use Rattle.laws.proofs.Obeys.{laws}
 use Rattle.laws.specs.Along.{KeptWith}
 use Rattle.laws.specs.Rate.{remoteOf}
 use Rattle.laws.proofs.Along.{along-with}
@@ -42,8 +42,8 @@ use Rattle.laws.specs.Cookies.{storedBy, storedIn, storedFrom, handedBy,
 use Rattle.laws.proofs.Some.{some-none, some-all, some-before, some-some, placed}
 use Rattle.laws.proofs.Stash.{Holds, Holding}
 use Rattle.laws.proofs.Order.{went, joined, from-new}
-use Rattle.metered.specs.Profile.{numberOf, profileOf, meteredOf}
-use Rattle.metered.proofs.Plain.{same-record}
+use Rattle.association_metered.specs.Profile.{numberOf, profileOf, meteredOf}
+use Rattle.association_metered.proofs.Plain.{same-record}
 use Rattle.laws.specs.Polls.{Sparing}
 use Rattle.laws.proofs.Polls.{Held, held-kept, metered-held}
 use Rattle.laws.specs.Saving.{Tick, poll, save, savingRule, savingMachine, unsavedBy, unsaved}

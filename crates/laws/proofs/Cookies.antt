@@ -17,9 +17,9 @@ use Rattle.association.specs.declared.Association.{Association}
 use Rattle.handover_file.specs.Answers.{loadNumber, loadOf}
 use Rattle.handover_file.proofs.Again.{loads}
 use Rattle.handover_file.proofs.Cookies.{Keeps, AllKeep, cookies-keep}
-use Rattle.log.specs.Machine as M
-use Rattle.association_log.specs.Association.{rule, machine}
-use Rattle.association_log.proofs.Bridge.{Ran, ran-is-run}
+use Rattle.laws_log.specs.Machine as M
+use Rattle.laws.specs.Association.{rule, machine}
+use Rattle.laws.proofs.Bridge.{Ran, ran-is-run}
 use Rattle.laws.specs.Some.{SomeOf, Placed}
 use Rattle.laws.specs.Cookies.{storedIn, handedOut}
 use Rattle.laws.proofs.Some.{placed}

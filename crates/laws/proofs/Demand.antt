@@ -13,15 +13,15 @@ use Rattle.handover_file.specs.declared.LoadOut.{LoadOut}
 use Rattle.handover_file.specs.Sections.{Cut, bodies, misplaced, missized, cutAs}
 use Rattle.handover_file.specs.File.{shapes, known, recordIn, settledState, settled}
 use Rattle.handover_file.specs.Answers.{loadIn, onCut, loadOf}
-use Rattle.log.specs.Log.{Accepted}
-use Rattle.log.specs.Machine.{Call, Done, logged, run, after, logOf}
-use Rattle.log.specs.Demand.{Demand3}
-use Rattle.log.specs.Why.{Why}
-use Rattle.log.proofs.Strike.{demand3}
-use Rattle.log.proofs.Why.{why-told}
-use Rattle.association_log.specs.Association.{rule, pendingIn, machine}
-use Rattle.association_log.proofs.Obeys.{laws}
-use Rattle.association_log.proofs.Bridge.{Ran, ran-is-run}
+use Rattle.laws_log.specs.Log.{Accepted}
+use Rattle.laws_log.specs.Machine.{Call, Done, logged, run, after, logOf}
+use Rattle.laws_log.specs.Demand.{Demand3}
+use Rattle.laws_log.specs.Why.{Why}
+use Rattle.laws_log.proofs.Strike.{demand3}
+use Rattle.laws_log.proofs.Why.{why-told}
+use Rattle.laws.specs.Association.{rule, pendingIn, machine}
+use Rattle.laws.proofs.Obeys.{laws}
+use Rattle.laws.proofs.Bridge.{Ran, ran-is-run}
 
 abbrev pub Nothing : LoadOut → Type 0
 Nothing o = (pendingIn (o .association .state .request) ≡ none) × (o .association .state .request .answered ≡ false)

@@ -1,4 +1,4 @@
--- What holds along any log, and of any request.
+-- The association obeys the laws of `laws_log`, so demand 3 holds of it; what else holds along any log, and of any request; the code's calls are its steps.
 pub mod Along
 pub mod Rate
 pub mod Retired
@@ -16,3 +16,6 @@ pub mod Cookies
 pub mod Carried
 pub mod Longest
 pub mod Reading
+pub mod Obeys
+pub mod NewDemand
+pub mod Bridge

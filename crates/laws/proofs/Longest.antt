@@ -30,11 +30,11 @@ use Rattle.timer.specs.declared.TimerOut.{TimerOut}
 use Rattle.timer.specs.Timer.{timerOf}
 use Rattle.timer.specs.Numbers.{Given, not-whole, short-buffer, demobilize, reset, no-cookie, too-large, sent, sent-nts}
 use Rattle.timer.proofs.Numbers.{given}
-use Rattle.request.specs.Extension.{fieldLength}
-use Rattle.request.specs.Request.{isV5, hasNts, askValid, packetOf}
-use Rattle.request.specs.Answer.{requestOf}
-use Rattle.request.specs.declared.Requested.the-variants.{Written}
-use Rattle.request.proofs.Longest.{length-nts, at-most}
+use Rattle.wire_request.specs.Extension.{fieldLength}
+use Rattle.wire_request.specs.Request.{isV5, hasNts, askValid, packetOf}
+use Rattle.wire_request.specs.Answer.{requestOf}
+use Rattle.wire_request.specs.declared.Requested.the-variants.{Written}
+use Rattle.wire_request.proofs.Longest.{length-nts, at-most}
 
 -- ---- what a timer's 20 asks for
 

@@ -28,12 +28,12 @@ use Rattle.timer.proofs.Numbers as timer-numbers
 use Rattle.reply_rules.specs.Answer as reply
 use Rattle.reply.proofs.Numbers as reply-numbers
 use Rattle.reply.proofs.After.{heard}
-use Rattle.log.specs.Log as log
-use Rattle.log.specs.Why.{NoZero}
-use Rattle.log.specs.Machine as M
-use Rattle.log.proofs.Strike.{not-T}
-use Rattle.association_log.specs.Association.{TimerIn, ReplyIn, arrivalOf, readAs, rule, replied, machine}
-use Rattle.association_log.proofs.Bridge.{Ran, ran-is-run}
+use Rattle.laws_log.specs.Log as log
+use Rattle.laws_log.specs.Why.{NoZero}
+use Rattle.laws_log.specs.Machine as M
+use Rattle.laws_log.proofs.Strike.{not-T}
+use Rattle.laws.specs.Association.{TimerIn, ReplyIn, arrivalOf, readAs, rule, replied, machine}
+use Rattle.laws.proofs.Bridge.{Ran, ran-is-run}
 use Rattle.laws.proofs.Along.{stretch}
 use Rattle.laws.specs.Nine.{refused, timersIn, givesUp, GaveUp, NineTimers}
 

@@ -37,16 +37,16 @@ use Rattle.timer.specs.declared.TimerOut.{TimerOut}
 use Rattle.timer.specs.Timer.{handed, bufferOf}
 use Rattle.timer.specs.Numbers as T
 use Rattle.timer.proofs.Numbers as timer-numbers
-use Rattle.request.specs.Request.{hasNts}
-use Rattle.incoming.specs.declared.ReplyRead.{ReplyRead}
+use Rattle.wire_request.specs.Request.{hasNts}
+use Rattle.wire_incoming.specs.declared.ReplyRead.{ReplyRead}
 use Rattle.reply_rules.specs.Answer as reply
 use Rattle.reply.specs.declared.ReplyOut.{ReplyOut}
 use Rattle.reply.specs.Numbers as R
 use Rattle.reply.proofs.Numbers as reply-numbers
-use Rattle.log.specs.Machine as M
-use Rattle.association_log.specs.Association.{TimerIn, ReplyIn, arrivalOf, readAs, rule, machine}
-use Rattle.association_log.proofs.Obeys.{laws}
-use Rattle.association_log.proofs.Bridge.{Ran, ran-is-run}
+use Rattle.laws_log.specs.Machine as M
+use Rattle.laws.specs.Association.{TimerIn, ReplyIn, arrivalOf, readAs, rule, machine}
+use Rattle.laws.proofs.Obeys.{laws}
+use Rattle.laws.proofs.Bridge.{Ran, ran-is-run}
 use Rattle.laws.specs.Some.{SomeOf, pass, Placed}
 use Rattle.laws.specs.Cookies.{cookiesOf, storedOn, storedBy, storedIn, storedFrom, handedBy, handedOut}
 use Rattle.laws.proofs.Some.{some-none, some-all, some-before, some-behind, some-front, some-some, placed}

@@ -7,21 +7,21 @@ use Prim.Native.Nat.{ℕ}
 use Rattle.association.specs.declared.Settings.{Settings}
 use Rattle.association.specs.declared.Association.{Association}
 use Rattle.association.specs.New.{newOf}
-use Rattle.log.specs.Log.{Accepted}
-use Rattle.log.specs.Machine.{Call, Done, logged, run, after, logOf}
-use Rattle.log.specs.Demand.{Demand3}
-use Rattle.log.specs.Why.{Why}
-use Rattle.association_log.specs.Association.{rule, machine}
-use Rattle.association_log.proofs.Demand.{association-demand3, association-why}
-use Rattle.association_log.proofs.Bridge.{Ran, ran-is-run}
+use Rattle.laws_log.specs.Log.{Accepted}
+use Rattle.laws_log.specs.Machine.{Call, Done, logged, run, after, logOf}
+use Rattle.laws_log.specs.Demand.{Demand3}
+use Rattle.laws_log.specs.Why.{Why}
+use Rattle.laws.specs.Association.{rule, machine}
+use Rattle.laws.proofs.NewDemand.{association-demand3, association-why}
+use Rattle.laws.proofs.Bridge.{Ran, ran-is-run}
 use Rattle.laws.specs.Rate.{CrateSame}
 use Rattle.laws.proofs.Rate.{new-same}
 use Rattle.laws.specs.Some.{SomeOf, Placed}
 use Rattle.laws.specs.Cookies.{storedFrom, handedOut}
 use Rattle.laws.proofs.Some.{placed}
 use Rattle.laws.proofs.Order.{cookie-order}
-use Rattle.metered.specs.Profile.{numberOf, profileOf, meteredOf}
-use Rattle.metered.proofs.Plain.{same-record, once-over-both}
+use Rattle.association_metered.specs.Profile.{numberOf, profileOf, meteredOf}
+use Rattle.association_metered.proofs.Plain.{same-record, once-over-both}
 
 module _ (s : Settings) (list : List ℕ) (met : numberOf (profileOf s list) ≡ 0) where
   -- the same answers, to the last byte, and the same record at the end; every beginning of a log is a log, so it is the same all along

@@ -36,19 +36,19 @@ use Rattle.timer.specs.Numbers as T
 use Rattle.timer.specs.Numbers.{not-whole, short-buffer, demobilize, reset, no-cookie, too-large, sent, sent-nts}
 use Rattle.timer.proofs.Numbers as timer-numbers
 use Rattle.timer.proofs.After.{rang}
-use Rattle.incoming.specs.declared.ReplyRead.{ReplyRead}
+use Rattle.wire_incoming.specs.declared.ReplyRead.{ReplyRead}
 use Rattle.reply_clauses.specs.After.{Arrival}
 use Rattle.reply.specs.Numbers as R
 use Rattle.reply.proofs.Numbers as reply-numbers
 use Rattle.reply.proofs.After as reply-after
-use Rattle.log.specs.Machine as M
-use Rattle.association_log.specs.Association.{ReplyIn, arrivalOf, readAs, rule, timed, machine}
-use Rattle.association_log.proofs.Bridge.{Ran, ran-is-run}
+use Rattle.laws_log.specs.Machine as M
+use Rattle.laws.specs.Association.{ReplyIn, arrivalOf, readAs, rule, timed, machine}
+use Rattle.laws.proofs.Bridge.{Ran, ran-is-run}
 use Rattle.laws.specs.Rate.{remoteOf}
 use Rattle.laws.proofs.Along.{along-with}
 use Rattle.laws.proofs.Rate.{never-falls}
-use Rattle.metered.specs.Profile.{numberOf, profileOf, meteredOf}
-use Rattle.metered.proofs.Plain.{same-record, refused-blank, settled, plain-made}
+use Rattle.association_metered.specs.Profile.{numberOf, profileOf, meteredOf}
+use Rattle.association_metered.proofs.Plain.{same-record, refused-blank, settled, plain-made}
 use Rattle.laws.specs.Polls.{lastOf, AtLeast, AllAtLeast, Sparing}
 
 -- ---- one call

@@ -25,7 +25,7 @@ use Rattle.timer_rules.specs.declared.TimerInput.{TimerInput}
 use Rattle.timer_rules.specs.Answer as timer
 use Rattle.timer_rules.specs.Poll.{pollOf}
 use Rattle.timer.proofs.After.{rang}
-use Rattle.incoming.specs.declared.ReplyRead.{ReplyRead}
+use Rattle.wire_incoming.specs.declared.ReplyRead.{ReplyRead}
 use Rattle.reply_clauses.specs.After.{Arrival, stepped, afterRateKiss}
 use Rattle.reply_rules.specs.Answer as reply
 use Rattle.reply.specs.declared.ReplyOut.{ReplyOut}
@@ -50,10 +50,10 @@ use Rattle.reply.specs.Numbers.{
 }
 use Rattle.reply.proofs.Numbers.{given}
 use Rattle.reply.proofs.After.{Heard, heard, Paced, paced}
-use Rattle.log.specs.Machine as M
-use Rattle.association_log.specs.Association.{ReplyIn, arrivalOf, readAs, rule, pendingIn, timed, replied, machine}
-use Rattle.association_log.proofs.Demand.{new-pends-nothing}
-use Rattle.association_log.proofs.Bridge.{Ran, ran-is-run}
+use Rattle.laws_log.specs.Machine as M
+use Rattle.laws.specs.Association.{ReplyIn, arrivalOf, readAs, rule, pendingIn, timed, replied, machine}
+use Rattle.laws.proofs.NewDemand.{new-pends-nothing}
+use Rattle.laws.proofs.Bridge.{Ran, ran-is-run}
 use Rattle.laws.specs.Rate.{remoteOf, withRemote, crateRemote, crateReplied, CrateSame}
 use Rattle.laws.proofs.Along.{between, same-logs}
 

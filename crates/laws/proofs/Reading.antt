@@ -16,28 +16,28 @@ use mir.Val.{SFits}
 use Rattle.words.specs.Bytes.{be, part, toBe}
 use Rattle.words.proofs.Bytes.{be-toBe}
 use Rattle.time_types.specs.declared.PollInterval.{PollInterval}
-use Rattle.header.specs.declared.HeaderVersion.{HeaderVersion}
-use Rattle.header.specs.declared.HeaderRead.the-variants.{Decoded}
-use Rattle.header.specs.Header.{fields, headerOf, bytesOf}
-use Rattle.header.proofs.Fit.{Fit}
-use Rattle.header.proofs.RoundTrip.{read-write}
-use Rattle.fields.specs.Field.{kindAt, lengthAt, fieldIs, stepAt}
-use Rattle.fields.specs.Walk.{field, walkOf, packetWalk, fieldsOf, between, bodiesOf}
-use Rattle.fields.specs.Sound.{Each}
-use Rattle.fields.specs.declared.Step.the-variants.{Field, End}
-use Rattle.fields.proofs.Walks.{walk-turn, walk-induction}
-use Rattle.uid_groups.specs.Matching.{uidKind, uidOf, packetUid, Begins}
-use Rattle.uid_groups.specs.declared.Uid.the-variants.{Agree}
-use Rattle.uid_groups.proofs.Groups.{ahead, ahead-field, ahead-stop}
-use Rattle.uid_groups.proofs.Uids.{agree-iff}
-use Rattle.collector.specs.Collector.{cookieKind}
+use Rattle.wire_header.specs.declared.HeaderVersion.{HeaderVersion}
+use Rattle.wire_header.specs.declared.HeaderRead.the-variants.{Decoded}
+use Rattle.wire_header.specs.Header.{fields, headerOf, bytesOf}
+use Rattle.wire_header.proofs.Fit.{Fit}
+use Rattle.wire_header.proofs.RoundTrip.{read-write}
+use Rattle.wire_fields.specs.Field.{kindAt, lengthAt, fieldIs, stepAt}
+use Rattle.wire_fields.specs.Walk.{field, walkOf, packetWalk, fieldsOf, between, bodiesOf}
+use Rattle.wire_fields.specs.Sound.{Each}
+use Rattle.wire_fields.specs.declared.Step.the-variants.{Field, End}
+use Rattle.wire_fields.proofs.Walks.{walk-turn, walk-induction}
+use Rattle.wire_groups.specs.Matching.{uidKind, uidOf, packetUid, Begins}
+use Rattle.wire_groups.specs.declared.Uid.the-variants.{Agree}
+use Rattle.wire_groups.proofs.Groups.{ahead, ahead-field, ahead-stop}
+use Rattle.wire_groups.proofs.Uids.{agree-iff}
+use Rattle.wire_collector.specs.Collector.{cookieKind}
 use Rattle.version.specs.declared.SendKind.{SendKind}
 use Rattle.version.specs.declared.SendKind.the-variants.{V4, V4Upgrade, V5, NtsV4, NtsV5}
-use Rattle.request.specs.Extension.{Extension, filled, fieldLength, extensionBytes, allBytes}
-use Rattle.request.specs.Request.{hasNts, reftimeOf, headerFor, carrying, placeholder, fieldsFor, withFields, packetOf}
+use Rattle.wire_request.specs.Extension.{Extension, filled, fieldLength, extensionBytes, allBytes}
+use Rattle.wire_request.specs.Request.{hasNts, reftimeOf, headerFor, carrying, placeholder, fieldsFor, withFields, packetOf}
 use Rattle.laws.specs.Reading.{Legible, foundAt, walkedBy}
-use Rattle.request.proofs.Placing.{length-filled, filled-full, length-extension}
-use Rattle.request.proofs.Sizes.{length-header, field-covers, field-least, field-fours, field-most}
+use Rattle.wire_request.proofs.Placing.{length-filled, filled-full, length-extension}
+use Rattle.wire_request.proofs.Sizes.{length-header, field-covers, field-least, field-fours, field-most}
 
 -- ---- the header: what stands behind it does not matter
 
@@ -266,7 +266,7 @@ module _ (kind : SendKind) (poll : PollInterval) (id upgrademark : ℕ) (uid coo
       }
 
   -- the same header, of every kind and whatever stands behind
-  -- promise: no1.1 (the reader of `header` gives it back, whatever follows)
+  -- promise: no1.1 (the reader of `wire_header` gives it back, whatever follows)
   pub header-read : SFits w8 (poll .0) → id < 2 ^ 64 → upgrademark < 2 ^ 64 → (rest : List ℕ) →
       headerOf (packet ++ rest) ≡ Decoded (headerFor kind poll id upgrademark)
   unfolding packetOf withFields
@@ -293,7 +293,7 @@ module _ (kind : SendKind) (poll : PollInterval) (id upgrademark : ℕ) (uid coo
     legible = (carrying-legible uidKind uid (lit< tt) (omega arith), behind-legible cookie asked short)
 
     -- with more than a tail behind it, as an authenticator is, the walk finds each field as it was written, and goes on where the packet ends
-    -- promise: no1.2 (the walk of `fields` finds each where it was written)
+    -- promise: no1.2 (the walk of `wire_fields` finds each where it was written)
     pub fields-read : 24 < length rest → packetWalk (packet ++ rest) ≡ walkedBy 48 (fieldsFor uid cookie asked) (walkOf (packet ++ rest) (length packet) 16 24)
     fields-read more = walks (packet ++ rest) rest (fieldsFor uid cookie asked) front 48 (length packet) laid front-long packet-long legible more
 

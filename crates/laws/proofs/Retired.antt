@@ -13,17 +13,17 @@ use Rattle.version.specs.Upgrade.{upgrading, fallenBack}
 use Rattle.version.specs.Send.{kindOf}
 use Rattle.version.proofs.Retired.{fallen-stays}
 use Rattle.association.specs.declared.Association.{Association}
-use Rattle.association.specs.Whole.{Whole}
+use Rattle.association.specs.Whole.{Whole, Current}
 use Rattle.association.proofs.Whole.{none-retired}
 use Rattle.timer_rules.specs.declared.TimerInput.{TimerInput}
 use Rattle.timer_rules.specs.Poll.{triedOf}
 use Rattle.timer.specs.declared.TimerOut.{TimerOut}
 use Rattle.timer.specs.Numbers as T
 use Rattle.timer.proofs.Numbers as timer-numbers
-use Rattle.log.specs.Machine as M
-use Rattle.association_log.specs.Association.{rule, machine}
-use Rattle.association_log.proofs.Bridge.{Ran, ran-is-run}
-use Rattle.laws.specs.Retired.{Current, Plain, AllPlain}
+use Rattle.laws_log.specs.Machine as M
+use Rattle.laws.specs.Association.{rule, machine}
+use Rattle.laws.proofs.Bridge.{Ran, ran-is-run}
+use Rattle.laws.specs.Retired.{Plain, AllPlain}
 use Rattle.laws.proofs.Unanswered.{call-whole, whole-along}
 
 -- along any log from a whole record neither its start version nor its version is of the retired kind

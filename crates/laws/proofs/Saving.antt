@@ -16,18 +16,18 @@ use Rattle.association.specs.New.{newOf}
 use Rattle.handover_file.specs.declared.SaveOut.{SaveOut}
 use Rattle.handover_file.specs.File.{fileOf, emptied}
 use Rattle.handover_file.specs.Answers.{saveNumber, saveOf, loadOf}
-use Rattle.log.specs.Log.{Accepted, next, nextAnswered, reason, live}
-use Rattle.log.specs.Machine as M
-use Rattle.log.specs.Machine.{Call, logOf}
-use Rattle.log.specs.Demand.{Demand3}
-use Rattle.log.specs.Why.{Why}
-use Rattle.log.proofs.Strike.{demand3}
-use Rattle.log.proofs.Why.{why-told}
-use Rattle.association_log.specs.Association.{ReplyIn, pendingIn, rule}
-use Rattle.association_log.proofs.Demand.{new-pends-nothing, new-unanswered}
-use Rattle.association_log.proofs.Obeys.{laws}
-use Rattle.metered.specs.Profile.{meteredOf}
-use Rattle.metered.proofs.Plain.{once-over-both}
+use Rattle.laws_log.specs.Log.{Accepted, next, nextAnswered, reason, live}
+use Rattle.laws_log.specs.Machine as M
+use Rattle.laws_log.specs.Machine.{Call, logOf}
+use Rattle.laws_log.specs.Demand.{Demand3}
+use Rattle.laws_log.specs.Why.{Why}
+use Rattle.laws_log.proofs.Strike.{demand3}
+use Rattle.laws_log.proofs.Why.{why-told}
+use Rattle.laws.specs.Association.{ReplyIn, pendingIn, rule}
+use Rattle.laws.proofs.NewDemand.{new-pends-nothing, new-unanswered}
+use Rattle.laws.proofs.Obeys.{laws}
+use Rattle.association_metered.specs.Profile.{meteredOf}
+use Rattle.association_metered.proofs.Plain.{once-over-both}
 use Rattle.laws.specs.Saving.{Tick, poll, save, savingRule, savingMachine}
 use Rattle.laws.proofs.Saves.{save-stash-alone}
 use Rattle.laws.proofs.Demand.{load-nothing}

@@ -16,9 +16,9 @@ use Rattle.timer.proofs.Kept.{timer-whole}
 use Rattle.reply.proofs.Numbers.{given}
 use Rattle.reply.proofs.After.{heard}
 use Rattle.reply.proofs.Kept.{reply-whole}
-use Rattle.log.specs.Machine as M
-use Rattle.association_log.specs.Association.{arrivalOf, rule, machine}
-use Rattle.association_log.proofs.Bridge.{Ran, ran-is-run}
+use Rattle.laws_log.specs.Machine as M
+use Rattle.laws.specs.Association.{arrivalOf, rule, machine}
+use Rattle.laws.proofs.Bridge.{Ran, ran-is-run}
 use Rattle.laws.specs.Unanswered.{unansweredIn, countAfter}
 use Rattle.laws.proofs.Along.{along}
 use Rattle.laws.proofs.Rate.{read-by}

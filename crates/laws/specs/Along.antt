@@ -1,8 +1,8 @@
 -- Properties of a machine's calls that carry over to its logs: a property that each call keeps, and a machine that answers replies in another way.
 -- Assumes nothing.
 use mathlib.Core.List.{List, [], _∷_, _++_}
-use Rattle.log.specs.Log.{Rule}
-use Rattle.log.specs.Machine.{Machine, Call, Done, made, step}
+use Rattle.laws_log.specs.Log.{Rule}
+use Rattle.laws_log.specs.Machine.{Machine, Call, Done, made, step}
 
 module _ {D : Rule} (M : Machine D) where
   -- each call keeps a property of what was done so far, with its answers, and of the record

@@ -11,10 +11,10 @@ use Rattle.association.specs.declared.Settings.{Settings}
 use Rattle.association.specs.New as new
 use Rattle.timer_rules.specs.declared.TimerAnswer.{TimerAnswer}
 use Rattle.timer_rules.specs.declared.TimerAnswer.the-variants.{Sent, Reset, Demobilize, NoCookie, CookieTooLarge, ShortBuffer, NotWhole}
-use Rattle.request.specs.Request.{hasNts}
+use Rattle.wire_request.specs.Request.{hasNts}
 use Rattle.reply_rules.specs.Answer.{numberOf}
-use Rattle.log.specs.Machine.{Call, Done, ofTimer, ofReply}
-use Rattle.association_log.specs.Association.{arrivalOf, machine}
+use Rattle.laws_log.specs.Machine.{Call, Done, ofTimer, ofReply}
+use Rattle.laws.specs.Association.{arrivalOf, machine}
 
 -- ---- stored
 

@@ -1,4 +1,4 @@
--- Statements about logs, also by the crate's rule, about some elements of a list in order, and about reading a request back.
+-- The association as a machine; statements about its logs, also by the crate's rule, about some elements of a list in order, and about reading a request back.
 pub mod Along
 pub mod Rate
 pub mod Retired
@@ -9,3 +9,4 @@ pub mod Some
 pub mod Cookies
 pub mod Saving
 pub mod Reading
+pub mod Association

@@ -5,9 +5,9 @@ use mathlib.Core.Bool.{Bool, cond, _||_}
 use mathlib.Core.List.{List, [], _∷_, _++_}
 use Prim.Native.Nat.{ℕ, suc, _≤_}
 use lib.Dec.{T, eqb}
-use Rattle.log.specs.Log.{Rule, Entry, timed, replied}
-use Rattle.log.specs.Why.{NoZero}
-use Rattle.log.specs.Machine.{Machine, Call, logOf}
+use Rattle.laws_log.specs.Log.{Rule, Entry, timed, replied}
+use Rattle.laws_log.specs.Why.{NoZero}
+use Rattle.laws_log.specs.Machine.{Machine, Call, logOf}
 
 -- a timer is rejected with 31 or 32
 -- promise no14.7: Nine timers: among any nine timers in a row that were not rejected, with no reply measured between the first and the ninth, one answers 21,

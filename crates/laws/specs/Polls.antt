@@ -6,8 +6,8 @@ use lib.Signed.{_≤ℤ_}
 use Rattle.association.specs.declared.Association.{Association}
 use Rattle.timer_rules.specs.declared.TimerAnswer.{TimerAnswer}
 use Rattle.timer_rules.specs.declared.TimerAnswer.the-variants.{Sent, Reset, Demobilize, NoCookie, CookieTooLarge, ShortBuffer, NotWhole}
-use Rattle.log.specs.Machine.{Done, ofTimer, ofReply}
-use Rattle.association_log.specs.Association.{machine}
+use Rattle.laws_log.specs.Machine.{Done, ofTimer, ofReply}
+use Rattle.laws.specs.Association.{machine}
 
 -- the last poll, as the record has it
 abbrev pub lastOf : Association → ℤ

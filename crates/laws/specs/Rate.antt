@@ -10,8 +10,8 @@ use Rattle.time_types.specs.Poll.{interval, crateRate}
 use Rattle.association.specs.declared.Association.{Association}
 use Rattle.reply.specs.declared.Replied.{Replied}
 use Rattle.reply_rules.specs.Answer.{numberOf}
-use Rattle.log.specs.Machine.{Machine, Call, after, logOf}
-use Rattle.association_log.specs.Association.{ReplyIn, rule, replied, machine}
+use Rattle.laws_log.specs.Machine.{Machine, Call, after, logOf}
+use Rattle.laws.specs.Association.{ReplyIn, rule, replied, machine}
 use Rattle.laws.specs.Along.{withReply}
 
 -- promise no7.2: Over any log the remote minimum never falls.

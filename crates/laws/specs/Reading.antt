@@ -1,11 +1,11 @@
--- Statements on what the walk of `fields` reads from fields that were written; the theorems of proofs/Reading.antt prove them.
+-- Statements on what the walk of `wire_fields` reads from fields that were written; the theorems of proofs/Reading.antt prove them.
 -- Assumes nothing.
 use Prim.Native.Nat.{ℕ, _+_, _-_, _%_, _≤_, _<_}
 use mathlib.Core.Path.{_≡_}
 use mathlib.Core.List.{List, [], _∷_}
 use lib.ListN.{length}
-use Rattle.fields.specs.Walk.{Found, Walk, field}
-use Rattle.request.specs.Extension.{Extension}
+use Rattle.wire_fields.specs.Walk.{Found, Walk, field}
+use Rattle.wire_request.specs.Extension.{Extension}
 
 -- a field that a packet's walk accepts: type and length fit two bytes each; the length covers head and body, is a multiple of four and at least 16
 pub record Legible (e : Extension) : Type 0 where

@@ -1,5 +1,5 @@
 -- The association as a machine of timers, saves and replies (RULES, No. 6): a save appears in a log where a timer may, with its own number, and asks for
--- nothing. The log's rule is that of `association_log`. Statements about timers and replies alone are about what was done without the saves.
+-- nothing. The log's rule is that of specs/Association.antt. Statements about timers and replies alone are about what was done without the saves.
 -- Assumes nothing.
 use mathlib.Core.Path.{_≡_}
 use mathlib.Core.Bool.{false}
@@ -16,9 +16,9 @@ use Rattle.reply.specs.declared.Replied.{Replied}
 use Rattle.reply_rules.specs.Answer as reply
 use Rattle.handover_file.specs.declared.SaveAnswer.{SaveAnswer}
 use Rattle.handover_file.specs.Answers.{saveNumber, saveOf, bufferOf}
-use Rattle.log.specs.Log.{Rule}
-use Rattle.log.specs.Machine.{Machine, Done, ofTimer, ofReply}
-use Rattle.association_log.specs.Association.{TimerIn, ReplyIn, pendingIn, rule, timed, replied, machine}
+use Rattle.laws_log.specs.Log.{Rule}
+use Rattle.laws_log.specs.Machine.{Machine, Done, ofTimer, ofReply}
+use Rattle.laws.specs.Association.{TimerIn, ReplyIn, pendingIn, rule, timed, replied, machine}
 
 -- a timer with its inputs, or a save with the buffer that is lent
 pub data Tick : Type 0 where

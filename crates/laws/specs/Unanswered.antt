@@ -6,8 +6,8 @@ use Prim.Native.Nat.{ℕ, _+_, min}
 use lib.Dec.{eqb}
 use Rattle.association.specs.declared.Association.{Association}
 use Rattle.timer.specs.Numbers.{triesPoll}
-use Rattle.log.specs.Log.{Entry, timed, replied}
-use Rattle.association_log.specs.Association.{rule}
+use Rattle.laws_log.specs.Log.{Entry, timed, replied}
+use Rattle.laws.specs.Association.{rule}
 
 abbrev pub unansweredIn : Association → ℕ
 unansweredIn a = a .state .effort .unanswered

@@ -4,27 +4,25 @@ use Prim.Native.Nat.{ℕ}
 use mathlib.Core.Path.{_≡_, refl, sym, ap, subst, _∙_}
 use mathlib.Core.Bool.{Bool, true, false, cond}
 use mathlib.Core.List.{List}
-use native.Mathlib.Omega.{arith}
-use borrow.Author.Tests.{ne-eqb, eq-eqb}
+use borrow.Author.Tests.{eqb-true}
 use lib.Dec.{eqb}
 use lib.ListN.{length, replicate}
-use Rattle.words.proofs.Tests.{either, when, unless}
-use Rattle.cookielist.specs.List.{listBroken}
 use Rattle.cookiestash.specs.declared.CookieStash.{CookieStash}
 use Rattle.cookiestash.specs.declared.Dropped.{Dropped}
 use Rattle.cookiestash.specs.Stash as Stash
 use Rattle.cookiestash.specs.StoreList.{storeListOf}
 use Rattle.cookiestash.specs.Falling.{noneDropped, droppedOf}
-use Rattle.version.specs.Upgrade.{upgrading}
 use Rattle.association.specs.declared.Settings.{Settings}
 use Rattle.association.specs.declared.State.{State}
 use Rattle.association.specs.declared.Association.{Association}
+use Rattle.association.specs.declared.NewAnswer.{NewAnswer}
 use Rattle.association.specs.declared.NewOut.{NewOut}
-use Rattle.association.specs.Settings.{settingsValid}
 use Rattle.association.specs.Record.{freshOf, withStash}
-use Rattle.association.specs.New.{numberOf, madeOf, firstDropped, newMade, newOf}
-use Rattle.metered.specs.Profile as Profile
-use Rattle.metered.proofs.Plain.{plain-made, same-record, same-dropped}
+use Rattle.association.specs.New.{numberOf, madeOf, firstDropped, newOf}
+use Rattle.association.proofs.Numbers.{is-made}
+use Rattle.association_metered.specs.declared.ProfileAnswer.{ProfileAnswer}
+use Rattle.association_metered.specs.Profile as Profile
+use Rattle.association_metered.proofs.Plain.{plain-made, same-record, same-dropped}
 use Rattle.record_stash.specs.Rows.{sizedIn, Sized}
 use Rattle.record_stash.specs.Slots.{Refilled, refilled, refilledIn}
 use Rattle.record_stash.proofs.Zeros.{cleared}
@@ -74,74 +72,49 @@ module _ (s : Settings) where
 
 -- ---- the calls, by what was tested
 
--- what a call gives, whatever its answers are: number 0 makes the association where the bytes fit it
-pub record Calls {A B : Type 0} (number : B → ℕ) (says : B → A) (wrong : A) (s : Settings) (list b : List ℕ) (is : B) (call : Call A) : Type 0 where
-  pub refuses : (number is ≡ 0 → ⊥) → gave (says is) noneDropped (replicate (length b) 0) ≡ call
-  pub misfits : number is ≡ 0 → sizedIn b (s .capacity) ≡ false → gave wrong noneDropped b ≡ call
-  pub makes : number is ≡ 0 → sizedIn b (s .capacity) ≡ true → gave (says is) (firstDropped s list) (packed (madeOf s list)) ≡ call
-
-module _ {A B : Type 0} (number : B → ℕ) (says : B → A) (wrong : A) (s : Settings) (list b : List ℕ) (is : B) (d : Dropped) (a : Association) where
-  abbrev made : Call A
-  made = gave (says is) d (packed a)
-
-  abbrev misfit : Call A
-  misfit = gave wrong noneDropped b
-
-  abbrev cleared-all : Call A
-  cleared-all = gave (says is) noneDropped (replicate (length b) 0)
-
-  fits : number is ≡ 0 → madeIn b (s .capacity) (number is) (says is) wrong d a ≡ cond (sizedIn b (s .capacity)) made misfit
-  fits e = when (cond (sizedIn b (s .capacity)) made misfit) cleared-all (eq-eqb (number is) 0 e)
-
-  calls-by : (number is ≡ 0 → (d ≡ firstDropped s list) × (a ≡ madeOf s list)) →
-      Calls number says wrong s list b is (madeIn b (s .capacity) (number is) (says is) wrong d a)
-  calls-by m =
-      record {
-        refuses = λ h. sym (unless (cond (sizedIn b (s .capacity)) made misfit) cleared-all (ne-eqb (number is) 0 h));
-        misfits = λ e z. sym (fits e ∙ unless made misfit z);
-        makes = λ e z. (λ i. gave (says is) (sym (m e .0) i) (packed (sym (m e .1) i))) ∙ sym (fits e ∙ when made misfit z);
-      }
-
--- what the code gives, of the test's result and its number: one law for both calls
-module _ {A B : Type 0} {number : B → ℕ} {says : B → A} {wrong : A} {s : Settings} {list b : List ℕ} {is : B} {call : Call A}
-    (k : Calls number says wrong s list b is call) (x : B) (ex : x ≡ is) (n : ℕ) (en : n ≡ number x) where
-  number-is : n ≡ number is
-  number-is = en ∙ ap number ex
-
-  pub told-refused : (n ≡ 0 → ⊥) → {d : Dropped} {c : List ℕ} → d ≡ noneDropped → c ≡ replicate (length b) 0 → gave (says x) d c ≡ call
-  told-refused h p q = (λ i. gave (says (ex i)) (p i) (q i)) ∙ k .refuses (λ e. h (number-is ∙ e))
-
-  module _ (e : n ≡ 0) where
-    pub told-wrong : sizedIn b (s .capacity) ≡ false → {d : Dropped} → d ≡ noneDropped → gave wrong d b ≡ call
-    told-wrong z p = (λ i. gave wrong (p i) b) ∙ k .misfits (sym number-is ∙ e) z
-
-    pub told-made : sizedIn b (s .capacity) ≡ true → {d : Dropped} {c : List ℕ} → refilled d c ≡ refilled (firstDropped s list) (packed (madeOf s list)) →
-        gave (says x) d c ≡ call
-    told-made z g = (λ i. gave (says (ex i)) (g i .dropped) (g i .bytes)) ∙ k .makes (sym number-is ∙ e) z
-
 module _ (s : Settings) (list : List ℕ) where
-  -- number 0 is the association that is made
-  abbrev IsMade : NewOut → Type 0
-  IsMade o = numberOf (o .answer) ≡ 0 → o ≡ newMade s list
+  -- what is made where the number is 0: what fell out, and the association
+  abbrev Makes : ℕ → Dropped → Association → Type 0
+  Makes n d a = n ≡ 0 → (d ≡ firstDropped s list) × (a ≡ madeOf s list)
 
-  is-made : IsMade (newOf s list)
-  unfolding newOf
-  is-made =
-      either IsMade (settingsValid s)
-      (λ v. either IsMade (listBroken (s .nts) list) (λ l e. absurd (omega arith))
-      (λ l. either IsMade (upgrading (s .start .kind)) (λ u e. absurd (omega arith)) (λ u e. refl)))
-      (λ v e. absurd (omega arith))
+  made-parts : Makes (numberOf (newOf s list .answer)) (newOf s list .dropped) (newOf s list .association)
+  made-parts e = (ap (λ (o : NewOut). o .dropped) (is-made s list e), ap (λ (o : NewOut). o .association) (is-made s list e))
 
-  made-parts : numberOf (newOf s list .answer) ≡ 0 → (newOf s list .dropped ≡ firstDropped s list) × (newOf s list .association ≡ madeOf s list)
-  made-parts e = (ap (λ (o : NewOut). o .dropped) (is-made e), ap (λ (o : NewOut). o .association) (is-made e))
+  module _ (b : List ℕ) where
+    -- the bytes and what fell out, as `place` leaves them: they are the same whatever the answers are
+    abbrev placed : ℕ → Call Bool
+    placed n = madeIn b (s .capacity) n true false (firstDropped s list) (madeOf s list)
 
-  pub new-calls : (b : List ℕ) → Calls numberOf N.Said N.WrongSize s list b (newOf s list .answer) (newCall s list b)
-  unfolding newCall
-  new-calls b = let o = newOf s list in calls-by numberOf N.Said N.WrongSize s list b (o .answer) (o .dropped) (o .association) made-parts
+    module _ {A : Type 0} (said wrong : A) where
+      abbrev answered : Call Bool → Call A
+      answered k = gave (cond (k .answer) said wrong) (k .dropped) (k .bytes)
 
-  pub metered-calls : (b : List ℕ) → Calls Profile.numberOf M.Said M.WrongSize s list b (Profile.profileOf s list) (meteredCall s list b)
-  unfolding meteredCall Profile.meteredOf
-  metered-calls b =
-      let o = Profile.meteredOf s list in
-      calls-by Profile.numberOf M.Said M.WrongSize s list b (o .answer) (o .dropped) (o .association)
-      (λ e. let p = made-parts (plain-made s list e) in (same-dropped s list e ∙ p .0, same-record s list e ∙ p .1))
+      placed-answered : (n : ℕ) (d : Dropped) (a : Association) → Makes n d a → answered (placed n) ≡ madeIn b (s .capacity) n said wrong d a
+      placed-answered n d a m = by (eqb n 0) (sizedIn b (s .capacity)) refl refl
+        where
+          by : (t z : Bool) → eqb n 0 ≡ t → sizedIn b (s .capacity) ≡ z → answered (placed n) ≡ madeIn b (s .capacity) n said wrong d a
+          by true true e f = let p = m (eqb-true n 0 e) in rw (e, f, p .0, p .1)
+          by true false e f = rw (e, f)
+          by false z e f = rw e
+
+    -- what the code gives, of what it was told and its number, and of what `place` gave: one law for both calls
+    pub told : {A B : Type 0} (number : B → ℕ) (says : B → A) (wrong : A) (is : B) (d : Dropped) (a : Association) → Makes (number is) d a →
+        (x : B) → x ≡ is → (n : ℕ) → n ≡ number x → {f : Bool} {e : Dropped} {c : List ℕ} → gave f e c ≡ placed n →
+        gave (cond f (says x) wrong) e c ≡ madeIn b (s .capacity) (number is) (says is) wrong d a
+    told number says wrong is d a m x ex n en k =
+        (λ i. answered (says (ex i)) wrong (k i))
+        ∙ ap (λ (j : ℕ). answered (says is) wrong (placed j)) (en ∙ ap number ex)
+        ∙ placed-answered (says is) wrong (number is) d a m
+
+    pub new-told : {x : NewAnswer} → x ≡ newOf s list .answer → {n : ℕ} → n ≡ numberOf x → {f : Bool} {d : Dropped} {c : List ℕ} → gave f d c ≡ placed n →
+        gave (cond f (N.Said x) N.WrongSize) d c ≡ newCall s list b
+    unfolding newCall
+    new-told ex en k = let o = newOf s list in told numberOf N.Said N.WrongSize (o .answer) (o .dropped) (o .association) made-parts _ ex _ en k
+
+    pub metered-told : {x : ProfileAnswer} → x ≡ Profile.profileOf s list → {n : ℕ} → n ≡ Profile.numberOf x → {f : Bool} {d : Dropped} {c : List ℕ} →
+        gave f d c ≡ placed n → gave (cond f (M.Said x) M.WrongSize) d c ≡ meteredCall s list b
+    unfolding meteredCall Profile.meteredOf
+    metered-told ex en k =
+        let o = Profile.meteredOf s list in
+        told Profile.numberOf M.Said M.WrongSize (o .answer) (o .dropped) (o .association)
+        (λ e. let p = made-parts (plain-made s list e) in (same-dropped s list e ∙ p .0, same-record s list e ∙ p .1)) _ ex _ en k

@@ -11,7 +11,7 @@ use Rattle.cookiestash.specs.Falling.{noneDropped}
 use Rattle.association.specs.declared.Settings.{Settings}
 use Rattle.association.specs.declared.Association.{Association}
 use Rattle.association.specs.New as New
-use Rattle.metered.specs.Profile as Profile
+use Rattle.association_metered.specs.Profile as Profile
 use Rattle.record_stash.specs.Rows.{sizedIn}
 use Rattle.record_bytes.specs.Record.{packed}
 use Rattle.record_new.specs.declared.NewInBytes.{NewInBytes}
@@ -43,7 +43,7 @@ gave r d b = record { answer = r; dropped = d; bytes = b }
 -- number 0: the association goes into the bytes, if their number fits its capacity; any other: all are zero
 -- promise exports.4: `new`, `metered` and `load` answer 31 if the number of bytes is not that of the capacity, after every other rejection; the bytes stay.
 --     Every other rejection leaves the bytes zero.
---     edit: record_new/bytes_of_a_wrong_size_are_cleared, record_load/a_wrong_size_is_answered_as_settings
+--     edit: record_new/bytes_of_a_wrong_size_are_cleared, record_files/a_wrong_size_is_answered_as_settings
 abbrev pub madeIn : {A : Type 0} → List ℕ → ℕ → ℕ → A → A → Dropped → Association → Call A
 madeIn b cap number said wrong d a =
     cond (eqb number 0)

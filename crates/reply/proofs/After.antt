@@ -13,7 +13,7 @@ use Rattle.time_types.proofs.Rate.{rate-keeps}
 use Rattle.association.specs.declared.Association.{Association}
 use Rattle.association.specs.declared.Polls.{Polls}
 use Rattle.association.specs.Record.{noPending, withState}
-use Rattle.incoming.specs.declared.ReplyRead.{ReplyRead}
+use Rattle.wire_incoming.specs.declared.ReplyRead.{ReplyRead}
 use Rattle.reply_clauses.specs.After.{Arrival, stepped, afterRateKiss, afterDenial, afterMeasured}
 use Rattle.reply_clauses.proofs.Remote.{raised-keeps}
 use Rattle.reply.specs.declared.ReplyOut.{ReplyOut}

@@ -8,7 +8,7 @@ use Rattle.cookiestash.specs.StoreList.{storeListOf}
 use Rattle.cookiestash.specs.Falling.{noneDropped, droppedOf}
 use Rattle.cookiestash.specs.Whole.{seenOf}
 use Rattle.association.specs.declared.Association.{Association}
-use Rattle.incoming.specs.declared.ReplyRead.{ReplyRead}
+use Rattle.wire_incoming.specs.declared.ReplyRead.{ReplyRead}
 use Rattle.reply_clauses.specs.After.{Arrival}
 use Rattle.reply_rules.specs.declared.Verdict.{Verdict}
 use Rattle.reply_rules.specs.Judge.{verdictOf}

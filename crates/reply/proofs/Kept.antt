@@ -18,7 +18,7 @@ use Rattle.association.specs.declared.Association.{Association}
 use Rattle.association.specs.Record.{noPending, versionsValid, pendingValid, idleValid}
 use Rattle.association.specs.Whole.{Whole}
 use Rattle.association.proofs.Whole.{versions-kept}
-use Rattle.incoming.specs.declared.ReplyRead.{ReplyRead}
+use Rattle.wire_incoming.specs.declared.ReplyRead.{ReplyRead}
 use Rattle.reply_clauses.specs.After.{Arrival, stepped, afterRateKiss, afterDenial, afterMeasured}
 use Rattle.reply.specs.declared.ReplyOut.{ReplyOut}
 use Rattle.reply.specs.Reply.{repliedOf}

@@ -10,9 +10,9 @@ use lib.IntN.{ℤ, pos, negsuc}
 use lib.Signed.{ltZ}
 use Rattle.time_types.specs.Poll.{larger}
 use Rattle.association.specs.declared.Association.{Association}
-use Rattle.incoming.specs.declared.Reply.{Reply}
-use Rattle.incoming.specs.declared.ReplyRead.{ReplyRead}
-use Rattle.incoming.specs.declared.ReplyRead.the-variants as R
+use Rattle.wire_incoming.specs.declared.Reply.{Reply}
+use Rattle.wire_incoming.specs.declared.ReplyRead.{ReplyRead}
+use Rattle.wire_incoming.specs.declared.ReplyRead.the-variants as R
 use Rattle.reply_clauses.specs.After.{Arrival, stepped, raised, afterMeasured}
 use Rattle.reply_rules.specs.Answer.{numberOf}
 use Rattle.reply.specs.declared.ReplyOut.{ReplyOut}

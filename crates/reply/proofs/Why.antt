@@ -6,8 +6,8 @@ use mathlib.Core.Logic.{_↔_}
 use Prim.Native.Nat.{ℕ}
 use lib.Dec.{T}
 use Rattle.association.specs.declared.Association.{Association}
-use Rattle.incoming.specs.declared.Reply.{Reply}
-use Rattle.incoming.specs.declared.ReplyRead.{ReplyRead}
+use Rattle.wire_incoming.specs.declared.Reply.{Reply}
+use Rattle.wire_incoming.specs.declared.ReplyRead.{ReplyRead}
 use Rattle.reply_rules.specs.Answer.{numberOf}
 use Rattle.reply_clauses.specs.After.{Arrival, neverSent, alreadyMeasured, expired}
 use Rattle.reply_clauses.specs.Why.{OnlyOne, first, second, third}

@@ -10,9 +10,9 @@ use Rattle.cookiestash.specs.Falling.{noneDropped, droppedOf}
 use Rattle.version.specs.Upgrade.{expectsOf}
 use Rattle.association.specs.declared.Association.{Association}
 use Rattle.association.specs.Record.{wholeOf, withState, withStash}
-use Rattle.incoming.specs.declared.Reply.{Reply}
-use Rattle.incoming.specs.declared.ReplyRead.{ReplyRead}
-use Rattle.incoming.specs.declared.ReplyRead.the-variants as R
+use Rattle.wire_incoming.specs.declared.Reply.{Reply}
+use Rattle.wire_incoming.specs.declared.ReplyRead.{ReplyRead}
+use Rattle.wire_incoming.specs.declared.ReplyRead.the-variants as R
 use Rattle.reply_rules.specs.declared.ReplyAnswer.the-variants.{
   Measured,
   Undecodable,

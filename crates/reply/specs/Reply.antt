@@ -8,10 +8,10 @@ use Rattle.cookiestash.specs.StoreList.{storeListOf}
 use Rattle.cookiestash.specs.Falling.{noneDropped, droppedOf}
 use Rattle.cookiestash.specs.Whole.{seenOf}
 use Rattle.association.specs.declared.Association.{Association}
-use Rattle.incoming.specs.declared.ReplyRead.{ReplyRead}
-use Rattle.incoming.specs.declared.ReplyRead.the-variants.{Decoded}
-use Rattle.incoming.specs.declared.DecodedReply.{DecodedReply}
-use Rattle.incoming.specs.Incoming.{decodedOf}
+use Rattle.wire_incoming.specs.declared.ReplyRead.{ReplyRead}
+use Rattle.wire_incoming.specs.declared.ReplyRead.the-variants.{Decoded}
+use Rattle.wire_incoming.specs.declared.DecodedReply.{DecodedReply}
+use Rattle.wire_incoming.specs.Incoming.{decodedOf}
 use Rattle.reply_rules.specs.declared.ReplyAnswer.{ReplyAnswer}
 use Rattle.reply_rules.specs.declared.Verdict.{Verdict}
 use Rattle.reply_clauses.specs.After.{Arrival}

@@ -3,10 +3,10 @@
 // Rule: RULES, part 11 and No. 5; definitions in specs/Reply.antt, number by number in specs/Numbers.antt.
 use association::Association;
 use cookiestash::Dropped;
-use incoming::DecodedReply;
 use reply_rules::ReplyAnswer;
 use reply_rules::Verdict;
 use time_types::NtpTimestamp;
+use wire_incoming::DecodedReply;
 ghost use mathlib.Core.Path.{_≡_};
 ghost use Rattle.reply_clauses.specs.After.{arrival};
 ghost use Rattle.reply.specs.Reply.{judged, replyOf, replyDecodedOf};

@@ -5,7 +5,7 @@ use lib.Signed.{_≤ℤ_, ≤ℤ-refl}
 use Rattle.words.proofs.Tests.{either}
 use Rattle.time_types.specs.declared.PollInterval.{PollInterval}
 use Rattle.time_types.proofs.Rate.{larger-left}
-use Rattle.incoming.specs.declared.Reply.{Reply}
+use Rattle.wire_incoming.specs.declared.Reply.{Reply}
 use Rattle.reply_clauses.specs.After.{raised}
 
 -- promise: 11.8

@@ -4,9 +4,9 @@ use mathlib.Core.Path.{_≡_, ap}
 use mathlib.Core.Bool.{Bool, false, not, _&&_, _||_}
 use Prim.Native.Nat.{ℕ}
 use lib.Dec.{eqb}
-use Rattle.uid_groups.specs.declared.Uid.{Uid}
-use Rattle.uid_groups.proofs.Untrusted.{untrusted-idle}
-use Rattle.incoming.specs.declared.Reply.{Reply}
+use Rattle.wire_groups.specs.declared.Uid.{Uid}
+use Rattle.wire_groups.proofs.Untrusted.{untrusted-idle}
+use Rattle.wire_incoming.specs.declared.Reply.{Reply}
 use Rattle.reply_clauses.specs.After.{answers}
 
 -- the same reply, with another untrusted group

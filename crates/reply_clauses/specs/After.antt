@@ -10,12 +10,12 @@ use Rattle.time_types.specs.declared.NtpTimestamp.{NtpTimestamp}
 use Rattle.time_types.specs.declared.PollInterval.{PollInterval}
 use Rattle.time_types.specs.Time.{timestamp, duration, delayOf, offsetOf, localTime}
 use Rattle.time_types.specs.Poll.{interval, larger, afterRate}
-use Rattle.uid_groups.specs.Matching.{uidMatches}
+use Rattle.wire_groups.specs.Matching.{uidMatches}
 use Rattle.association.specs.declared.Settings.{Settings}
 use Rattle.association.specs.declared.State.{State}
 use Rattle.association.specs.declared.Pending.{Pending}
 use Rattle.association.specs.Record.{noPending}
-use Rattle.incoming.specs.declared.Reply.{Reply}
+use Rattle.wire_incoming.specs.declared.Reply.{Reply}
 use Rattle.reply_clauses.specs.declared.Measurement.{Measurement}
 
 -- what comes with a reply of either form: its cookie list, T1, T4 and now
@@ -44,7 +44,7 @@ noLive q time = not (q .present) || ltb (q .deadline) time
 
 -- 12: never sent: nothing is pending, and no reply has been measured since the last sent poll
 -- promise 11.2: Number 12: never sent. 13: already measured. 14: the deadline of the pending request < now.
---     edit: reply_rules/expiry_clears_the_request, reply_clauses/an_expired_reply_is_believed, edge_cases/a_request_lives_a_moment_longer
+--     edit: reply_rules/expiry_clears_the_request, reply_clauses/an_expired_reply_is_believed, laws_cases/a_request_lives_a_moment_longer
 abbrev pub neverSent : Pending → Bool
 neverSent q = not (q .present) && not (q .answered)
 

@@ -7,13 +7,13 @@ use association::Polls;
 use association::Settings;
 use association::Source;
 use association::State;
-use header::Kisses;
-use incoming::NtpLeapIndicator;
-use incoming::Reply;
 use time_types::Exchange;
 use time_types::NtpDuration;
 use time_types::NtpTimestamp;
 use time_types::PollInterval;
+use wire_header::Kisses;
+use wire_incoming::NtpLeapIndicator;
+use wire_incoming::Reply;
 ghost use mathlib.Core.Path.{_≡_};
 ghost use mathlib.Core.Bool.{_||_};
 ghost use Rattle.reply_clauses.specs.After.{neverSent, alreadyMeasured, expired, answers, stepped, afterRateKiss};
@@ -85,7 +85,7 @@ pub fn answers(nts: bool, id: u64, reply: Reply) -> bool
     let encrypted = reply.encrypted;
     let untrusted = reply.untrusted;
     let kisses = reply.kisses;
-    uid_groups::uid_matches(authenticated, encrypted, untrusted, kisses.ntsn)
+    wire_groups::uid_matches(authenticated, encrypted, untrusted, kisses.ntsn)
 }
 
 // promise: 11.5

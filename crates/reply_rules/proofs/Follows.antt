@@ -7,7 +7,7 @@ use Rattle.cookielist.specs.List.{listBroken}
 use Rattle.version.specs.Upgrade.{expectsOf}
 use Rattle.association.specs.declared.Settings.{Settings}
 use Rattle.association.specs.declared.State.{State}
-use Rattle.incoming.specs.declared.Reply.{Reply}
+use Rattle.wire_incoming.specs.declared.Reply.{Reply}
 use Rattle.reply_clauses.specs.declared.Measurement.{Measurement}
 use Rattle.reply_clauses.specs.After.{
   Arrival,

@@ -4,8 +4,8 @@ use mathlib.Core.Path.{_≡_, refl}
 use mathlib.Core.Bool.{Bool, true, false, cond}
 use mathlib.Core.List.{List}
 use Prim.Native.Nat.{ℕ}
-use Rattle.incoming.specs.Incoming.{readOf}
-use Rattle.incoming.proofs.WithoutNts.{without-nts}
+use Rattle.wire_incoming.specs.Incoming.{readOf}
+use Rattle.wire_incoming.proofs.WithoutNts.{without-nts}
 
 pub read-awaited : (nts : Bool) (uid other : List ℕ) (p : List ℕ) (end : ℕ) (decrypted : List ℕ) →
     readOf nts (cond nts uid other) p end decrypted ≡ readOf nts uid p end decrypted

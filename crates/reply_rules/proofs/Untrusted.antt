@@ -2,10 +2,10 @@
 -- Assumes nothing.
 use mathlib.Core.Path.{_≡_}
 use mathlib.Core.Bool.{false}
-use Rattle.uid_groups.specs.declared.Uid.{Uid}
+use Rattle.wire_groups.specs.declared.Uid.{Uid}
 use Rattle.association.specs.declared.Settings.{Settings}
 use Rattle.association.specs.declared.State.{State}
-use Rattle.incoming.specs.declared.Reply.{Reply}
+use Rattle.wire_incoming.specs.declared.Reply.{Reply}
 use Rattle.reply_clauses.specs.After.{Arrival, afterMeasured, measurementOf}
 use Rattle.reply_clauses.proofs.Untrusted.{withUntrusted, answers-same}
 use Rattle.reply_rules.specs.Judge.{matchedOf, judgeOf}

@@ -12,10 +12,10 @@ use Rattle.time_types.specs.declared.NtpTimestamp.{NtpTimestamp}
 use Rattle.association.specs.declared.Settings.{Settings}
 use Rattle.association.specs.declared.State.{State}
 use Rattle.association.specs.Record.{wholeSeen}
-use Rattle.incoming.specs.declared.Reply.{Reply}
-use Rattle.incoming.specs.declared.ReplyRead.{ReplyRead}
-use Rattle.incoming.specs.declared.ReplyRead.the-variants as R
-use Rattle.incoming.specs.Incoming.{readOf}
+use Rattle.wire_incoming.specs.declared.Reply.{Reply}
+use Rattle.wire_incoming.specs.declared.ReplyRead.{ReplyRead}
+use Rattle.wire_incoming.specs.declared.ReplyRead.the-variants as R
+use Rattle.wire_incoming.specs.Incoming.{readOf}
 use Rattle.reply_rules.specs.declared.ReplyAnswer.{ReplyAnswer}
 use Rattle.reply_rules.specs.declared.ReplyAnswer.the-variants.{
   Measured,

@@ -7,7 +7,7 @@ use lib.Dec.{eqb, ltb}
 use Rattle.time_types.specs.declared.NtpTimestamp.{NtpTimestamp}
 use Rattle.association.specs.declared.Settings.{Settings}
 use Rattle.association.specs.declared.State.{State}
-use Rattle.incoming.specs.declared.Reply.{Reply}
+use Rattle.wire_incoming.specs.declared.Reply.{Reply}
 use Rattle.reply_clauses.specs.After.{stepped, afterRateKiss, afterDenial, afterMeasured}
 use Rattle.reply_rules.specs.declared.ReplyAnswer.{ReplyAnswer}
 use Rattle.reply_rules.specs.declared.Verdict.{Verdict}

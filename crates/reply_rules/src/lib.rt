@@ -5,20 +5,19 @@ use association::Pending;
 use association::Settings;
 use association::State;
 use cookiestash::Seen;
-use incoming::DecodedReply;
-use incoming::Reply;
-use incoming::ReplyRead;
 use reply_clauses::Measurement;
 use time_types::NtpTimestamp;
+use wire_incoming::DecodedReply;
+use wire_incoming::Reply;
+use wire_incoming::ReplyRead;
 ghost use mathlib.Core.Path.{_≡_};
 ghost use mathlib.Core.Bool.{cond, _||_};
 ghost use lib.ListN.{replicate};
-ghost use Rattle.incoming.specs.declared.ReplyRead.the-variants.{Decoded};
-ghost use Rattle.incoming.specs.Incoming.{decodedOf};
+ghost use Rattle.wire_incoming.specs.declared.ReplyRead.the-variants.{Decoded};
+ghost use Rattle.wire_incoming.specs.Incoming.{decodedOf};
 ghost use Rattle.reply_rules.specs.Answer.{numberOf};
 ghost use Rattle.reply_clauses.specs.After.{arrival};
-ghost use Rattle.cookielist.specs.List.{listBroken};
-ghost use Rattle.reply_rules.specs.Judge.{judgeOf, verdictOf, readWith};
+ghost use Rattle.reply_rules.specs.Judge.{leaves, judgeOf, verdictOf, readWith};
 ghost use Rattle.reply_rules.specs.Told.{Matched, afterOf, storesOf, toldOf};
 
 pub enum ReplyAnswer {
@@ -52,17 +51,6 @@ pub struct Verdict {
 
 // The largest stratum of a server.
 const MAX_STRATUM: u8 = 16;
-
-// A cookie list counts only with NTS.
-fn list_broken(nts: bool, list: &[u8]) -> bool
-    ensures { λ r. ⌜ r ≡ listBroken nts (now (list .entry)) ⌝ }
-{
-    if nts {
-        !cookielist::list_whole(list)
-    } else {
-        false
-    }
-}
 
 // The answer to a matching reply: 5 to 11 in order, otherwise 0.
 fn matched(
@@ -117,7 +105,7 @@ fn judge(
 ) -> ReplyAnswer
     ensures { λ r. ⌜ r ≡ judgeOf settings s reply (arrival (now (list .entry)) t1 t4 time) .answer ⌝ }
 {
-    if list_broken(settings.nts, list) {
+    if cookielist::list_broken(settings.nts, list) {
         return ReplyAnswer::BrokenList;
     }
     let version = s.version;
@@ -187,6 +175,17 @@ fn told(settings: Settings, s: State, reply: Reply, answer: ReplyAnswer) -> Verd
     }
 }
 
+// The answer and the next state, with no cookie stored.
+fn leaves(answer: ReplyAnswer, state: State) -> Verdict
+    ensures { λ r. ⌜ r ≡ leaves answer state ⌝ }
+{
+    Verdict {
+        answer,
+        state,
+        stores: false,
+    }
+}
+
 // The unique identifier that a reply must have. Without NTS there is none.
 fn awaited(nts: bool, request: Pending) -> [u8; 32]
     ensures { λ r. ⌜ r ≡ cond nts (request .uid) (replicate 32 0) ⌝ }
@@ -216,21 +215,18 @@ pub fn judge_packet(
         (arrival (now (list .entry)) t1 t4 time) ⌝ }
 {
     if !association::whole_seen(settings, seen, s) {
-        return Verdict {
-            answer: ReplyAnswer::NotWhole,
-            state: s,
-            stores: false,
-        };
+        return leaves(ReplyAnswer::NotWhole, s);
     }
     let request = s.request;
     let uid = awaited(settings.nts, request);
-    let ReplyRead::Decoded(reply) = incoming::read_reply(settings.nts, uid, packet, end, decrypted)
-    else {
-        return Verdict {
-            answer: ReplyAnswer::Undecodable,
-            state: s,
-            stores: false,
-        };
+    let ReplyRead::Decoded(reply) = wire_incoming::read_reply(
+        settings.nts,
+        uid,
+        packet,
+        end,
+        decrypted,
+    ) else {
+        return leaves(ReplyAnswer::Undecodable, s);
     };
     let answer = judge(settings, s, reply, list, t1, t4, time);
     told(settings, s, reply, answer)
@@ -251,11 +247,7 @@ pub fn judge_decoded(
     ensures { λ r. ⌜ r ≡ verdictOf settings s seen (Decoded (decodedOf d)) (arrival (now (list .entry)) t1 t4 time) ⌝ }
 {
     if !association::whole_seen(settings, seen, s) {
-        return Verdict {
-            answer: ReplyAnswer::NotWhole,
-            state: s,
-            stores: false,
-        };
+        return leaves(ReplyAnswer::NotWhole, s);
     }
     let reply = d.value();
     let answer = judge(settings, s, reply, list, t1, t4, time);

@@ -1,32 +1,22 @@
--- Laws of the salvaging loop: bytes copied into a buffer, a place noted, and how far the report and the buffer are at a step of the walk.
+-- Laws of the salvaging loop: a place noted, and how far the report and the buffer are at a step of the walk.
 -- Assumes nothing.
 use Prim.Native.Nat.{ℕ, suc, _+_, _-_, _≤_, _<_}
 use mathlib.Core.Path.{_≡_, refl, sym, ap, _∙_}
 use mathlib.Core.Bool.{Bool, true, false}
-use mathlib.Core.List.{List, [], _∷_, _++_, append-assoc, append-nil}
+use mathlib.Core.List.{List, [], _∷_, _++_, append-assoc}
 use native.Mathlib.Omega.{arith}
-use lib.ListN.{length, take, drop, set, replicate, length-append, length-take, length-drop, length-replicate, drop-of-length-le}
-use lib.Seq.{take-all, take-length, take-at, drop-at, drop-drop, take-add, length-take-le, take-append-le, drop-cons, set-at}
-use borrow.Rule.Slice.PartMut.{putMid}
+use lib.ListN.{length, take, drop, set, replicate, length-append, length-drop, drop-of-length-le}
+use lib.Seq.{take-all, take-length, length-take-le, take-append-le, drop-cons, set-at}
 use Rattle.words.specs.Bytes.{part}
+use Rattle.words.specs.Put.{Put}
 use Rattle.words.proofs.Bytes.{length-part}
+use Rattle.words.proofs.Put.{left-is, left-long, more-is, buffer-is}
 use Rattle.salvage.specs.declared.Found.the-variants.{Record, Nothing}
 use Rattle.salvage.specs.declared.Salvaged.{Salvaged}
 use Rattle.salvage.specs.Walk as S
 use Rattle.salvage.specs.Walk.{recordAt, walkFrom, walkOf}
 use Rattle.salvage.specs.Salvage.{keptIn, skippedIn, gapsFrom, gapsIn, placesOf, recordsIn, cleanOf, reportOf}
 use Rattle.salvage.proofs.Walks.{Kept, is-kept, walk-end, walk-kept, walk-skipped}
-
--- ---- bytes copied to an offset
-
-pub put-is : (out piece ys : List ℕ) (to : ℕ) → to + length piece ≤ length out →
-    ys ≡ take (length piece) piece ++ drop (length piece) (take (length out - to) (drop to out))
-    → putMid to (length out - to) out ys ≡ take to out ++ piece ++ drop (to + length piece) out
-put-is out piece ys to h e =
-    let k : drop (length out - to) (drop to out) ≡ [] = drop-of-length-le (drop to out) {i = length out - to} (simp length-drop (omega arith)) in
-    let a : take (length out - to) (drop to out) ≡ drop to out = take-all (length out - to) (drop to out) (simp length-drop (omega arith)) in
-    let y : ys ≡ piece ++ drop (to + length piece) out = e ∙ rw (a, take-length, drop-drop) in
-    rw (k, y) (simp (append-assoc, append-nil))
 
 -- ---- a place noted
 
@@ -52,27 +42,6 @@ module _ (m x : ℕ) (old found : List ℕ) (long : length old ≡ m) where
       let a : drop (length found) old ≡ [] = drop-of-length-le old {i = length found} (omega arith) in
       let b : drop (suc (length found)) old ≡ [] = drop-of-length-le old {i = suc (length found)} (omega arith) in
       rw (n, a, b, take-append-le m found (x ∷ []) h)
-
--- ---- a list of which a part is done goes on with R
-
-module _ (L R S : List ℕ) (to : ℕ) (h : to ≤ length L) (e : drop to L ≡ R ++ S) where
-  left-is : drop (to + length R) L ≡ S
-  left-is = sym (drop-drop (length R) to L) ∙ rw e (drop-at R S (length R) refl)
-
-  left-long : to + length R + length S ≡ length L
-  left-long = omega (arith, simp (length-drop, length-append) at (ap length e))
-
-  more-is : take (to + length R) L ≡ take to L ++ R
-  more-is = take-add to (length R) L ∙ rw e (ap (λ (r : List ℕ). take to L ++ r) (take-at R S (length R) refl))
-
-  buffer-is : (out₀ out : List ℕ) → out ≡ take to L ++ drop to out₀ →
-      take to out ++ R ++ drop (to + length R) out ≡ take (to + length R) L ++ drop (to + length R) out₀
-  buffer-is out₀ out q =
-      let n : length (take to L) ≡ to = length-take-le to L h in
-      let a : take to out ≡ take to L = rw q (take-at (take to L) (drop to out₀) to n) in
-      let b : drop to out ≡ drop to out₀ = rw q (drop-at (take to L) (drop to out₀) to n) in
-      let d : drop (to + length R) out ≡ drop (to + length R) out₀ = sym (drop-drop (length R) to out) ∙ rw b (drop-drop (length R) to out₀) in
-      rw (a, d, more-is) (simp append-assoc)
 
 -- what is done at an offset of the walk, and that it goes on with what the walk from there reports
 pub record Along (l out₀ out places : List ℕ) (at to kept skipped gaps : ℕ) (inGap : Bool) : Type 0 where
@@ -124,11 +93,11 @@ module _ (l out₀ out places : List ℕ) (at to kept skipped gaps : ℕ) (inGap
     w : walkFrom l at ≡ S.kept at end ∷ walkFrom l end
     w = walk-kept l at end h e
 
-    pub record-long : length (part l at (end - at)) ≡ end - at
+    record-long : length (part l at (end - at)) ≡ end - at
     record-long = length-part l at (end - at) (omega (arith, k .headed, k .within))
 
-    pub fits : length l ≤ length out₀ → to + (end - at) ≤ length out
-    fits room = omega (arith, i .toFew, i .long, room, k .headed, k .within)
+    pub fits : length l ≤ length out₀ → to + length (part l at (end - at)) ≤ length out
+    fits room = omega (arith, i .toFew, i .long, room, record-long, k .headed, k .within)
 
     ahead : drop to (cleanOf l) ≡ part l at (end - at) ++ recordsIn l (walkFrom l end)
     ahead = i .left ∙ ap (recordsIn l) w
@@ -136,28 +105,22 @@ module _ (l out₀ out places : List ℕ) (at to kept skipped gaps : ℕ) (inGap
     ahead-long : to + length (part l at (end - at)) + length (recordsIn l (walkFrom l end)) ≡ length (cleanOf l)
     ahead-long = left-long (cleanOf l) (part l at (end - at)) (recordsIn l (walkFrom l end)) to (i .upto) ahead
 
-    pub keep : (out′ : List ℕ) (to′ : ℕ) → to′ ≡ to + (end - at) → out′ ≡ take to out ++ part l at (end - at) ++ drop (to + (end - at)) out →
-        length out′ ≡ length out
-        → Along l out₀ out′ places end to′ (kept + 1) skipped gaps false
-    keep out′ to′ et eo el =
+    pub keep : (out′ : List ℕ) (to′ : ℕ) → Put out to (part l at (end - at)) to′ out′ → length out′ ≡ length out →
+        Along l out₀ out′ places end to′ (kept + 1) skipped gaps false
+    keep out′ to′ p el =
         let R = part l at (end - at) in
         let T = recordsIn l (walkFrom l end) in
-        let n : to′ ≡ to + length R = et ∙ ap (λ (m : ℕ). to + m) (sym record-long) in
         record {
           within = k .within;
           keptFew = omega (arith, i .keptFew, k .headed);
           skippedFew = omega (arith, i .skippedFew, k .headed);
           gapsFew = omega (arith, i .gapsFew, k .headed);
-          toFew = omega (arith, i .toFew, k .headed);
+          toFew = omega (arith, i .toFew, p .ends, record-long, k .headed);
           keeps = omega (arith, i .keeps, ap keptIn w);
           skips = omega (arith, i .skips, ap skippedIn w);
-          upto = omega (arith, n, ahead-long);
-          left = rw n (left-is (cleanOf l) R T to (i .upto) ahead);
-          buffer =
-              rw n
-              (eo
-              ∙ ap (λ (m : ℕ). take to out ++ R ++ drop (to + m) out) (sym record-long)
-              ∙ buffer-is (cleanOf l) R T to (i .upto) ahead out₀ out (i .buffer));
+          upto = omega (arith, p .ends, ahead-long);
+          left = rw (p .ends) (left-is (cleanOf l) R T to (i .upto) ahead);
+          buffer = p .leaves ∙ rw (p .ends) (buffer-is (cleanOf l) R T to (i .upto) ahead out₀ out (i .buffer));
           long = el ∙ i .long;
           gapsUpto = i .gapsUpto;
           gapsLeft = i .gapsLeft ∙ ap (gapsFrom inGap) w;

@@ -7,8 +7,10 @@ use native.Mathlib.Omega.{arith}
 use lib.ListN.{length, take, drop}
 use lib.Seq.{take-at}
 use Rattle.words.specs.Bytes.{part}
+use Rattle.words.specs.Put.{recordOf}
 use Rattle.words.proofs.Bytes.{Bytes, length-part}
-use Rattle.cookielist.specs.List.{AllShort, recordOf, listOf, cookiesIn, whole}
+use Rattle.words.proofs.Put.{record-long}
+use Rattle.cookielist.specs.List.{AllShort, listOf, cookiesIn, whole}
 use Rattle.cookielist.proofs.Reader.{Placed, placed}
 use Rattle.cookielist.proofs.RoundTrip.{record-again, short-again, list-read}
 use Rattle.salvage.specs.Walk.{Step, walkFrom, walkOf}
@@ -27,15 +29,15 @@ module _ (l : List ℕ) (bytes : Bytes l) (at end : ℕ) (k : Kept l at end) whe
   unfolding cookie
   cookie-is = rw (place .starts)
 
-  record-long : length (recordOf cookie) ≡ end - at
-  unfolding recordOf cookie
-  record-long = omega (arith, k .headed, k .within, length-part l (at + 4) (end - (at + 4)) (omega (arith, k .headed, k .within)))
+  whole-long : length (recordOf 0xC00E cookie) ≡ end - at
+  unfolding cookie
+  whole-long = record-long 0xC00E cookie ∙ omega (arith, k .headed, k .within, length-part l (at + 4) (end - (at + 4)) (omega (arith, k .headed, k .within)))
 
-  record-is : part l at (end - at) ≡ recordOf cookie
+  record-is : part l at (end - at) ≡ recordOf 0xC00E cookie
   unfolding part
   record-is =
-      let again : recordOf cookie ++ drop end l ≡ drop at l = rw cookie-is at (record-again l bytes at (k .start) end place) in
-      rw (← again) (take-at (recordOf cookie) (drop end l) (end - at) record-long)
+      let again : recordOf 0xC00E cookie ++ drop end l ≡ drop at l = rw cookie-is at (record-again l bytes at (k .start) end place) in
+      rw (← again) (take-at (recordOf 0xC00E cookie) (drop end l) (end - at) whole-long)
 
   cookie-short : length cookie ≤ 65535
   cookie-short = rw cookie-is at (short-again l bytes at (k .start) end place)

@@ -4,9 +4,7 @@
 use cookielist::Entry;
 use cookielist::RECORD_MARK;
 ghost use mathlib.Core.Path.{_≡_};
-ghost use Prim.Native.Nat.{_+_, _≤_};
-ghost use mathlib.Core.List.{_++_};
-ghost use lib.ListN.{length, take, drop};
+ghost use lib.ListN.{length};
 ghost use Rattle.salvage.specs.Walk.{markAt, followed, recordAt};
 ghost use Rattle.salvage.specs.Salvage.{salvageOf, bufferOf, refusedOf};
 
@@ -36,16 +34,10 @@ pub struct Salvaged {
 fn mark_at(list: &[u8], at: usize) -> bool
     ensures { λ r. ⌜ r ≡ markAt (now (list .entry)) at ⌝ }
 {
-    if list.len() < MARK_BYTES {
+    if !words::fits(list.len(), at, MARK_BYTES) {
         return false;
     }
-    if list.len() - MARK_BYTES < at {
-        return false;
-    }
-    if words::be16_at(list, at) != RECORD_MARK {
-        return false;
-    }
-    true
+    words::be16_at(list, at) == RECORD_MARK
 }
 
 // Whether the end or another mark follows a record.
@@ -79,17 +71,6 @@ fn record_at(list: &[u8], at: usize) -> Found
     }
 }
 
-// Copies a record's bytes to an offset of the buffer, and returns the offset after them.
-fn put_bytes(out: &mut [u8], to: usize, piece: &[u8]) -> usize
-    requires { ⌜ to + length (now piece) ≤ length (now out) ⌝ }
-    ensures { λ r. ⌜ (r ≡ to + length (now (piece .entry))) ×
-        (now (out .exit) ≡ take to (now (out .entry)) ++ now (piece .entry) ++ drop (to + length (now (piece .entry))) (now (out .entry))) ⌝ }
-{
-    let n = piece.len();
-    bytes::copy(piece, &mut out[to..]);
-    to + n
-}
-
 fn refused() -> Salvaged
     ensures { λ r. ⌜ r ≡ refusedOf ⌝ }
 {
@@ -121,7 +102,7 @@ pub fn salvage(list: &[u8], out: &mut [u8]) -> Salvaged
     while at < list.len() {
         match record_at(list, at) {
             Found::Record { end } => {
-                to = put_bytes(out, to, &list[at..end]);
+                to = words::lay(out, to, &list[at..end]);
                 kept = kept + 1;
                 in_gap = false;
                 at = end;

@@ -14,7 +14,7 @@ ghost use mathlib.Core.Path.{_≡_};
 ghost use Prim.Native.Nat.{_+_, _/_, min, max};
 ghost use Rattle.timer_rules.specs.Answer.{numberOf};
 ghost use Rattle.timer_rules.specs.Poll.{shortBuffer, startupOver, polled, triedOf, askedOf, deadlineOf, pendingOf};
-ghost use Rattle.timer_rules.specs.Decide.{sendOf, decideNts, decideOf};
+ghost use Rattle.timer_rules.specs.Decide.{leaves, sendOf, decideNts, decideOf};
 
 pub enum TimerAnswer {
     // A poll is sent: its kind and poll exponent; with NTS the length of its cookie and how many new ones it asks for.
@@ -186,6 +186,17 @@ fn pending(nts: bool, window: u64, input: TimerInput) -> Pending
     }
 }
 
+// The answer and the next state, with no cookie taken.
+fn leaves(answer: TimerAnswer, state: State) -> Decision
+    ensures { λ r. ⌜ r ≡ leaves answer state ⌝ }
+{
+    Decision {
+        answer,
+        state,
+        takes: false,
+    }
+}
+
 // Sends the poll. The cookie's length is `len`, 0 without a cookie, and `asked` new ones are asked for; `takes` says whether the oldest cookie is taken.
 fn send(
     settings: Settings,
@@ -225,11 +236,7 @@ fn decide_nts(settings: Settings, s: State, seen: Seen, input: TimerInput) -> De
     ensures { λ r. ⌜ r ≡ decideNts settings s seen input ⌝ }
 {
     if !seen.found {
-        return Decision {
-            answer: TimerAnswer::NoCookie,
-            state: s,
-            takes: false,
-        };
+        return leaves(TimerAnswer::NoCookie, s);
     }
     let count = asked(seen.gap, seen.len);
     // A poll that brings no new cookie would only use up the stash: the keys have to be exchanged again.
@@ -249,34 +256,18 @@ pub fn decide(settings: Settings, s: State, seen: Seen, input: TimerInput, room:
     ensures { λ r. ⌜ r ≡ decideOf settings s seen input room ⌝ }
 {
     if !association::whole_seen(settings, seen, s) {
-        return Decision {
-            answer: TimerAnswer::NotWhole,
-            state: s,
-            takes: false,
-        };
+        return leaves(TimerAnswer::NotWhole, s);
     }
     if short_buffer(settings, room) {
-        return Decision {
-            answer: TimerAnswer::ShortBuffer,
-            state: s,
-            takes: false,
-        };
+        return leaves(TimerAnswer::ShortBuffer, s);
     }
     if startup_over(settings, s) {
         // A server that denied us is not asked forever. A silent one may have moved, so it is looked up again.
         let source = s.source;
         if source.denial {
-            return Decision {
-                answer: TimerAnswer::Demobilize,
-                state: s,
-                takes: false,
-            };
+            return leaves(TimerAnswer::Demobilize, s);
         }
-        return Decision {
-            answer: TimerAnswer::Reset,
-            state: s,
-            takes: false,
-        };
+        return leaves(TimerAnswer::Reset, s);
     }
     let next = tried(s);
     if settings.nts {

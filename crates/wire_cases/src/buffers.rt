@@ -1,16 +1,16 @@
 // The calls that write into a lent buffer, with every byte of it (RFC 8915 sections 5.4 and 5.5; RULES, part 7 and No. 1).
 use crate::key;
 use crate::say;
-use collector::Collected;
 use drill_text::keys::Values;
 use drill_text::names::send;
 use drill_text::value;
 use drill_text::value::COLLECT_ROOM;
 use drill_text::value::REQUEST_ROOM;
 use drill_text::value::UID_BYTES;
-use request::Requested;
 use time_types::PollInterval;
 use version::SendKind;
+use wire_collector::Collected;
+use wire_request::Requested;
 
 // What a buffer holds before it is lent, so that one can tell written bytes from others.
 const FILLER: u8 = 0xee;
@@ -31,7 +31,7 @@ fn list_length(answer: Collected) -> usize {
 
 fn collect_into(fields: &[u8], buffer: &mut [u8]) {
     say::bytes(b"collect before=", buffer);
-    let answer = collector::collect(fields, buffer);
+    let answer = wire_collector::collect(fields, buffer);
     show(b" number=", answer.number(), list_length(answer), buffer);
 }
 
@@ -62,7 +62,7 @@ fn packet_length(answer: Requested) -> usize {
 
 fn write(v: Values, uid: [u8; UID_BYTES], cookie: &[u8], buffer: &mut [u8]) {
     let poll = PollInterval(v.signed8(key::POLL));
-    let answer = request::write_request(
+    let answer = wire_request::write_request(
         kind_of(v.number(key::KIND)),
         poll,
         v.number(key::ID),

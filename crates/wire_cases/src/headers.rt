@@ -1,10 +1,10 @@
 // The header: its number, its fields, the header written again, and the kiss that it may be (RFC 5905 sections 7.3 and 7.4, RFC 8915 section 5.7).
 use crate::say;
-use header::Header;
-use header::HeaderRead;
-use header::Kisses;
-use header::Leap;
-use header::Mode;
+use wire_header::Header;
+use wire_header::HeaderRead;
+use wire_header::Kisses;
+use wire_header::Leap;
+use wire_header::Mode;
 
 // RFC 5905 figure 9.
 fn leap_number(leap: Leap) -> u64 {
@@ -62,7 +62,7 @@ fn show_kisses(k: Kisses) {
 
 // 1 is the number for bytes that cannot be decoded; here 0 means that a header was read.
 pub fn answer(packet: &[u8]) {
-    let HeaderRead::Decoded(h) = header::read_header(packet) else {
+    let HeaderRead::Decoded(h) = wire_header::read_header(packet) else {
         say::text(b"header 1");
         return;
     };
@@ -70,5 +70,5 @@ pub fn answer(packet: &[u8]) {
     show_bytes(h);
     show_words(h);
     show_kisses(h.kisses());
-    say::bytes(b" again=", &header::write_header(h));
+    say::bytes(b" again=", &wire_header::write_header(h));
 }

@@ -106,7 +106,7 @@ fn ask(line: &[u8], number: u64, v: Values, bytes: &[u8], uid: [u8; UID_BYTES]) 
         command::DECRYPTED => walks::decrypted(bytes, at),
         command::WALKER => walks::walker(bytes, at, v.number(key::LEN) as usize),
         command::UID => uids::packet(bytes, uid, at),
-        command::ENCRYPTED => uids::show(b"encrypted ", uid_groups::decrypted_uid(bytes, uid)),
+        command::ENCRYPTED => uids::show(b"encrypted ", wire_groups::decrypted_uid(bytes, uid)),
         command::MATCH => uids::matching(v),
         command::COLLECT => buffers::collect(bytes, v.number(key::ROOM)),
         command::REQUEST => buffers::request(v, uid, bytes),
@@ -123,7 +123,8 @@ fn read(line: &[u8], number: u64) -> Values {
     let v = keys::read(
         line,
         number,
-        b"bytes:h=- zeros:w=0 uid:i=- at:n=0 len:n=0 room:q=0 authenticated:g=absent encrypted:g=absent untrusted:g=absent ntsn:y=no kind:e=v4 poll:b=0 id:x=0000000000000000 mark:x=0000000000000000 asked:u=0",
+        b"bytes:h=- zeros:w=0 uid:i=- at:n=0 len:n=0 room:q=0 authenticated:g=absent encrypted:g=absent untrusted:g=absent \
+          ntsn:y=no kind:e=v4 poll:b=0 id:x=0000000000000000 mark:x=0000000000000000 asked:u=0",
         &mut out,
     );
     say::text(text::part(&out, 0, v.end));

@@ -5,8 +5,8 @@ use drill_text::keys::Values;
 use drill_text::names::choice;
 use drill_text::names::uid;
 use drill_text::value::UID_BYTES;
-use header::HEADER_BYTES;
-use uid_groups::Uid;
+use wire_groups::Uid;
+use wire_header::HEADER_BYTES;
 
 pub fn identifier(v: Values, line: &[u8]) -> [u8; UID_BYTES] {
     let mut uid = [0u8; UID_BYTES];
@@ -27,11 +27,11 @@ pub fn show(label: &[u8], group: Uid) {
 pub fn packet(packet: &[u8], uid: [u8; UID_BYTES], end: usize) {
     show(
         b"uid authenticated=",
-        uid_groups::packet_uid(packet, HEADER_BYTES, end, uid),
+        wire_groups::packet_uid(packet, HEADER_BYTES, end, uid),
     );
     show(
         b" untrusted=",
-        uid_groups::packet_uid(packet, end, packet.len(), uid),
+        wire_groups::packet_uid(packet, end, packet.len(), uid),
     );
 }
 
@@ -46,7 +46,7 @@ fn group_of(n: u64) -> Uid {
 pub fn matching(v: Values) {
     say::flag(
         b"match ",
-        uid_groups::uid_matches(
+        wire_groups::uid_matches(
             group_of(v.number(key::AUTHENTICATED)),
             group_of(v.number(key::ENCRYPTED)),
             group_of(v.number(key::UNTRUSTED)),

@@ -1,7 +1,7 @@
 // Extension fields: what is at an offset, how the walk ends, whether the offset is a place, and the bodies (RFC 7822 section 3).
 use crate::say;
-use fields::Step;
-use fields::Walked;
+use wire_fields::Step;
+use wire_fields::Walked;
 
 fn show_step(step: Step) {
     match step {
@@ -30,21 +30,24 @@ fn show_walk(walked: Walked) {
 
 pub fn packet(packet: &[u8], at: usize) {
     say::text(b"walk");
-    show_step(fields::packet_field_at(packet, at));
-    show_walk(fields::packet_walk(packet));
-    say::flag(b" place=", fields::is_place(packet, at));
+    show_step(wire_fields::packet_field_at(packet, at));
+    show_walk(wire_fields::packet_walk(packet));
+    say::flag(b" place=", wire_fields::is_place(packet, at));
 }
 
 pub fn decrypted(fields: &[u8], at: usize) {
     say::text(b"decrypted");
-    show_step(fields::decrypted_field_at(fields, at));
-    show_walk(fields::decrypted_walk(fields));
+    show_step(wire_fields::decrypted_field_at(fields, at));
+    show_walk(wire_fields::decrypted_walk(fields));
 }
 
 // The part of the packet at any place, with or without a field; what the walker finds first, and the body of that field.
 pub fn walker(packet: &[u8], at: usize, len: usize) {
-    say::bytes(b"walker part=", walker::body_at(packet, at, len));
-    let step = walker::first(packet);
+    say::bytes(
+        b"walker part=",
+        wire_fields::walker::body_at(packet, at, len),
+    );
+    let step = wire_fields::walker::first(packet);
     show_step(step);
     let Step::Field {
         kind: _,
@@ -55,5 +58,5 @@ pub fn walker(packet: &[u8], at: usize, len: usize) {
     else {
         return;
     };
-    say::bytes(b" body=", walker::body_at(packet, start, len));
+    say::bytes(b" body=", wire_fields::walker::body_at(packet, start, len));
 }

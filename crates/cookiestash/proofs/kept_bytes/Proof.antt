@@ -49,8 +49,10 @@ loop-again c =
 returns : tie.Need-returns Inv-loop μ-loop
 unfolding slotOf front
 returns c =
-    let e : c .before .loop .i ≡ stored (length (c .before .before .before .before .args .cookie .now)) = omega arith in
-    rw (c .before .loop .inv .1, e)
+    let turn = c .before in
+    let a = turn .before .before .before .args in
+    let e : turn .loop .i ≡ stored (length (a .cookie .now)) = omega arith in
+    rw (turn .loop .inv .1, e)
 
 pub kept-bytes-spec : {M : Type 1} → statement M
 kept-bytes-spec =

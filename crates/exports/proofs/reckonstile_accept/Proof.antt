@@ -1,7 +1,7 @@
 use mathlib.Core.Path.{ap, _∙_}
-use Rattle.accept.specs.declared.Bloom.{Bloom}
-use Rattle.accept.specs.Accept.{numberOf}
-use Rattle.record_accept.specs.Accept.{acceptCall}
+use Rattle.association_accept.specs.declared.Bloom.{Bloom}
+use Rattle.association_accept.specs.Accept.{numberOf}
+use Rattle.record_calls.specs.Accept.{acceptCall}
 use borrow.Author.Needs.{needs}
 use Rattle.exports.proofs.reckonstile_accept.Statement.{statement}
 use Rattle.exports.proofs.reckonstile_accept.Tie as tie

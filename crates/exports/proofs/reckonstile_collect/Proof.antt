@@ -1,5 +1,5 @@
 use mathlib.Core.Path.{ap, _∙_}
-use Rattle.collector.specs.declared.Collected.{Collected}
+use Rattle.wire_collector.specs.declared.Collected.{Collected}
 use Rattle.exports_values.specs.Answers.{collectedAs}
 use borrow.Author.Needs.{needs}
 use Rattle.exports.proofs.reckonstile_collect.Statement.{statement}

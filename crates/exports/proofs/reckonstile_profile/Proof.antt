@@ -1,6 +1,6 @@
 use mathlib.Core.Path.{ap, _∙_}
 use borrow.Author.Tests.{not-true, not-false}
-use Rattle.metered.specs.Profile.{numberOf}
+use Rattle.association_metered.specs.Profile.{numberOf}
 use Rattle.exports.proofs.Tested.{profiled-none, profiled-some}
 use borrow.Author.Needs.{needs}
 use Rattle.exports.proofs.reckonstile_profile.Statement.{statement}

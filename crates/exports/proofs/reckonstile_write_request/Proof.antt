@@ -3,7 +3,7 @@
 use mathlib.Core.Path.{_∙_, ap}
 use lib.ListN.{length}
 use denote.Ref.{now}
-use Rattle.request.specs.Answer.{requestOf, bufferOf}
+use Rattle.wire_request.specs.Answer.{requestOf, bufferOf}
 use Rattle.exports_values.specs.Answers.{requestedAs}
 use borrow.Author.Needs.{needs}
 use Rattle.exports.proofs.reckonstile_write_request.Statement.{statement}

@@ -8,6 +8,9 @@ use borrow.Author.Needs.{needs}
 use Rattle.exports_values.proofs.decoded_in.Statement.{statement}
 use Rattle.exports_values.proofs.decoded_in.Tie as tie
 
+fit : (s : tie.Start) → SFits w8 (s .args .d .precision)
+fit s = search needs
+
 leap-in-requires : tie.Need-leap-in-requires
 leap-in-requires c κs = search needs
 
@@ -29,21 +32,26 @@ uid-in-requires-3 c κs = search needs
 returns : tie.Need-returns
 unfolding decodedIn
 returns c =
-    let d = c .before .before .before .before .before .before .before .before .before .before .before .before .args .d in
-    let fit : SFits w8 (d .precision) = search needs in
+    let authenticated = c .before .before .before in
+    let kisses = authenticated .before in
+    let mode = kisses .before in
+    let leap = mode .before in
+    let begun = leap .before .before .before in
+    let s = begun .before .before .before in
+    let d = s .args .d in
     λ i. record {
-      leap = c .before .before .before .before .before .before .leap-in .ensures i;
-      mode = c .before .before .before .before .before .mode-in .ensures i;
+      leap = leap .leap-in .ensures i;
+      mode = mode .mode-in .ensures i;
       stratum = d .stratum;
       poll = d .poll;
-      precision = toZ-ofZ fit i;
+      precision = toZ-ofZ (fit s) i;
       rootdelay = d .rootdelay;
       rootdisp = d .rootdisp;
       receive = d .receive;
       transmit = d .transmit;
       cookie = d .cookie;
-      kisses = c .before .before .before .before .kisses-in .ensures i;
-      authenticated = c .before .before .before .uid-in .ensures i;
+      kisses = kisses .kisses-in .ensures i;
+      authenticated = authenticated .uid-in .ensures i;
       encrypted = c .before .before .uid-in2 .ensures i;
       untrusted = c .before .uid-in3 .ensures i;
     }

@@ -16,6 +16,9 @@ Inv-loop fields n₀ i₀ n i = Counting fields n i
 abbrev μ-loop : tie.MeasureT-loop
 μ-loop fields n₀ i₀ n i = 8 - i
 
+eight : (s : tie.Start Inv-loop μ-loop) → length (s .args .t1) ≡ 8
+eight s = search (needs, length-mapped)
+
 loop-holds : tie.Need-loop-holds Inv-loop μ-loop
 loop-holds c = count-begins _
 
@@ -39,12 +42,12 @@ loop-less c = omega arith
 
 loop-again : tie.Need-loop-again Inv-loop μ-loop
 loop-again c =
-    let l = c .before .before .before .loop in let h : length (c .before .before .before .before .args .t1) ≡ 8 = search (needs, length-mapped) in
-    count-next _ _ _ (l .inv) _ _ h (omega arith) (c .entries-of .ensures .0) (c .entries-of .ensures .1)
+    let turn = c .before .before .before in
+    count-next _ _ _ (turn .loop .inv) _ _ (eight (turn .before)) (omega arith) (c .entries-of .ensures .0) (c .entries-of .ensures .1)
 
 returns : tie.Need-returns Inv-loop μ-loop
 returns c =
-    let l = c .before .loop in let h : length (c .before .before .args .t1) ≡ 8 = search (needs, length-mapped) in counted _ _ _ (l .inv) h (omega arith)
+    counted _ _ _ (c .before .loop .inv) (eight (c .before .before)) (omega arith)
 
 pub count-spec : {M : Type 1} → statement M
 count-spec =

@@ -5,8 +5,8 @@ use mathlib.Core.Path.{_≡_}
 use mathlib.Core.List.{List, [], _∷_}
 use lib.ListN.{getD}
 use Rattle.words.specs.Bytes.{toBe}
-use Rattle.compare_fields.specs.declared.Field.{Field}
-use Rattle.compare_fields.specs.Fields.{entryBytes}
+use Rattle.handover_compare.specs.declared.fields.Field.{Field}
+use Rattle.handover_compare.specs.Fields.{entryBytes}
 use borrow.Author.Needs.{needs}
 use Rattle.handover_compare.proofs.entry.Statement.{statement}
 use Rattle.handover_compare.proofs.entry.Tie as tie

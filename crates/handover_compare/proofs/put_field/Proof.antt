@@ -4,8 +4,8 @@ use mathlib.Core.Path.{ap}
 use native.Mathlib.Omega.{arith}
 use denote.Ref.{now}
 use lib.ListN.{length}
-use Rattle.handover_save.proofs.Laid.{laid-put}
-use Rattle.compare_fields.proofs.Listed.{entry-long}
+use Rattle.words.proofs.Put.{laid-put}
+use Rattle.handover_compare.proofs.Listed.{entry-long}
 use Rattle.handover_compare.proofs.Listing.{none-put, one-put, one-long}
 use borrow.Author.Needs.{needs}
 use Rattle.handover_compare.proofs.put_field.Statement.{statement}

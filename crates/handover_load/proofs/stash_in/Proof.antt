@@ -12,10 +12,10 @@ use Rattle.words.proofs.Bytes.{length-part}
 use Rattle.words.proofs.Tests.{when, unless}
 use Rattle.cookiestash.specs.declared.CookieStash.{CookieStash}
 use Rattle.handover_load.specs.declared.Stashed.{Stashed}
-use Rattle.handover_cut.specs.declared.Held.the-variants.{One}
-use Rattle.handover_cut.specs.Steps.{heldAt}
+use Rattle.handover_file.specs.declared.cut.Held.the-variants.{One}
+use Rattle.handover_file.specs.Steps.{heldAt}
 use Rattle.handover_load.specs.Read.{stashedOf}
-use Rattle.handover_cut.proofs.Turn.{one-within}
+use Rattle.handover_file.proofs.Turn.{one-within}
 use Rattle.handover_load.proofs.Reading.{Reading, begun, no-place, reads-one, too-many, reads-end, never-broken}
 use Rattle.handover_load.proofs.stash_in.Statement.{statement}
 use Rattle.handover_load.proofs.stash_in.Tie as tie

@@ -2,24 +2,23 @@
 -- Assumes nothing.
 use mathlib.Core.Path.{refl}
 use native.Mathlib.Omega.{arith}
+use Rattle.words.proofs.Put.{laid-put}
 use Rattle.handover_save.proofs.Writing.{stash-long, stash-put}
 use borrow.Author.Needs.{needs}
 use Rattle.handover_save.proofs.put_stash.Statement.{statement}
 use Rattle.handover_save.proofs.put_stash.Tie as tie
 
-cast-head : tie.Need-cast-head
-cast-head c = search needs
+cast-be16-pair : tie.Need-cast-be16-pair
+cast-be16-pair c = search needs
 
-head-requires : tie.Need-head-requires
-head-requires c κs = search needs
+be16-pair-requires : tie.Need-be16-pair-requires
+be16-pair-requires c κs = search needs
 
-slice-aggregate-put : tie.Need-slice-aggregate-put
-slice-aggregate-put c = search needs
+slice-aggregate-lay : tie.Need-slice-aggregate-lay
+slice-aggregate-lay c = search needs
 
-put-requires : tie.Need-put-requires
-put-requires c κs =
-    let c3 = c .before .before .before in
-    omega (arith, c3 .before .pre .3)
+lay-requires : tie.Need-lay-requires
+lay-requires c κs = search needs
 
 cast-t16 : tie.Need-cast-t16
 cast-t16 c =
@@ -27,16 +26,11 @@ cast-t16 c =
     let c6 = c3 .before .before .before in
     let w = c6 .before .before .pre .0 in let h = w .reads in let m = w .most in omega (arith, h, m)
 
-slice-aggregate-put-2 : tie.Need-slice-aggregate-put-2
-slice-aggregate-put-2 c = search needs
+slice-aggregate-lay-2 : tie.Need-slice-aggregate-lay-2
+slice-aggregate-lay-2 c = search needs
 
-put-requires-2 : tie.Need-put-requires-2
-put-requires-2 c κs =
-    let c3 = c .before .before .before in
-    let c6 = c3 .before .before .before in
-    let c9 = c6 .before .before .before in
-    let l = stash-long (c9 .before .args .capacity) (c9 .before .args .s) in
-    omega (arith, c9 .before .pre .1, c9 .before .pre .3, c3 .before .before .put .ensures .ends, c3 .before .before .put .kept .0)
+lay-requires-2 : tie.Need-lay-requires-2
+lay-requires-2 c κs = search needs
 
 put-cookies-requires : tie.Need-put-cookies-requires
 put-cookies-requires c κs =
@@ -44,18 +38,12 @@ put-cookies-requires c κs =
     let c6 = c3 .before .before .before in
     let c9 = c6 .before .before .before in
     let c12 = c9 .before .before .before in
-    let p = c12 .before .before .pre in let l = stash-long (c12 .before .before .args .capacity) (c12 .before .before .args .s) in (
-      p .0,
-      omega (
-        arith,
-        p .1,
-        p .3,
-        c9 .put .ensures .ends,
-        c9 .put .kept .0,
-        c .before .before .before .put2 .ensures .ends,
-        c .before .before .before .put2 .kept .0,
-      ),
-    )
+    let a = c12 .before .before .args in
+    let p = c12 .before .before .pre in
+    let l = stash-long (a .capacity) (a .s) in
+    let head = laid-put _ _ _ (c9 .lay .ensures) (omega (arith, p .3)) in
+    let place = laid-put _ _ _ (c3 .lay2 .ensures) (omega (arith, l, p .1, p .3, head .ends, c9 .lay .kept .0)) in
+    (p .0, omega (arith, l, p .1, p .3, head .ends, c9 .lay .kept .0, place .ends, c3 .lay2 .kept .0))
 
 same-length : tie.Need-same-length
 same-length c =
@@ -63,7 +51,7 @@ same-length c =
     let c6 = c3 .before .before .before in
     let c9 = c6 .before .before .before in
     let c12 = c9 .before .before .before in
-    omega (arith, c12 .put .kept .0, c6 .put2 .kept .0, c .before .before .put-cookies .kept .0)
+    omega (arith, c12 .lay .kept .0, c6 .lay2 .kept .0, c .before .before .put-cookies .kept .0)
 
 returns : tie.Need-returns
 returns c =
@@ -72,23 +60,27 @@ returns c =
     let c9 = c6 .before .before .before in
     let c12 = c9 .before .before .before in
     let c15 = c12 .before .before .before in
-    let a = c15 .before .before .args in let p = c15 .before .before .pre in let l = stash-long (a .capacity) (a .s) in (
-      omega (arith, p .1, l, c12 .put .ensures .ends, c6 .put2 .ensures .ends, c .before .before .put-cookies .ensures .ends),
-      stash-put (a .capacity)
-          (a .s) (c15 .head .ensures) (p .1) refl (c12 .put .ensures) (c6 .put2 .ensures) (c .before .before .put-cookies .ensures) (omega (arith, p .1, p .3)),
+    let a = c15 .before .before .args in
+    let p = c15 .before .before .pre in
+    let l = stash-long (a .capacity) (a .s) in
+    let head = laid-put _ _ _ (c12 .lay .ensures) (omega (arith, p .3)) in
+    let place = laid-put _ _ _ (c6 .lay2 .ensures) (omega (arith, l, p .1, p .3, head .ends, c12 .lay .kept .0)) in
+    let cookies = c .before .before .put-cookies .ensures in (
+      omega (arith, p .1, l, head .ends, place .ends, cookies .ends),
+      stash-put (a .capacity) (a .s) (c15 .be16-pair .ensures) (p .1) refl head place cookies (omega (arith, p .1, p .3, l)),
     )
 
 pub put-stash-spec : {M : Type 1} → statement M
 put-stash-spec =
     tie.close
     (tie.spec
-    cast-head
-    head-requires
-    slice-aggregate-put
-    put-requires
+    cast-be16-pair
+    be16-pair-requires
+    slice-aggregate-lay
+    lay-requires
     cast-t16
-    slice-aggregate-put-2
-    put-requires-2
+    slice-aggregate-lay-2
+    lay-requires-2
     put-cookies-requires
     same-length
     returns)

@@ -6,8 +6,8 @@ use Rattle.record_new.proofs.make.Tie as tie
 clear-requires : tie.Need-clear-requires
 clear-requires c κs = search needs
 
-fresh-state-requires : tie.Need-fresh-state-requires
-fresh-state-requires c κs = search needs
+fresh-requires : tie.Need-fresh-requires
+fresh-requires c κs = search needs
 
 store-head-requires : tie.Need-store-head-requires
 store-head-requires c κs = search needs
@@ -28,9 +28,9 @@ returns c =
     let args = c15 .args in
     let pre = c15 .pre in
     let clear = c9 .before .before .clear in
-    let fresh-state = c6 .before .before .fresh-state in
+    let fresh = c6 .before .before .fresh in
     let store-head = c6 .store-head in
-    make-is (args .settings) (args .list .now) (args .b .now) pre (fresh-state .result) (store-head .ensures .2) (fresh-state .ensures) _ _ (clear .ensures)
+    make-is (args .settings) (args .list .now) (args .b .now) pre (fresh .result) (store-head .ensures .2) (fresh .ensures) _ _ (clear .ensures)
     (store-head .ensures .0) _ (c .before .before .refill .ensures)
 
 pub make-spec : {M : Type 1} → statement M
@@ -38,7 +38,7 @@ make-spec =
     tie.close
     (tie.spec
     clear-requires
-    fresh-state-requires
+    fresh-requires
     store-head-requires
     refill-requires
     same-length

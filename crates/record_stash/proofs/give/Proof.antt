@@ -49,19 +49,19 @@ same-length c = search needs
 returns : tie.Need-returns
 unfolding handedOf slotIn part
 returns c =
-    let a = c .before .before .before .before .before .before .before .before .before .before .args in
-    let s = stored-bounds (c .before .before .before .before .before .before .before .be16-at .result) in
-    let e : c .before .before .before .before .before .least .result
-    ≡ min (stored (c .before .before .before .before .before .before .before .be16-at .result))
-    (length (a .buffer .now)) = c .before .before .before .before .before .least .ensures
-    ∙ ap (λ (j : ℕ). min j (length (a .buffer .now))) (c .before .before .before .before .before .before .stored-bytes .ensures) in
-    let f = c .before .before .before .before .before .before .before .be16-at .ensures in
-    c .before .before .copy .ensures .1
-    ∙ out-of (a .b .now) (a .buffer .now) (a .at) (a .at + c .before .before .before .before .before .least .result - a .at)
-    (min (stored (c .before .before .before .before .before .before .before .be16-at .result)) (length (a .buffer .now))) _ (omega (arith, e)) (omega arith)
-    (omega arith) refl
+    let copied = c .before .before in
+    let most = copied .before .before .before in
+    let kept = most .before in
+    let word = kept .before in
+    let a = word .before .before .before .args in
+    let s = stored-bounds (word .be16-at .result) in
+    let e : most .least .result ≡ min (stored (word .be16-at .result)) (length (a .buffer .now)) = most .least .ensures
+    ∙ ap (λ (j : ℕ). min j (length (a .buffer .now))) (kept .stored-bytes .ensures) in
+    copied .copy .ensures .1
+    ∙ out-of (a .b .now) (a .buffer .now) (a .at) (a .at + most .least .result - a .at)
+    (min (stored (word .be16-at .result)) (length (a .buffer .now))) _ (omega (arith, e)) (omega arith) (omega arith) refl
     ∙ ap (λ (j : ℕ). take (min (stored j) (length (a .buffer .now))) (take 724 (drop (a .at) (a .b .now)))
-    ++ drop (min (stored j) (length (a .buffer .now))) (a .buffer .now)) f
+    ++ drop (min (stored j) (length (a .buffer .now))) (a .buffer .now)) (word .be16-at .ensures)
 
 pub give-spec : {M : Type 1} → statement M
 give-spec =

@@ -46,7 +46,7 @@ use Rattle.reply.specs.Reply.{replyDecodedOf}
 use Rattle.association.specs.declared.Association.{Association}
 use Rattle.reply.specs.declared.ReplyOut.{ReplyOut}
 use Rattle.reply.specs.declared.Replied.{Replied}
-use Rattle.incoming.specs.declared.DecodedReply.{DecodedReply}
+use Rattle.wire_incoming.specs.declared.DecodedReply.{DecodedReply}
 use Rattle.time_types.specs.declared.NtpTimestamp.{NtpTimestamp}
 use Rattle.association.proofs.Association as Rec
 use Rattle.association.proofs.Association.Laws as Rec′
@@ -54,8 +54,8 @@ use Rattle.reply.proofs.ReplyOut as Out
 use Rattle.reply.proofs.ReplyOut.Laws as Out′
 use Rattle.reply.proofs.Replied as Ans
 use Rattle.reply.proofs.Replied.Laws as Ans′
-use Rattle.incoming.proofs.DecodedReply as DecodedReply·
-use Rattle.incoming.proofs.DecodedReply.Laws as DecodedReply·′
+use Rattle.wire_incoming.proofs.DecodedReply as DecodedReply·
+use Rattle.wire_incoming.proofs.DecodedReply.Laws as DecodedReply·′
 use Rattle.time_types.proofs.NtpTimestamp as NtpTimestamp·
 use Rattle.time_types.proofs.NtpTimestamp.Laws as NtpTimestamp·′
 use Rattle.reply.proofs.reply_decoded_core as core

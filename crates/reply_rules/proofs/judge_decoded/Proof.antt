@@ -12,9 +12,12 @@ use Rattle.reply_rules.proofs.judge_decoded.Tie as tie
 whole-seen-requires : tie.Need-whole-seen-requires
 whole-seen-requires c κs = search needs
 
+leaves-requires : tie.Need-leaves-requires
+leaves-requires c κs = search needs
+
 returns : tie.Need-returns
 unfolding verdictOf
-returns c = rw (sym (c .before .whole-seen .ensures) ∙ not-true _ (c .if1 .taken))
+returns c = rw (c .leaves .ensures, sym (c .before .before .whole-seen .ensures) ∙ not-true _ (c .before .if1 .taken))
 
 value-requires : tie.Need-value-requires
 value-requires c κs = search needs
@@ -35,4 +38,4 @@ returns-2 c =
 
 pub judge-decoded-spec : {M : Type 1} → statement M
 judge-decoded-spec =
-    tie.close (tie.spec whole-seen-requires returns value-requires judge-requires told-requires returns-2)
+    tie.close (tie.spec whole-seen-requires leaves-requires returns value-requires judge-requires told-requires returns-2)

@@ -21,9 +21,12 @@ was-read c = c .read-reply .ensures ∙ rw (c .before .awaited .ensures) (read-a
 whole-seen-requires : tie.Need-whole-seen-requires
 whole-seen-requires c κs = search needs
 
+leaves-requires : tie.Need-leaves-requires
+leaves-requires c κs = search needs
+
 returns : tie.Need-returns
 unfolding verdictOf
-returns c = rw (sym (c .before .whole-seen .ensures) ∙ not-true _ (c .if1 .taken))
+returns c = rw (c .leaves .ensures, sym (c .before .before .whole-seen .ensures) ∙ not-true _ (c .before .if1 .taken))
 
 awaited-requires : tie.Need-awaited-requires
 awaited-requires c κs = search needs
@@ -37,12 +40,16 @@ enum-known-reply c = search needs
 enum-told : tie.Need-enum-told
 enum-told c = search needs
 
+leaves-requires-2 : tie.Need-leaves-requires-2
+leaves-requires-2 c κs = search needs
+
 returns-2 : tie.Need-returns-2
 unfolding verdictOf
 returns-2 c =
-    let k = c .before .before in
+    let u = c .before in
+    let k = u .before .before in
     let w = k .before .before .before in
-    rw (sym (w .before .whole-seen .ensures) ∙ not-false _ (w .if1 .left), sym (was-read k) ∙ c .enum-told .given .1)
+    rw (c .leaves2 .ensures, sym (w .before .whole-seen .ensures) ∙ not-false _ (w .if1 .left), sym (was-read k) ∙ u .enum-told .given .1)
 
 judge-requires : tie.Need-judge-requires
 judge-requires c κs = search needs
@@ -67,11 +74,13 @@ judge-packet-spec =
     tie.close
     (tie.spec
     whole-seen-requires
+    leaves-requires
     returns
     awaited-requires
     read-reply-requires
     enum-known-reply
     enum-told
+    leaves-requires-2
     returns-2
     judge-requires
     told-requires

@@ -10,11 +10,12 @@ use Prim.Native.Nat.{ℕ, _-_, _≤_, _<_}
 use lib.ListN.{length, take, drop}
 use denote.Ref.{now}
 use Rattle.words.specs.Bytes.{part}
+use Rattle.words.proofs.Put.{laid-put}
 use Rattle.salvage.specs.declared.Found.the-variants.{Record, Nothing}
 use Rattle.salvage.specs.Walk.{recordAt}
 use Rattle.salvage.specs.Salvage.{cleanOf, salvageOf, bufferOf}
 use Rattle.salvage.proofs.Walks.{Kept, is-kept}
-use Rattle.salvage.proofs.Along.{Along, start, record-long, fits, keep, skip, begin-told, begin-untold, reported, whole-buffer}
+use Rattle.salvage.proofs.Along.{Along, start, fits, keep, skip, begin-told, begin-untold, reported, whole-buffer}
 use Rattle.salvage.proofs.salvage.Statement.{statement}
 use Rattle.salvage.proofs.salvage.Tie as tie
 
@@ -64,23 +65,17 @@ record-at-requires c κs = search needs
 enum-known-end : tie.Need-enum-known-end Inv-loop μ-loop
 enum-known-end c = search needs
 
-sub-put-bytes : tie.Need-sub-put-bytes Inv-loop μ-loop
-sub-put-bytes c = let k = found (c .before .before) in omega (arith, k .headed)
+sub-lay : tie.Need-sub-lay Inv-loop μ-loop
+sub-lay c = let k = found (c .before .before) in omega (arith, k .headed)
 
-part-put-bytes-start : tie.Need-part-put-bytes-start Inv-loop μ-loop
-part-put-bytes-start c = let k = found (c .before .before) in omega (arith, k .headed)
+part-lay-start : tie.Need-part-lay-start Inv-loop μ-loop
+part-lay-start c = let k = found (c .before .before) in omega (arith, k .headed)
 
-part-put-bytes-end : tie.Need-part-put-bytes-end Inv-loop μ-loop
-part-put-bytes-end c = let k = found (c .before .before) in omega (arith, k .headed, k .within)
+part-lay-end : tie.Need-part-lay-end Inv-loop μ-loop
+part-lay-end c = let k = found (c .before .before) in omega (arith, k .headed, k .within)
 
-put-bytes-requires : tie.Need-put-bytes-requires Inv-loop μ-loop
-unfolding part
-put-bytes-requires c κs =
-    let k = c .before .before .before in
-    let k3 = k .before .before .before in
-    let i = k3 .before .loop .inv in
-    let h = inside k in
-    omega (arith, fits _ _ _ _ _ _ _ _ _ _ i _ h (here k) (omega arith), record-long _ _ _ _ _ _ _ _ _ _ i _ h (here k))
+lay-requires : tie.Need-lay-requires Inv-loop μ-loop
+lay-requires c κs = search needs
 
 add-kept : tie.Need-add-kept Inv-loop μ-loop
 add-kept c =
@@ -104,9 +99,9 @@ loop-again c =
     let k3 = k .before .before .before in
     let i = k3 .before .loop .inv in
     let h = inside k in
-    let r = c .before .before .put-bytes in
-    let n = record-long _ _ _ _ _ _ _ _ _ _ i _ h (here k) in
-    keep _ _ _ _ _ _ _ _ _ _ i _ h (here k) (r .last .0) (r .result) (rw n at (r .ensures .0)) (rw n at (r .ensures .1)) (r .kept .0)
+    let r = c .before .before .lay in
+    keep _ _ _ _ _ _ _ _ _ _ i _ h (here k) (r .last .0) (r .result)
+    (laid-put _ _ _ (r .ensures) (fits _ _ _ _ _ _ _ _ _ _ i _ h (here k) (omega arith))) (r .kept .0)
 
 enum-told : tie.Need-enum-told Inv-loop μ-loop
 enum-told c = search needs
@@ -136,10 +131,13 @@ loop-less-2 c = omega arith
 
 loop-again-2 : tie.Need-loop-again-2 Inv-loop μ-loop
 loop-again-2 c =
-    let i = c .before .before .before .before .before .loop .inv in
-    let e = sym (c .before .before .before .record-at .ensures) ∙ c .before .enum-told .given .1 in
-    let h : c .before .before .before .before .before .loop .at < length
-    (now (c .before .before .before .before .before .before .before .before .before .args .list)) = omega arith in
+    let asked = c .before .before .before in
+    let turn = asked .before .before in
+    let past = turn .before in
+    let a = past .before .before .before .args in
+    let i = turn .loop .inv in
+    let e = sym (asked .record-at .ensures) ∙ c .before .enum-told .given .1 in
+    let h : turn .loop .at < length (now (a .list)) = omega arith in
     ⊎-elim
     (λ w.
     ⊎-elim
@@ -155,9 +153,11 @@ same-length c = c .before .loop .inv .long
 returns-2 : tie.Need-returns-2 Inv-loop μ-loop
 unfolding salvageOf bufferOf
 returns-2 c =
-    let a = c .before .before .before .before .before .args in
-    let i = c .before .loop .inv in
-    let h : length (now (a .list)) ≤ c .before .loop .at = omega arith in
+    let turn = c .before in
+    let past = turn .before in
+    let a = past .before .before .before .args in
+    let i = turn .loop .inv in
+    let h : length (now (a .list)) ≤ turn .loop .at = omega arith in
     let t = le-ltb (length (now (a .out))) (length (now (a .list))) (omega arith) in
     (rw t (reported _ _ _ _ _ _ _ _ _ _ i h), rw t (whole-buffer _ _ _ _ _ _ _ _ _ _ i h))
 
@@ -172,10 +172,10 @@ salvage-spec =
     loop-holds
     record-at-requires
     enum-known-end
-    sub-put-bytes
-    part-put-bytes-start
-    part-put-bytes-end
-    put-bytes-requires
+    sub-lay
+    part-lay-start
+    part-lay-end
+    lay-requires
     add-kept
     loop-less
     loop-again

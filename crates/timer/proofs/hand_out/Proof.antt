@@ -23,6 +23,10 @@ handed-is x ys zs n s e q =
     let l : length (take n (x .bytes)) ≡ n = length-take-le n (x .bytes) (omega (arith, stored-bounds (x .len))) in
     q ∙ rw (z, take-length, l, e)
 
+-- a slot has 724 bytes
+slot-long : (s : tie.Start) → length (s .args .slot .bytes) ≡ 724
+slot-long s = search needs
+
 cast-stored-bytes : tie.Need-cast-stored-bytes
 cast-stored-bytes c = search needs
 
@@ -40,9 +44,11 @@ part-copy-start c = search needs
 
 part-copy-end : tie.Need-part-copy-end
 part-copy-end c =
-    let a = c .before .before .before .before .before .before .args in
-    let s : length (a .slot .bytes) ≡ 724 = search needs in
-    omega (arith, stored-bounds (a .slot .len), c .before .before .stored-bytes .ensures, c .before .least .ensures)
+    let d = c .before in
+    let n = d .before in
+    let n3 = n .before .before .before in
+    let s = n3 .before in
+    omega (arith, slot-long s, stored-bounds (s .args .slot .len), n .stored-bytes .ensures, d .least .ensures)
 
 copy-requires : tie.Need-copy-requires
 copy-requires c κs = search needs
@@ -53,10 +59,12 @@ same-length c = search needs
 returns : tie.Need-returns
 returns c =
     let k = c .before .before in
-    let d = k .before .before .before .before in
-    let a = d .before .before .before .before .before .args in
-    let s : length (a .slot .bytes) ≡ 724 = search needs in
-    handed-is (a .slot) (a .buffer .now) (k .copy .last .1 .0) (d .least .result) s (d .least .ensures ∙ rw (d .before .stored-bytes .ensures))
+    let k3 = k .before .before .before in
+    let d = k3 .before in
+    let n = d .before in
+    let n3 = n .before .before .before in
+    let s = n3 .before in
+    handed-is (s .args .slot) (s .args .buffer .now) (k .copy .last .1 .0) (d .least .result) (slot-long s) (d .least .ensures ∙ rw (n .stored-bytes .ensures))
     (k .copy .ensures .1)
 
 pub hand-out-spec : {M : Type 1} → statement M

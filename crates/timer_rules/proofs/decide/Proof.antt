@@ -28,33 +28,47 @@ going c = sym (c .before .startup-over .ensures) ∙ c .if3 .left
 whole-seen-requires : tie.Need-whole-seen-requires
 whole-seen-requires c κs = search needs
 
+leaves-requires : tie.Need-leaves-requires
+leaves-requires c κs = search needs
+
 returns : tie.Need-returns
 unfolding decideOf
-returns c = rw (sym (c .before .whole-seen .ensures) ∙ not-true _ (c .if1 .taken))
+returns c = rw (c .leaves .ensures, sym (c .before .before .whole-seen .ensures) ∙ not-true _ (c .before .if1 .taken))
 
 short-buffer-requires : tie.Need-short-buffer-requires
 short-buffer-requires c κs = search needs
 
+leaves-requires-2 : tie.Need-leaves-requires-2
+leaves-requires-2 c κs = search needs
+
 returns-2 : tie.Need-returns-2
 unfolding decideOf
-returns-2 c = rw (whole (c .before .before), sym (c .before .short-buffer .ensures) ∙ c .if2 .taken)
+returns-2 c =
+    let t = c .before in
+    rw (c .leaves2 .ensures, whole (t .before .before), sym (t .before .short-buffer .ensures) ∙ t .if2 .taken)
 
 startup-over-requires : tie.Need-startup-over-requires
 startup-over-requires c κs = search needs
 
+leaves-requires-3 : tie.Need-leaves-requires-3
+leaves-requires-3 c κs = search needs
+
 returns-3 : tie.Need-returns-3
 unfolding decideOf
 returns-3 c =
-    let o = c .before .before in
+    let o = c .before .before .before in
     let r = o .before .before in
-    rw (whole (r .before .before), roomy r, over o, c .if4 .taken)
+    rw (c .leaves3 .ensures, whole (r .before .before), roomy r, over o, c .before .if4 .taken)
+
+leaves-requires-4 : tie.Need-leaves-requires-4
+leaves-requires-4 c κs = search needs
 
 returns-4 : tie.Need-returns-4
 unfolding decideOf
 returns-4 c =
-    let o = c .before .before in
+    let o = c .before .before .before in
     let r = o .before .before in
-    rw (whole (r .before .before), roomy r, over o, c .if4 .left)
+    rw (c .leaves4 .ensures, whole (r .before .before), roomy r, over o, c .before .if4 .left)
 
 tried-requires : tie.Need-tried-requires
 tried-requires c κs = search needs
@@ -84,11 +98,15 @@ decide-spec =
     tie.close
     (tie.spec
     whole-seen-requires
+    leaves-requires
     returns
     short-buffer-requires
+    leaves-requires-2
     returns-2
     startup-over-requires
+    leaves-requires-3
     returns-3
+    leaves-requires-4
     returns-4
     tried-requires
     decide-nts-requires

@@ -11,9 +11,12 @@ use Rattle.timer_rules.proofs.decide_nts.Tie as tie
 found : (c : tie.Else1) → c .before .before .args .seen .found ≡ true
 found c = not-false _ (c .if1 .left)
 
+leaves-requires : tie.Need-leaves-requires
+leaves-requires c κs = search needs
+
 returns : tie.Need-returns
 unfolding decideNts
-returns c = rw (not-true (c .before .before .args .seen .found) (c .if1 .taken))
+returns c = rw (c .leaves .ensures, not-true (c .before .before .before .args .seen .found) (c .before .if1 .taken))
 
 asked-requires : tie.Need-asked-requires
 asked-requires c κs = search needs
@@ -32,4 +35,4 @@ returns-3 c =
     simp (c .send .ensures, k .asked .ensures, found (k .before), ne-eqb _ _ (λ z. c .before .if2 .left (k .asked .ensures ∙ z)))
 
 pub decide-nts-spec : {M : Type 1} → statement M
-decide-nts-spec = tie.close (tie.spec returns asked-requires returns-2 send-requires returns-3)
+decide-nts-spec = tie.close (tie.spec leaves-requires returns asked-requires returns-2 send-requires returns-3)

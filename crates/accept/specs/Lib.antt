@@ -1,3 +1,0 @@
--- The definitions that the contracts of `accept` cite, and the statements that its laws prove.
-pub mod Accept
-pub mod Numbers

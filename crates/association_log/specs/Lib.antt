@@ -1,2 +1,0 @@
--- The association as a machine of timers and replies.
-pub mod Association

@@ -1,2 +1,0 @@
--- The definitions that the contracts of `collector` cite.
-pub mod Collector

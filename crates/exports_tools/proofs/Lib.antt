@@ -1,3 +1,0 @@
--- The laws of `exports_tools`.
-pub mod Laws
-pub mod Determined

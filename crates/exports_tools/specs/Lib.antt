@@ -1,2 +1,0 @@
--- The definitions that the contracts of `exports_tools` cite.
-pub mod Told

@@ -1,5 +1,0 @@
--- Laws that belong to no one function.
-pub mod Walks
-pub mod Sound
-pub mod Refused
-pub mod Determined

@@ -1,2 +1,0 @@
--- The definitions that the contracts of `handover_read` cite.
-pub mod Reading

@@ -1,3 +1,0 @@
--- The definitions that the contracts of `header` cite.
-pub mod Header
-pub mod Kiss

@@ -1,3 +1,0 @@
--- The definitions that the contracts of `incoming` cite.
-pub mod Incoming
-pub mod Refused

@@ -1,3 +1,0 @@
--- The definitions that the contracts of `metered` cite, and the statements that its laws prove.
-pub mod Profile
-pub mod Numbers

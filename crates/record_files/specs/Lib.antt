@@ -1,0 +1,3 @@
+-- The definitions that the contracts of `record_files` cite.
+pub mod Load
+pub mod Save

@@ -1,4 +1,0 @@
--- Laws that belong to no one function.
-pub mod Emptied
-pub mod Told
-pub mod Determined

@@ -1,5 +1,0 @@
--- The definitions that the contracts of `request` cite.
-pub mod Extension
-pub mod Request
-pub mod Answer
-pub mod Numbers

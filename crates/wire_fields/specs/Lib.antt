@@ -1,0 +1,5 @@
+-- The definitions that the contracts of `wire_fields` cite.
+pub mod Field
+pub mod Walk
+pub mod Sound
+pub mod Walker

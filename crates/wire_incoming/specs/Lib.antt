@@ -1,0 +1,3 @@
+-- The definitions that the contracts of `wire_incoming` cite.
+pub mod Incoming
+pub mod Refused
