@@ -25,8 +25,8 @@ use Rattle.association.specs.declared.Association.{Association}
 use Rattle.association.specs.Settings.{settingsValid}
 
 -- nothing is pending: absent things are zero, but it keeps whether a reply has been measured since the last sent poll (RULES, No. 3)
--- promise no3.1: The record keeps in `answered` of the request whether a reply was measured since the last sent poll. A 20 makes it no, a 0 yes. A new record
---     and the blank one have no.
+-- promise no3.1: The record keeps in `answered` of the request whether a reply was measured since the last sent poll: then the next one is already measured
+--     (13). A 20 makes it no, a 0 yes. A new record and the blank one have no.
 --     edit: reply_clauses/a_measured_reply_is_forgotten
 unfoldable pub noPending : Bool → Pending
 noPending answered = record { present = false; id = 0; uid = replicate 32 0; deadline = 0; answered = answered }
