@@ -33,6 +33,8 @@ pub struct Library {
     wrong: Option<Wrong>,
     /// The drill's commands for the copy of the record that was broken last.
     pub pokes: Vec<String>,
+    /// The drill's words for a call that is made beside a step, where the step's command has others.
+    pub instead: Vec<(&'static str, String)>,
 }
 
 pub type Found<T> = Result<T, String>;
@@ -126,7 +128,7 @@ pub fn untouched(bytes: &[u8]) -> bool {
 impl Library {
     pub fn new(metered: bool, wrong: Option<Wrong>) -> Self {
         BROKEN_LISTS.store(true, Ordering::Relaxed);
-        Library { bytes: vec![], settings: Settings::default(), buffer: vec![], metered, wrong, pokes: vec![] }
+        Library { bytes: vec![], settings: Settings::default(), buffer: vec![], metered, wrong, pokes: vec![], instead: vec![] }
     }
 
     /// The bytes of a record as long as the capacity asks for, between bytes that are not lent.
@@ -241,9 +243,12 @@ impl Library {
         let mut rules = whole::whole(&copy).ok_or("timer: the record before it is not whole")?;
         let refused = Answer { number: 31, ..Answer::default() };
         let expected = if rules.nts { refused } else { rules.timer(now, desired, id, uid) };
+        self.instead = vec![("room", room.to_string())];
         let said = timed(&mut copy, &mut self.buffer, room, now, desired, id, uid)?;
-        must(said == expected, &format!("timer: {said:?} with room={room}, expected {expected:?}"))?;
-        must(whole::whole(&copy) == Some(rules), &format!("timer: another record than the rule's with room={room}"))
+        must(said == expected, &format!("timer: {said:?} with a short buffer, expected {expected:?}"))?;
+        must(whole::whole(&copy) == Some(rules), "timer: another record than the rule's with a short buffer")?;
+        self.instead.clear();
+        Ok(())
     }
 
     /// The same reply on copies of the record: with a broken cookie list, and with another authenticated end, which the caller may get wrong. Without NTS no
@@ -264,9 +269,15 @@ impl Library {
         );
         let (end, mut after) = (ends[t1 as usize % ends.len()], rules);
         let expected = after.reply(packet, end, plain, &cookies, t1, t4, now);
+        self.instead = vec![("auth", end.to_string()), ("plain", bytes(plain)), ("list", bytes(&list(&cookies)))];
         let said = replied(ffi::reply(&mut copy, packet, end, plain, &list(&cookies), t1, t4, now))?;
-        must(said == expected, &format!("reply: {said:?} with auth={end}, expected {expected:?}"))?;
-        must(whole::whole(&copy) == Some(after), &format!("reply: another record than the rule's with auth={end}"))
+        must(said == expected, &format!("reply: {said:?} with the authenticated end {end}, expected {expected:?}"))?;
+        must(
+            whole::whole(&copy) == Some(after),
+            &format!("reply: another record than the rule's with the authenticated end {end}"),
+        )?;
+        self.instead.clear();
+        Ok(())
     }
 
     /// A reply with a broken cookie list, on a copy of the record: the number, and nothing changes.
@@ -275,9 +286,12 @@ impl Library {
             return Ok(());
         }
         let (mut copy, list) = (self.record().to_vec(), BROKEN[which as usize % BROKEN.len()]);
+        self.instead = vec![("list", bytes(list))];
         let said = replied(call(&mut copy, list))?;
-        must(said.number == number, &format!("reply: {} with list={}, expected {number}", said.number, bytes(list)))?;
-        must(copy == self.record(), &format!("reply: the record was changed, with list={}", bytes(list)))
+        must(said.number == number, &format!("reply: {} with a broken list, expected {number}", said.number))?;
+        must(copy == self.record(), "reply: the record was changed, with a broken list")?;
+        self.instead.clear();
+        Ok(())
     }
 
     /// The request of a poll that was sent: the crate's packet, up to its 0404 field, in a buffer that is just long enough. Of a smaller
