@@ -44,16 +44,18 @@ class Answered(NamedTuple):
 
 
 class Source:
-    """a log: a file, a FIFO, or standard input for `-`"""
+    """a log: a file, a FIFO, or standard input for `-`. One that nobody named is not waited for: a FIFO among the logs of a folder would hold up all the others"""
 
-    def __init__(self, path: str) -> None:
-        self.path = path
+    def __init__(self, path: str, named: bool = True) -> None:
+        self.path, self.named = path, named
         self.called = 'standard input' if path == '-' else path
 
     def opened(self) -> int:
         if self.path == '-':
             return os.dup(0)
         try:
+            if not self.named and stat.S_ISFIFO(os.stat(self.path).st_mode):
+                raise Unreadable('it is no file')
             return os.open(self.path, os.O_RDONLY)
         except (OSError, ValueError) as fault:
             raise Unreadable('it cannot be read: %s' % (getattr(fault, 'strerror', None) or fault)) from None

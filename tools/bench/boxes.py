@@ -14,8 +14,12 @@ NOT_ALL_UP = 3   # how --summary and --page end where a box is not up
 Made = TypeVar('Made')
 
 
+class Found(str):
+    """the path of a log that was found in a folder, and not named"""
+
+
 def logs_in(folder: str) -> list[str]:
-    return [os.path.join(folder, name) for name in sorted(os.listdir(folder)) if name.endswith(ENDING) and not name.startswith('.')]
+    return [Found(os.path.join(folder, name)) for name in sorted(os.listdir(folder)) if name.endswith(ENDING) and not name.startswith('.')]
 
 
 def paths_of(named: list[str]) -> list[str]:
@@ -50,7 +54,7 @@ def each(paths: list[str], make: Callable[[str, Iterator[story.Step]], Made], fa
     out: list[Made] = []
     terminal = os.isatty(2)
     names = names_of(paths)
-    for k, (_, steps) in enumerate(story.told([answers.Source(path) for path in paths], shown=False)):
+    for k, (_, steps) in enumerate(story.told([answers.Source(path, not isinstance(path, Found)) for path in paths], shown=False)):
         try:
             out.append(make(names[k], steps))
         except answers.Unreadable as fault:

@@ -353,8 +353,19 @@ impl Maker {
         Call::Compare { left, right, room }
     }
 
+    /// A list with many gaps, at times more than are told: behind each record that is kept one that no mark follows.
+    fn bitten_often(&mut self) -> Vec<u8> {
+        let mut out = vec![];
+        for _ in 0..self.r().below(60) {
+            let (n, stray) = (self.r().below(6) as usize, self.r().next() as u8);
+            out.extend(list(&[self.r().bytes(n), self.r().bytes(2)]));
+            out.push(stray);
+        }
+        out
+    }
+
     fn salvage(&mut self) -> Call {
-        let mut list = self.list(1);
+        let mut list = if self.r().one_in(8) { self.bitten_often() } else { self.list(1) };
         for _ in 0..self.r().below(3) {
             let more = self.list(2);
             list.extend(more);

@@ -107,6 +107,13 @@ fn differs(library: &mut Library, op: &Op, step: &Step) -> Option<String> {
     }
 }
 
+/// A command with a word of its own, or with another one in its place.
+fn with_word(line: &str, key: &str, value: &str) -> String {
+    let other = |word: &&str| word.split('=').next() != Some(key);
+    let kept: Vec<&str> = line.split(' ').filter(other).collect();
+    format!("{} {key}={value}", kept.join(" "))
+}
+
 /// Whether the last of these operations still differs, and how; each is made anew on both sides.
 fn replayed(ops: &[Op], metered: bool, wrong: Option<Wrong>) -> Option<(String, Vec<String>)> {
     let (mut both, mut library, mut lines) = (Both::new(), Library::new(metered, wrong), vec![]);
@@ -127,6 +134,9 @@ fn replayed(ops: &[Op], metered: bool, wrong: Option<Wrong>) -> Option<(String, 
             }
         }
         let differs = differs(&mut library, op, &step);
+        if let Some(line) = lines.last_mut().filter(|_| last) {
+            library.instead.drain(..).for_each(|(key, value)| *line = with_word(line, key, &value));
+        }
         if last && matches!(op, Op::Break(_)) {
             lines.append(&mut library.pokes);
             lines.push("timer now=1000 desired=6 id=0000000000000001\naccept stratum=17\nsave".into());

@@ -18,6 +18,9 @@ pub const BESIDE: usize = 16;
 const FILL: u8 = 0xA5;
 /// The drill's own buffer, where a command names no room.
 const ROOM: usize = 1024;
+/// Cookie lists that are broken: a head that is cut off, another mark, a length past the end, and a whole entry before a head that is
+/// cut off. The first is broken as decrypted fields, too.
+const BROKEN: [&[u8]; 4] = [&[0xC0, 0x0E, 0], &[0xC0, 0x0F, 0, 0], &[0xC0, 0x0E, 0, 3, 1, 2], &[0xC0, 0x0E, 0, 1, 7, 0xC0]];
 /// The kinds of a request, by their codes.
 pub const KINDS: [&str; 6] = ["nothing", "v4", "v4-upgrade", "v5", "nts-v4", "nts-v5"];
 
@@ -30,6 +33,8 @@ pub struct Library {
     wrong: Option<Wrong>,
     /// The drill's commands for the copy of the record that was broken last.
     pub pokes: Vec<String>,
+    /// The drill's words for a call that is made beside a step, where the step's command has others.
+    pub instead: Vec<(&'static str, String)>,
 }
 
 pub type Found<T> = Result<T, String>;
@@ -123,7 +128,7 @@ pub fn untouched(bytes: &[u8]) -> bool {
 impl Library {
     pub fn new(metered: bool, wrong: Option<Wrong>) -> Self {
         BROKEN_LISTS.store(true, Ordering::Relaxed);
-        Library { bytes: vec![], settings: Settings::default(), buffer: vec![], metered, wrong, pokes: vec![] }
+        Library { bytes: vec![], settings: Settings::default(), buffer: vec![], metered, wrong, pokes: vec![], instead: vec![] }
     }
 
     /// The bytes of a record as long as the capacity asks for, between bytes that are not lent.
@@ -156,7 +161,10 @@ impl Library {
                 self.make(&list(cookies))?
             }
             Op::Timer { now, desired, id, uid, room } => {
-                let answer = self.timer(*now, *desired, *id, uid, room.map_or(ROOM, usize::from))?;
+                self.short(*now, *desired, *id, uid)?;
+                let mut buffer = std::mem::take(&mut self.buffer);
+                let answer = timed(self.record(), &mut buffer, room.map_or(ROOM, usize::from), *now, *desired, *id, uid)?;
+                self.buffer = buffer;
                 if let (Some(sent), Some(packet)) = (&answer.sent, &step.packet) {
                     self.write_request(sent, packet, *id, *uid, step)?;
                 }
@@ -172,11 +180,15 @@ impl Library {
                     None if step.left_out => step.of_rules.0.clone(),
                     None => {
                         let collected = self.collect(d)?;
+                        self.otherwise(packet, d, *t1, *t4, *now)?;
                         let list = if d.broken_list { BROKEN_LIST.to_vec() } else { collected };
                         let said = ffi::reply(self.record(), packet, d.auth, &d.plain, &list, *t1, *t4, *now);
                         replied(said)?
                     }
                     Some(v5) => {
+                        self.with_broken_list(33, *t4, |copy, list| {
+                            ffi::reply_decoded(copy, decoded(v5), list, *t1, *t4, *now)
+                        })?;
                         let list = if d.broken_list { BROKEN_LIST.to_vec() } else { list(&d.cookies) };
                         let said = ffi::reply_decoded(self.record(), decoded(v5), &list, *t1, *t4, *now);
                         replied(said)?
@@ -225,33 +237,61 @@ impl Library {
         Ok(Answer { dropped: Some((said.dropped, said.lost)), ..Answer::default() })
     }
 
-    fn timer(&mut self, now: u64, desired: i8, id: u64, uid: &[u8; 32], room: usize) -> Found<Answer> {
-        let mut buffer = std::mem::take(&mut self.buffer);
-        let lent = lend(&mut buffer, room);
-        let said = ffi::timer(self.record(), now, desired, id, *uid, lent);
-        let length = said.length as usize;
-        let answer = if said.number == 20 {
-            must(length <= room.min(STORED), "timer: the cookie is longer than the buffer or than a cookie may be")?;
-            let kind = KINDS.get(said.kind as usize).ok_or("timer: an unknown kind")?;
-            let cookie = buffer[BESIDE..BESIDE + length].to_vec();
-            Answer {
-                number: 20,
-                sent: Some(Sent { kind, poll: said.poll, cookie, asked: small(said.asked.into())? }),
-                ..Answer::default()
-            }
-        } else {
-            must(
-                (said.kind, said.poll, said.asked, length) == (0, 0, 0, 0),
-                "timer: not all is zero behind a number that is not 20",
-            )?;
-            Answer { number: small(said.number)?, ..Answer::default() }
-        };
+    /// The same call on a copy of the record, with a buffer too short for a cookie: 31 with NTS; without it no buffer is looked at.
+    fn short(&mut self, now: u64, desired: i8, id: u64, uid: &[u8; 32]) -> Found<()> {
+        let (mut copy, room) = (self.record().to_vec(), id as usize % STORED);
+        let mut rules = whole::whole(&copy).ok_or("timer: the record before it is not whole")?;
+        let refused = Answer { number: 31, ..Answer::default() };
+        let expected = if rules.nts { refused } else { rules.timer(now, desired, id, uid) };
+        self.instead = vec![("room", room.to_string())];
+        let said = timed(&mut copy, &mut self.buffer, room, now, desired, id, uid)?;
+        must(said == expected, &format!("timer: {said:?} with a short buffer, expected {expected:?}"))?;
+        must(whole::whole(&copy) == Some(rules), "timer: another record than the rule's with a short buffer")?;
+        self.instead.clear();
+        Ok(())
+    }
+
+    /// The same reply on copies of the record: with a broken cookie list, and with another authenticated end, which the caller may get wrong. Without NTS no
+    /// rule reads decrypted bytes, and those that are handed over are broken.
+    fn otherwise(&mut self, packet: &[u8], d: &Drawn, t1: u64, t4: u64, now: u64) -> Found<()> {
+        let mut copy = self.record().to_vec();
+        let rules = whole::whole(&copy).ok_or("reply: the record before it is not whole")?;
+        let plain = if rules.nts { &d.plain[..] } else { BROKEN[0] };
+        let cookies = rules::collect(&d.plain).unwrap_or_default();
+        if rules.nts {
+            let first = rules.clone().reply(packet, d.auth, plain, &cookies, t1, t4, now).number;
+            let number = if first == 1 { 1 } else { 33 };
+            self.with_broken_list(number, t4, |copy, list| ffi::reply(copy, packet, d.auth, plain, list, t1, t4, now))?;
+        }
+        let mut ends = vec![0, 47, 48, 49, 52, 64, packet.len(), packet.len() + 4, usize::MAX];
+        ends.extend(
+            rules::walk(packet, 48, 16, 24).into_iter().flat_map(|walked| walked.0).flat_map(|field| [field.1, field.1 + 2]),
+        );
+        let (end, mut after) = (ends[t1 as usize % ends.len()], rules);
+        let expected = after.reply(packet, end, plain, &cookies, t1, t4, now);
+        self.instead = vec![("auth", end.to_string()), ("plain", bytes(plain)), ("list", bytes(&list(&cookies)))];
+        let said = replied(ffi::reply(&mut copy, packet, end, plain, &list(&cookies), t1, t4, now))?;
+        must(said == expected, &format!("reply: {said:?} with the authenticated end {end}, expected {expected:?}"))?;
         must(
-            untouched(&buffer[..BESIDE]) && untouched(&buffer[BESIDE + length..]),
-            "timer: bytes of the buffer past the cookie were written",
+            whole::whole(&copy) == Some(after),
+            &format!("reply: another record than the rule's with the authenticated end {end}"),
         )?;
-        self.buffer = buffer;
-        Ok(answer)
+        self.instead.clear();
+        Ok(())
+    }
+
+    /// A reply with a broken cookie list, on a copy of the record: the number, and nothing changes.
+    fn with_broken_list(&mut self, number: u8, which: u64, call: impl Fn(&mut [u8], &[u8]) -> Replied) -> Found<()> {
+        if self.settings.nts == 0 {
+            return Ok(());
+        }
+        let (mut copy, list) = (self.record().to_vec(), BROKEN[which as usize % BROKEN.len()]);
+        self.instead = vec![("list", bytes(list))];
+        let said = replied(call(&mut copy, list))?;
+        must(said.number == number, &format!("reply: {} with a broken list, expected {number}", said.number))?;
+        must(copy == self.record(), "reply: the record was changed, with a broken list")?;
+        self.instead.clear();
+        Ok(())
     }
 
     /// The request of a poll that was sent: the crate's packet, up to its 0404 field, in a buffer that is just long enough. Of a smaller
@@ -338,8 +378,8 @@ impl Library {
             .map(|(at, value)| whole::poke(&copy, *at).unwrap_or_else(|| format!("# byte {at} of the record becomes {value}")))
             .collect();
         looked(&copy)?;
-        // One byte less and one more than a record has.
-        for other in [&copy[..copy.len() - 1], &[&copy[..], &[0]].concat()] {
+        // One byte less and one more than a record has, and less than one without places has.
+        for other in [&copy[..copy.len() - 1], &[&copy[..], &[0]].concat(), &copy[..changes[0].0 % HEAD]] {
             looked(other)?;
             refused(other, self.wrong)?;
         }
@@ -471,6 +511,34 @@ fn decoded(v: &driver::state::Decoded) -> Decoded {
     }
 }
 
+/// A timer on a record, with so many bytes lent for the cookie.
+fn timed(
+    record: &mut [u8],
+    buffer: &mut Vec<u8>,
+    room: usize,
+    now: u64,
+    desired: i8,
+    id: u64,
+    uid: &[u8; 32],
+) -> Found<Answer> {
+    let said = ffi::timer(record, now, desired, id, *uid, lend(buffer, room));
+    let length = said.length as usize;
+    let answer = if said.number == 20 {
+        must(length <= room.min(STORED), "timer: the cookie is longer than the buffer or than a cookie may be")?;
+        let kind = KINDS.get(said.kind as usize).ok_or("timer: an unknown kind")?;
+        let cookie = buffer[BESIDE..BESIDE + length].to_vec();
+        let sent = Sent { kind, poll: said.poll, cookie, asked: small(said.asked.into())? };
+        Answer { number: 20, sent: Some(sent), ..Answer::default() }
+    } else {
+        let rest = (said.kind, said.poll, said.asked, length);
+        must(rest == (0, 0, 0, 0), "timer: not all is zero behind a number that is not 20")?;
+        Answer { number: small(said.number)?, ..Answer::default() }
+    };
+    let clean = untouched(&buffer[..BESIDE]) && untouched(&buffer[BESIDE + length..]);
+    must(clean, "timer: bytes of the buffer past the cookie were written")?;
+    Ok(answer)
+}
+
 fn replied(r: Replied) -> Found<Answer> {
     must(r.measured == (r.number == 0) as u8, "reply: number and measured do not go together")?;
     if r.number != 0 {
@@ -592,11 +660,15 @@ fn refused(bytes: &[u8], wrong: Option<Wrong>) -> Found<()> {
     let clean = untouched(&buffer);
     let reply = replied(ffi::reply(&mut copy, &packet, 48, &[], &[], 0, 0, 2000))?.number;
     let decoded = replied(ffi::reply_decoded(&mut copy, Decoded::default(), &[], 0, 0, 2000))?.number;
+    let unknown = replied(ffi::reply_decoded(&mut copy, Decoded { mode: 9, ..Decoded::default() }, &[], 0, 0, 2000))?.number;
     let accept = ffi::accept(&copy, 17, &[], 0);
     let saved = ffi::save(&mut copy, lend(&mut buffer, handover::LONGEST));
     let save = if (saved.written, saved.length) == (0, 0) { saved.number } else { 0 };
-    let numbers = [timer, reply.into(), decoded.into(), accept, save];
-    must(numbers == [32; 5], &format!("timer, reply, decoded reply, accept, save: {numbers:?} on a record that is not whole"))?;
+    let numbers = [timer, reply.into(), decoded.into(), unknown.into(), accept, save];
+    must(
+        numbers == [32; 6],
+        &format!("timer, reply, decoded reply, one of no kind, accept, save: {numbers:?} on a record that is not whole"),
+    )?;
     must(clean && untouched(&buffer) && copy == bytes, "32, and bytes were written")
 }
 
