@@ -4,8 +4,7 @@ import importlib.machinery
 import importlib.util
 import os
 import shutil
-from types import ModuleType
-from typing import List
+from typing import Any, List
 
 HERE = os.path.dirname(os.path.realpath(__file__))
 
@@ -14,7 +13,7 @@ class Fault(Exception):
     """What is wrong, where, and what to do."""
 
 
-def library_tool() -> ModuleType:
+def library_tool() -> Any:
     """tools/library, as a module"""
     loader = importlib.machinery.SourceFileLoader('library_tool', os.path.join(os.path.dirname(HERE), 'tools', 'library'))
     spec = importlib.util.spec_from_loader('library_tool', loader)

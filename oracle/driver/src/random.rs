@@ -381,7 +381,8 @@ impl Random {
         Op::Load { file }
     }
 
-    /// A record of a file gets another length: with a byte more or less in its body, without, or with no body at all; or another mark.
+    /// A record of a file gets another length: with a byte more or less in its body, without, or with no body at all; or another mark; or
+    /// the file ends within its head, with its mark or another.
     fn another_length(&mut self, file: &mut Vec<u8>) {
         let (mut heads, mut at) = (vec![], 0);
         while at < file.len() {
@@ -390,7 +391,13 @@ impl Random {
         }
         let head = self.r.pick(&heads);
         let n = u16::from_be_bytes([file[head + 2], file[head + 3]]);
-        let n = match self.r.below(6) {
+        let n = match self.r.below(7) {
+            6 => {
+                file.truncate(head + self.r.below(4) as usize);
+                let other = self.r.one_in(2);
+                file[head..].iter_mut().take(1).filter(|_| other).for_each(|byte| *byte ^= 1);
+                return;
+            }
             0 => {
                 file.insert(head + 4 + n as usize, self.r.next() as u8);
                 n + 1

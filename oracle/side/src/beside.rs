@@ -349,7 +349,13 @@ impl Maker {
                 file.truncate(r.below(file.len() as u64) as usize);
             }
         }
-        let room = if r.one_in(3) { r.below(495) as usize } else { 494 };
+        let needed = tools::compare(&left, &right).map_or(0, |list| list.len());
+        let room = match r.below(8) {
+            0 => needed,
+            1 => needed.saturating_sub(1),
+            2 => r.below(495) as usize,
+            _ => 494,
+        };
         Call::Compare { left, right, room }
     }
 
@@ -390,10 +396,16 @@ impl Maker {
     }
 
     fn calendar(&mut self) -> Call {
-        let repeats = self.repeats();
+        // Now and then the polls meet in the last minute of the day, and in no other.
+        let last = self.r().one_in(8);
+        let repeats = if last { vec![1440, self.r().pick(&[60, 720, 1440])] } else { self.repeats() };
         let r = self.r();
-        let entries =
-            repeats.iter().map(|n| (if r.one_in(20) { *n } else { r.below((*n).max(1).into()) as u16 }, *n)).collect();
+        let mut start = |n: u16| match r.below(20) {
+            0 => n,
+            _ if last => n.saturating_sub(1),
+            _ => r.below(n.max(1).into()) as u16,
+        };
+        let entries = repeats.iter().map(|n| (start(*n), *n)).collect();
         Call::Calendar { cap: r.pick(&[0, 1, 2, 3, 4, 8, 255]), entries }
     }
 

@@ -395,8 +395,17 @@ impl Library {
         let said = ffi::timer(&mut after, 1000, 6, 1, [1; 32], lend(&mut self.buffer, ROOM));
         must(said.number == expected.number as u32, &format!("timer: {} on a record that is whole", said.number))?;
         must(whole::whole(&after).as_ref() == Some(&timed), "timer: another record than the rule's")?;
-        let (mut after, mut saved) = (call(&copy), rules);
+        let (mut after, mut saved) = (call(&copy), rules.clone());
         let file = saved.save(handover::LONGEST).file.unwrap_or_default();
+        // A buffer with a byte less than the file has: nothing is written, and the record stays.
+        let (mut kept, mut short) = (call(&copy), rules);
+        let expected = short.save(file.len() - 1).number;
+        let said = ffi::save(&mut kept, lend(&mut self.buffer, file.len() - 1));
+        must(
+            said.number == expected as u32 && expected != 0,
+            &format!("save: {} to a short buffer, expected {expected}", said.number),
+        )?;
+        must(kept == copy && untouched(&self.buffer), "save: to a short buffer, and bytes were written")?;
         let said = ffi::save(&mut after, lend(&mut self.buffer, file.len()));
         must(said.number == 0 && self.buffer[BESIDE..BESIDE + file.len()] == file, "save: another file than the rule's")?;
         must(whole::whole(&after).as_ref() == Some(&saved), "save: another record than the rule's")
