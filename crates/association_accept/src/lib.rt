@@ -8,14 +8,14 @@ use association::{Association, Settings, State};
 use cookiestash::Seen;
 
 // What the caller's Bloom filter says about us: there is no filter, we are absent from it, or we are present in it.
-#[derive(Drop)]
+#[derive(Clone, Copy)]
 pub enum Bloom {
     NoFilter,
     Absent,
     Present,
 }
 
-#[derive(Drop)]
+#[derive(Clone, Copy)]
 pub enum AcceptAnswer {
     Accepted,
     Stratum,

@@ -19,7 +19,7 @@ pub const MOST_STARTUP: u8 = 3;
 pub const LONGEST_COOKIE: usize = 100;
 
 // The profile is met, or the first rule that is broken.
-#[derive(Drop)]
+#[derive(Clone, Copy)]
 pub enum ProfileAnswer {
     Met,
     BadSettings,
@@ -110,7 +110,7 @@ pub fn profile(settings: Settings, list: &[u8]) -> ProfileAnswer
 }
 
 // What `metered` returns: the profile's answer, what fell out while the first list was stored, and the association, which is blank if it was rejected.
-#[derive(Drop)]
+#[derive(Clone, Copy)]
 pub struct MeteredOut {
     pub answer: ProfileAnswer,
     pub dropped: Dropped,

@@ -64,7 +64,7 @@ mod command {
 
 // A log as far as it is read: the association, the number of the line, how many bytes of it are there, whether it is too long,
 // whether there is more to read, and whether reading failed.
-#[derive(Drop)]
+#[derive(Clone, Copy)]
 struct Log {
     association: Association,
     number: u64,

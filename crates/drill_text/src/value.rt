@@ -88,7 +88,7 @@ const HALF_I8: u64 = 1 << 7;
 // Signed numbers of 64 bits go down to minus this.
 const HALF_I64: u64 = 1 << 63;
 
-#[derive(Drop)]
+#[derive(Clone, Copy)]
 pub enum Number {
     Is(u64),
     Bad,

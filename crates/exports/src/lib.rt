@@ -218,7 +218,7 @@ pub extern "C" fn reckonstile_load(bytes: &mut [u8], file: &[u8]) -> CLoadAnswer
 
 // What a display or a log shows: 0 with the settings and the state, or 32 with those of an all-zero record.
 #[repr(C)]
-#[derive(Drop)]
+#[derive(Clone, Copy)]
 pub struct CView {
     pub settings: CSettings,
     pub state: CState,

@@ -23,14 +23,14 @@ pub const ENTRY: usize = 19;
 pub const MAX_LIST: usize = 494;
 
 // Which of the two files.
-#[derive(Drop)]
+#[derive(Clone, Copy)]
 pub enum Side {
     Left,
     Right,
 }
 
 // What comparing answers: how many entries the list has; which file was rejected, and why; or that the buffer is shorter than the list.
-#[derive(Drop)]
+#[derive(Clone, Copy)]
 pub enum CompareAnswer {
     Listed(usize),
     WrongMark(Side),

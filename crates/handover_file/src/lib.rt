@@ -9,7 +9,7 @@ ghost use Rattle.handover_file.specs.Answers.{save_number, load_number, says_ret
 use association::Association;
 
 // What save answers: the length of the file that was written, or why nothing was written.
-#[derive(Drop)]
+#[derive(Clone, Copy)]
 pub enum SaveAnswer {
     Saved(usize),
     NotWhole,
@@ -31,14 +31,14 @@ impl SaveAnswer {
 }
 
 // What save returns: its answer, and the association, whose cookies now belong to the file.
-#[derive(Drop)]
+#[derive(Clone, Copy)]
 pub struct SaveOut {
     pub answer: SaveAnswer,
     pub association: Association,
 }
 
 // What load answers: the first wrong mark or wrong length in the file, and only then that its bytes are no association.
-#[derive(Drop)]
+#[derive(Clone, Copy)]
 pub enum LoadAnswer {
     // Whether a version of the file was of the retired kind, and was loaded as V4.
     Loaded { retired: bool },
@@ -75,7 +75,7 @@ impl LoadAnswer {
 }
 
 // What load returns: its answer, and the association, which is blank if the file was rejected.
-#[derive(Drop)]
+#[derive(Clone, Copy)]
 pub struct LoadOut {
     pub answer: LoadAnswer,
     pub association: Association,

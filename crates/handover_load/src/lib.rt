@@ -20,7 +20,7 @@ use handover_file::{LoadAnswer, LoadOut};
 const BEHIND: usize = 28;
 
 // A stash that was read, and whether the bytes are one; if not, it is empty.
-#[derive(Drop)]
+#[derive(Clone, Copy)]
 struct Stashed {
     known: bool,
     stash: CookieStash,

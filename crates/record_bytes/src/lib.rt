@@ -11,7 +11,7 @@ use association::{Effort, Pending, Settings, State};
 use reach::Reach;
 
 // What is read from lent bytes: whether they are a record, its settings and its state.
-#[derive(Drop)]
+#[derive(Clone, Copy)]
 pub struct Opened {
     pub ok: bool,
     pub settings: Settings,

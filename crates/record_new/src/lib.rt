@@ -13,7 +13,7 @@ use association_metered::ProfileAnswer;
 use cookiestash::Dropped;
 
 // What `new` answers, or that the number of bytes does not fit the capacity.
-#[derive(Drop)]
+#[derive(Clone, Copy)]
 pub enum NewInBytes {
     Said(NewAnswer),
     WrongSize,
@@ -31,7 +31,7 @@ impl NewInBytes {
 }
 
 // What `metered` answers, or that the number of bytes does not fit the capacity.
-#[derive(Drop)]
+#[derive(Clone, Copy)]
 pub enum MeteredInBytes {
     Said(ProfileAnswer),
     WrongSize,
@@ -49,14 +49,14 @@ impl MeteredInBytes {
 }
 
 // What `new` returns: its answer, and what fell out while the first list was stored.
-#[derive(Drop)]
+#[derive(Clone, Copy)]
 pub struct NewMade {
     pub answer: NewInBytes,
     pub dropped: Dropped,
 }
 
 // What `metered` returns.
-#[derive(Drop)]
+#[derive(Clone, Copy)]
 pub struct MeteredMade {
     pub answer: MeteredInBytes,
     pub dropped: Dropped,
@@ -74,7 +74,7 @@ fn make(b: &mut [u8], settings: Settings, list: &[u8]) -> Dropped
 }
 
 // Whether the number of bytes fits the capacity, and what fell out while the first list was stored.
-#[derive(Drop)]
+#[derive(Clone, Copy)]
 struct Placed {
     fits: bool,
     dropped: Dropped,

@@ -35,7 +35,7 @@ pub fn sized(b: &[u8], capacity: u8) -> bool
 }
 
 // What is read from the rows: whether every slot is zero past its stored bytes, and how long the cookies are.
-#[derive(Drop)]
+#[derive(Clone, Copy)]
 struct RowsRead {
     padded: bool,
     lens: [u16; 8],

@@ -12,14 +12,14 @@ use time_types::NtpTimestamp;
 use wire_incoming::DecodedReply;
 
 // What a caller gets from a reply: its answer, and what fell out of the stash while the reply's cookies were stored.
-#[derive(Drop)]
+#[derive(Clone, Copy)]
 pub struct Replied {
     pub answer: ReplyAnswer,
     pub dropped: Dropped,
 }
 
 // What the reply returns: what the caller gets, and the next record.
-#[derive(Drop)]
+#[derive(Clone, Copy)]
 pub struct ReplyOut {
     pub replied: Replied,
     pub association: Association,

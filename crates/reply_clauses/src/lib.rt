@@ -11,7 +11,7 @@ use wire_header::Kisses;
 use wire_incoming::{NtpLeapIndicator, Reply};
 
 // What a measured reply says about the clocks.
-#[derive(Drop)]
+#[derive(Clone, Copy)]
 pub struct Measurement {
     pub delay: NtpDuration,
     pub offset: NtpDuration,

@@ -15,7 +15,7 @@ use reply_clauses::Measurement;
 use time_types::NtpTimestamp;
 use wire_incoming::{DecodedReply, Reply, ReplyRead};
 
-#[derive(Drop)]
+#[derive(Clone, Copy)]
 pub enum ReplyAnswer {
     Measured(Measurement),
     Undecodable,
@@ -39,7 +39,7 @@ pub enum ReplyAnswer {
 }
 
 // The result of the tests: the answer, the next state, and whether the reply's cookies are stored.
-#[derive(Drop)]
+#[derive(Clone, Copy)]
 pub struct Verdict {
     pub answer: ReplyAnswer,
     pub state: State,

@@ -12,7 +12,7 @@ use time_types::PollInterval;
 use timer_rules::{Decision, TimerAnswer, TimerInput};
 
 // What the timer returns: its answer, and the next record.
-#[derive(Drop)]
+#[derive(Clone, Copy)]
 pub struct TimerOut {
     pub answer: TimerAnswer,
     pub association: Association,

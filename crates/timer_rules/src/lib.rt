@@ -11,7 +11,7 @@ use cookiestash::{SLOT_BYTES, Seen};
 use time_types::PollInterval;
 use version::SendKind;
 
-#[derive(Drop)]
+#[derive(Clone, Copy)]
 pub enum TimerAnswer {
     // A poll is sent: its kind and poll exponent; with NTS the length of its cookie and how many new ones it asks for.
     Sent {
@@ -29,7 +29,7 @@ pub enum TimerAnswer {
 }
 
 // What the caller passes for a poll: the time, the desired poll exponent, and the identifiers.
-#[derive(Drop)]
+#[derive(Clone, Copy)]
 pub struct TimerInput {
     pub time: u64,
     pub desired: PollInterval,
@@ -38,7 +38,7 @@ pub struct TimerInput {
 }
 
 // What the timer decides: its answer, the next state, and whether the oldest cookie is taken.
-#[derive(Drop)]
+#[derive(Clone, Copy)]
 pub struct Decision {
     pub answer: TimerAnswer,
     pub state: State,

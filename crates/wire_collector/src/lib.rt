@@ -11,7 +11,7 @@ use wire_fields::{Step, Walked};
 pub const COOKIE_KIND: u16 = 0x0204;
 
 // The length of the list that was written, or why nothing was written.
-#[derive(Drop)]
+#[derive(Clone, Copy)]
 pub enum Collected {
     Done(usize),
     Broken,

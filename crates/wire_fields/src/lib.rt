@@ -20,7 +20,7 @@ const DECRYPTED_LEAST: usize = 4;
 const DECRYPTED_TAIL: usize = 0;
 
 // What is at an offset: a field, whose body is `len` bytes from `start` and which ends at `next`; the end of the walk; or something broken.
-#[derive(Drop)]
+#[derive(Clone, Copy)]
 pub enum Step {
     Field {
         kind: u16,
@@ -83,7 +83,7 @@ pub fn decrypted_field_at(p: &[u8], at: usize) -> Step
 }
 
 // Where a walk ends, or that it is broken.
-#[derive(Drop)]
+#[derive(Clone, Copy)]
 pub enum Walked {
     Ends(usize),
     Broken,

@@ -24,7 +24,7 @@ pub fn body_at(p: &[u8], start: usize, len: usize) -> &[u8]
     }
 }
 
-#[derive(Drop)]
+#[derive(Clone, Copy)]
 pub struct Walker<'a> {
     pub packet: &'a [u8],
     pub at: usize,

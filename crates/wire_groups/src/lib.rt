@@ -13,7 +13,7 @@ use wire_header::HEADER_BYTES;
 pub const UID_KIND: u16 = 0x0104;
 
 // A group of fields has no identifier, only identifiers that agree with the expected one, or one that does not.
-#[derive(Drop)]
+#[derive(Clone, Copy)]
 pub enum Uid {
     Absent,
     Agree,

@@ -12,7 +12,7 @@ use wire_groups::Uid;
 use wire_header::{HEADER_BYTES, Header, HeaderRead, HeaderVersion, Kisses, Leap, Mode};
 
 // The leap kinds of a measurement: a header's four, and Unknown, which only the decoded form can carry.
-#[derive(Drop)]
+#[derive(Clone, Copy)]
 pub enum NtpLeapIndicator {
     NoWarning,
     Leap61,
@@ -22,7 +22,7 @@ pub enum NtpLeapIndicator {
 }
 
 // What a reply says, in the terms in which it is judged.
-#[derive(Drop)]
+#[derive(Clone, Copy)]
 pub struct Reply {
     pub version: u8,
     pub leap: NtpLeapIndicator,
@@ -45,21 +45,21 @@ pub struct Reply {
     pub untrusted: Uid,
 }
 
-#[derive(Drop)]
+#[derive(Clone, Copy)]
 pub enum ReplyRead {
     Decoded(Reply),
     Undecodable,
 }
 
 // The mode of a V5 packet.
-#[derive(Drop)]
+#[derive(Clone, Copy)]
 pub enum DecodedMode {
     Request,
     Response,
 }
 
 // The decoded form of a reply, V5 only: what the caller reads from the packet.
-#[derive(Drop)]
+#[derive(Clone, Copy)]
 pub struct DecodedReply {
     pub leap: NtpLeapIndicator,
     pub mode: DecodedMode,

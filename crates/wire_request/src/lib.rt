@@ -31,7 +31,7 @@ const IN_FRONT: usize = 84;
 const MAX_ASKED: u8 = 8;
 
 // The length of the packet that was written, or why nothing was written.
-#[derive(Drop)]
+#[derive(Clone, Copy)]
 pub enum Requested {
     Written(usize),
     VersionFive,

@@ -1,0 +1,24 @@
+-- `earliest` meets its contract. The invariant: no start passed fits.
+-- Assumes nothing.
+use native.Mathlib.Omega.{arith}
+use borrow.Author.Rules.{rules}
+use mathlib.Core.Path.{sym, ◌∙◌}
+use Prim.Native.Nat.{◌-◌}
+use Rattle.calendar.specs.Lowest.{None}
+use Rattle.calendar.specs.Loads.{free}
+use Rattle.calendar.specs.declared.Found.TheVariants.{At, Nothing}
+use Rattle.calendar.proofs.Search.{is, none_yet, none_more}
+use Rattle.calendar.proofs.earliest.Goals as goal
+
+pub returns-then-fits : goal.returns-then-fits
+returns-then-fits c =
+    let l = c.loop-start in
+    sym (is _ _ (At l.start) (record {
+      below = c.loop-start-test.true;
+      passes = sym c.fits.ensures
+          ∙ c.if-fits.true;
+      first = l.invariant;
+    }))
+
+pub returns : goal.returns
+returns c = sym (is _ _ Nothing (λ j h. c.loop-start.invariant j (omega arith)))

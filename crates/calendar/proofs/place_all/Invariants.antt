@@ -1,0 +1,17 @@
+-- `place_all` meets its contract. The invariant: the entries passed are placed, and the rest of the plan is that of the rest.
+-- Assumes nothing.
+use native.Mathlib.Omega.{arith}
+use borrow.Author.Rules.{rules}
+use mathlib.Core.Path.{◌≡◌, refl, sym, ◌∙◌}
+use Prim.Native.Nat.{◌-◌}
+use lib.ListN.{length, length-set}
+use Rattle.calendar.proofs.Search.{found}
+use Rattle.calendar.proofs.Loaded.{small}
+use Rattle.calendar.proofs.Placing.{Placing, begin, stops, step, ends}
+use Rattle.calendar.proofs.place_all.Given as goal
+
+abbrev pub invariant-loop-k : goal.invariant-loop-k
+invariant-loop-k l = (length l.placed ≡ length l.initial.placed) × Placing l.cap l.repeats l.loads l.placed l.k
+
+abbrev pub decreases-loop-k : goal.decreases-loop-k
+decreases-loop-k l = length l.repeats - l.k
