@@ -1,6 +1,5 @@
 -- `salvage::followed` meets its contract.
 -- Assumes nothing.
-use borrow.Author.Rules.{rules}
 use borrow.Author.Tests.{eq-eqb, ne_eqb}
 use mathlib.Core.Path.{sym, ◌∙◌}
 use Rattle.salvage.specs.Walk.{followed}

@@ -1,8 +1,6 @@
 -- `salvage::mark_at` meets its contract: each answer is that of the tests that led to it.
 -- Assumes nothing.
 use mathlib.Core.Path.{sym, ◌∙◌}
-use borrow.Author.Rules.{rules}
-use borrow.Author.Tests.{not-true, not-false}
 use Rattle.cookielist.specs.List.{record_mark_at}
 use Rattle.salvage.specs.Walk.{mark_at}
 use Rattle.salvage.proofs.mark_at.Goals as goal

@@ -1,6 +1,5 @@
 -- `salvage::record_at` meets its contract: the list's own entry decides, and what follows it.
 -- Assumes nothing.
-use borrow.Author.Rules.{rules}
 use mathlib.Core.Path.{◌≡◌, sym, ◌∙◌}
 use Rattle.cookielist.specs.List.{entry_at}
 use Rattle.cookielist.specs.declared.Entry.TheVariants.{Cookie}

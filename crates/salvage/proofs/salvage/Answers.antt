@@ -1,22 +1,19 @@
 -- `salvage::salvage` meets its contract. The invariant: what is reported and written so far, and that the rest is what the walk from here on reports.
 -- Assumes nothing.
-use borrow.Author.Rules.{rules}
-use borrow.Author.Tests.{le-ltb, lt-ltb, not-true, not-false}
+use borrow.Author.Tests.{le-ltb, lt-ltb}
 use native.Mathlib.Omega.{arith}
-use mathlib.Core.Path.{◌≡◌, refl, sym, ◌∙◌, ap}
-use mathlib.Core.Logic.{⊎_elim}
-use mathlib.Core.List.{List}
-use Prim.Native.Nat.{ℕ, ◌-◌, ◌≤◌, ◌<◌}
-use lib.ListN.{length, take, drop}
+use mathlib.Core.Path.{◌≡◌, sym, ◌∙◌}
+use Prim.Native.Nat.{◌≤◌, ◌<◌}
+use lib.ListN.{length}
 use Rattle.words.specs.Bytes.{part}
 use Rattle.words.proofs.Put.{laid_put}
-use Rattle.salvage.specs.declared.Found.TheVariants.{Record, Nothing}
+use Rattle.salvage.specs.declared.Found.TheVariants.{Record}
 use Rattle.salvage.specs.Walk.{record_at}
-use Rattle.salvage.specs.Salvage.{clean_of, salvage_of, buffer_of}
+use Rattle.salvage.specs.Salvage.{salvage_of, buffer_of}
 use Rattle.salvage.proofs.Walks.{Kept, is_kept}
-use Rattle.salvage.proofs.Along.{Along, start, fits, keep, skip, begin_told, begin_untold, reported, whole_buffer}
+use Rattle.salvage.proofs.Along.{start, fits, keep, skip, begin_told, begin_untold, reported, whole_buffer}
 use Rattle.salvage.proofs.salvage.Goals as goal
-use Rattle.salvage.proofs.salvage.Goals.{In-Record}
+use Rattle.salvage.proofs.salvage.Goals.{In-Record, then-not-in_gap, then-gaps-lt-PLACES, else-gaps-lt-PLACES, else-not-in_gap}
 
 -- the record that the pattern bound
 here : (k : In-Record) →
@@ -63,14 +60,21 @@ loop-at-preserved c =
     let i = c.loop-at.invariant in
     let e = sym c.record_at.ensures ∙ c.in-Nothing.is in
     let h : c.loop-at.at < length a.list.now = omega arith in
-    ⊎_elim
-    (λ w.
-    ⊎_elim
-    (λ v. rw (w.2, w.3, v.1) (begin_told _ _ _ _ _ _ _ _ _ _ i h e (not-true _ w.0.taken) v.0.taken))
-    (λ v. rw (w.2, w.3, v.1) (begin_untold _ _ _ _ _ _ _ _ _ _ i h e (not-true _ w.0.taken) v.0.left))
-    w.1.came)
-    (λ w. rw (w.1, w.2) (skip _ _ _ _ _ _ _ _ _ _ i h e (not-false _ w.0.left)))
-    c.if-not-in_gap.branch
+    elim c.if-not-in_gap.branch [
+      | then-not-in_gap w ↦ elim w.if-gaps-lt-PLACES.branch [
+        | then-gaps-lt-PLACES v ↦
+            rw (w.places-is, w.gaps-is, v.places-is) (begin_told _ _ _ _ _ _ _ _ _ _ i h e w.if-not-in_gap.true v.if-gaps-lt-PLACES.true)
+        | else-gaps-lt-PLACES v ↦
+            rw (w.places-is, w.gaps-is, v.places-is) (begin_untold _ _ _ _ _ _ _ _ _ _ i h e w.if-not-in_gap.true v.if-gaps-lt-PLACES.false)
+      ]
+      | else-not-in_gap w ↦ rw (w.places-is, w.gaps-is) (skip _ _ _ _ _ _ _ _ _ _ i h e w.if-not-in_gap.false)
+    ]
+
+pub slice_bounds-lay-start : goal.slice_bounds-lay-start
+slice_bounds-lay-start c = let k = found (goal.at.slice_bounds-lay-start c).In-Record in omega (arith, k.headed)
+
+pub slice_bounds-lay-end : goal.slice_bounds-lay-end
+slice_bounds-lay-end c = let k = found (goal.at.slice_bounds-lay-end c).In-Record in omega (arith, k.within)
 
 pub returns : goal.returns
 unfolding salvage_of buffer_of
