@@ -1,9 +1,9 @@
 -- `wire_header::fields_in` meets its contract: field by field, what each call ensures.
 -- Assumes nothing.
-use borrow.Author.Rules.{rules}
 use mathlib.Core.Path.{◌∙◌}
 use lib.ListN.{get_or}
 use mir.Facts.{to_z-of_z}
+use mir.Syntax.{w8}
 use Rattle.identifiers.specs.Names.{named}
 use Rattle.time_types.specs.Time.{timestamp}
 use Rattle.time_types.specs.Poll.{interval}
@@ -15,8 +15,8 @@ unfolding fields
 returns c =
     let poll = c.u8_as_i8 in
     let precision = c.u8_as_i8-precision in
-    let is-poll = to_z-of_z (record { sfits = poll.type-inv }) ∙ poll.ensures in
-    let is-precision = to_z-of_z (record { sfits = precision.type-inv }) ∙ precision.ensures in
+    let is-poll = to_z-of_z {w = w8} (record { sfits = poll.type_inv }) ∙ poll.ensures in
+    let is-precision = to_z-of_z {w = w8} (record { sfits = precision.type_inv }) ∙ precision.ensures in
     λ i. record {
       version = c.args.version;
       leap = c.leap_of-leap.ensures i;

@@ -1,8 +1,6 @@
 -- `wire_header::fields_of` meets its contract: no field lies past the first 48 bytes.
 -- Assumes nothing.
 use mathlib.Core.Path.{◌∙◌}
-use native.Mathlib.Omega.{arith}
-use lib.ListN.{length-take}
 use Rattle.wire_header.proofs.Head.{fields_head}
 use Rattle.wire_header.proofs.fields_of.Goals as goal
 

@@ -10,6 +10,6 @@ use Rattle.wire_header.proofs.put64.Goals as goal
 
 pub returns : goal.returns
 returns c =
-    let long : length c.args.t1 ≡ 48 = search rules in
+    let long : length c.args.out ≡ 48 = search rules in
     let said = c.be64_bytes.ensures in
-    (laid_put _ _ _ c.lay.ensures (omega (arith, ap length said))).leaves ∙ ap (laid_at c.args.t1 c.args.at) said
+    (laid_put _ _ _ c.lay.ensures (omega (arith, ap length said))).leaves ∙ ap (laid_at c.args.out c.args.at) said

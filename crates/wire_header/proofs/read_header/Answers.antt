@@ -1,7 +1,8 @@
 -- `wire_header::read_header` meets its contract: the tests that led to each return are those of the definition.
 -- Assumes nothing.
-use borrow.Author.Rules.{rules}
-use borrow.Author.Tests.{lt-ltb, le-ltb, ne_eqb}
+use native.Mathlib.Omega.{arith}
+use Rattle.std.proofs.lemmas.Grind.{common_steps}
+use borrow.Author.Tests.{lt-ltb, le-ltb}
 use Rattle.wire_header.specs.Header.{header_of}
 use Rattle.wire_header.proofs.read_header.Goals as goal
 
@@ -19,4 +20,4 @@ returns-in-4 c = simp (le-ltb _ _ c.if-p-lt-HEADER_BYTES.false, c.in-4.is, c.fie
 
 pub returns-in_default : goal.returns-in_default
 unfolding header_of
-returns-in_default c = simp (le-ltb _ _ c.if-p-lt-HEADER_BYTES.false, ne_eqb _ _ c.in_default.rest.0.1, ne_eqb _ _ c.in_default.rest.1)
+returns-in_default c = grind (arith, common_steps)

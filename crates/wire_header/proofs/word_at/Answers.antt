@@ -1,6 +1,5 @@
 -- `wire_header::word_at` meets its contract: a word is its two halves.
 -- Assumes nothing.
-use borrow.Author.Rules.{rules}
 use native.Mathlib.Omega.{arith}
 use Rattle.wire_header.proofs.Head.{halves}
 use Rattle.wire_header.proofs.word_at.Goals as goal

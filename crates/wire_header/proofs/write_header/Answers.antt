@@ -6,12 +6,13 @@ use mathlib.Core.List.{List, ◌∷◌}
 use Prim.Native.Nat.{ℕ, ◌^◌}
 use lib.ListN.{replicate}
 use mir.Facts.{to_z-of_z}
+use mir.Syntax.{w8}
+use mir.Val.{SFits}
 use Rattle.words.specs.Bytes.{to_be}
 use Rattle.words.specs.Put.{laid_at}
 use Rattle.words.specs.Signed.{unsigned}
 use Rattle.wire_header.specs.Header.{first_byte, bytes_of}
 use Rattle.wire_header.specs.declared.Header.{Header}
-use Rattle.wire_header.proofs.Fit.{types_fit}
 use Rattle.wire_header.proofs.write_header.Goals as goal
 
 -- the words, put in one after the other behind the four bytes, lie as in the definition
@@ -30,11 +31,12 @@ laid h eb ep eq e₁ e₂ e₃ e₄ e₅ e₆ e₇ = rw (e₇, e₆, e₅, e₄,
 
 pub returns : goal.returns
 returns c =
-    let fit = types_fit c.args.h _ c.well-formed.0 in
+    let poll : SFits w8 c.args.h.poll.0 = search rules in
+    let precision : SFits w8 c.args.h.precision = search rules in
     laid c.args.h
     c.first_byte.ensures
-    (c.i8_as_u8.ensures ∙ ap (unsigned (2 ^ 7)) (to_z-of_z fit.poll))
-    (c.i8_as_u8-2.ensures ∙ ap (unsigned (2 ^ 7)) (to_z-of_z fit.precision))
+    (c.i8_as_u8.ensures ∙ ap (unsigned (2 ^ 7)) (to_z-of_z poll))
+    (c.i8_as_u8-2.ensures ∙ ap (unsigned (2 ^ 7)) (to_z-of_z precision))
     c.put32-out.ensures
     c.put32-out-2.ensures
     c.put32-out-3.ensures

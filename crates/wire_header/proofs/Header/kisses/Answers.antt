@@ -1,6 +1,5 @@
 -- `wire_header::Header::kisses` meets its contract: the test of the stratum, and what each name's test ensures.
 -- Assumes nothing.
-use borrow.Author.Rules.{rules}
 use borrow.Author.Tests.{eq-eqb, ne_eqb}
 use Rattle.wire_header.specs.Kiss.{kisses_of}
 use Rattle.wire_header.proofs.Header.kisses.Goals as goal
