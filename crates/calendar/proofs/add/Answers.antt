@@ -1,9 +1,7 @@
 -- `add` meets its contract. The invariant: the minutes passed have their poll, and those ahead are as they were.
 -- Assumes nothing.
 use native.Mathlib.Omega.{arith}
-use Prim.Native.Nat.{◌-◌}
-use lib.ListN.{length, length-set}
-use Rattle.calendar.proofs.Adding.{Adding, begin, step}
+use Rattle.calendar.proofs.Adding.{step}
 use Rattle.calendar.proofs.add.Goals as goal
 
 pub loop-m-preserved : goal.loop-m-preserved

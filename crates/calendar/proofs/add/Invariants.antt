@@ -1,9 +1,7 @@
 -- `add` meets its contract. The invariant: the minutes passed have their poll, and those ahead are as they were.
 -- Assumes nothing.
-use native.Mathlib.Omega.{arith}
 use Prim.Native.Nat.{◌-◌}
-use lib.ListN.{length, length-set}
-use Rattle.calendar.proofs.Adding.{Adding, begin, step}
+use Rattle.calendar.proofs.Adding.{Adding}
 use Rattle.calendar.proofs.add.Given as goal
 
 abbrev pub invariant-loop-m : goal.invariant-loop-m

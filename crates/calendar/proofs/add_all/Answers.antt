@@ -1,10 +1,7 @@
 -- `add_all` meets its contract. The invariant: the loads are those of the entries passed.
 -- Assumes nothing.
 use native.Mathlib.Omega.{arith}
-use borrow.Author.Rules.{rules}
-use mathlib.Core.Path.{◌≡◌, sym, ◌∙◌}
-use Prim.Native.Nat.{◌-◌, ◌≤◌}
-use Rattle.calendar.proofs.Loaded.{Loaded, of_none, small, of_more, of_all}
+use Rattle.calendar.proofs.Loaded.{of_none, small, of_more}
 use Rattle.calendar.proofs.add_all.Goals as goal
 
 pub loop-k-init : goal.loop-k-init

@@ -1,14 +1,11 @@
 -- `bad_repeat` meets its contract. The invariant: each repeat passed divides the day.
 -- Assumes nothing.
 use native.Mathlib.Omega.{arith}
-use borrow.Author.Rules.{rules}
 use mathlib.Core.Path.{sym, ap, ◌∙◌}
 use mathlib.Core.Bool.{not}
-use Prim.Native.Nat.{◌-◌}
-use Rattle.calendar.specs.Lowest.{None}
-use Rattle.calendar.specs.Calendar.{divides_day, bad_repeat}
+use Rattle.calendar.specs.Calendar.{divides_day}
 use Rattle.calendar.specs.declared.Found.TheVariants.{At, Nothing}
-use Rattle.calendar.proofs.Search.{is, none_yet, none_more}
+use Rattle.calendar.proofs.Search.{is}
 use Rattle.calendar.proofs.bad_repeat.Goals as goal
 
 pub returns-then-not-divides_day : goal.returns-then-not-divides_day

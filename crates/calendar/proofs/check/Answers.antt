@@ -1,6 +1,5 @@
 -- `check` meets its contract: the tests in order.
 -- Assumes nothing.
-use borrow.Author.Rules.{rules}
 use mathlib.Core.Path.{refl, sym, ◌∙◌}
 use borrow.Author.Tests.{leb-false}
 use Rattle.calendar.proofs.Search.{nothing}

@@ -1,11 +1,7 @@
 -- `copy` meets its contract. The invariant: the numbers passed are written, and the rest of the list is as it was.
 -- Assumes nothing.
-use native.Mathlib.Omega.{arith}
-use mathlib.Core.Path.{◌≡◌, refl, ◌∙◌}
-use mathlib.Core.List.{◌++◌}
-use Prim.Native.Nat.{◌-◌, ◌≤◌}
-use lib.ListN.{length, take, drop}
-use Rattle.calendar.proofs.Copying.{Copying, begin, step, whole}
+use Prim.Native.Nat.{◌-◌}
+use Rattle.calendar.proofs.Copying.{Copying}
 use Rattle.calendar.proofs.copy.Given as goal
 
 abbrev pub invariant-loop-i : goal.invariant-loop-i

@@ -1,13 +1,8 @@
 -- `earliest` meets its contract. The invariant: no start passed fits.
 -- Assumes nothing.
-use native.Mathlib.Omega.{arith}
-use borrow.Author.Rules.{rules}
-use mathlib.Core.Path.{sym, ◌∙◌}
 use Prim.Native.Nat.{◌-◌}
 use Rattle.calendar.specs.Lowest.{None}
 use Rattle.calendar.specs.Loads.{free}
-use Rattle.calendar.specs.declared.Found.TheVariants.{At, Nothing}
-use Rattle.calendar.proofs.Search.{is, none_yet, none_more}
 use Rattle.calendar.proofs.earliest.Given as goal
 
 abbrev pub invariant-loop-start : goal.invariant-loop-start

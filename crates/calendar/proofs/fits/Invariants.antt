@@ -1,9 +1,7 @@
 -- `fits` meets its contract. The invariant: no minute of the entry that was passed is taken.
 -- Assumes nothing.
-use native.Mathlib.Omega.{arith}
-use mathlib.Core.Path.{sym}
 use Prim.Native.Nat.{◌-◌}
-use Rattle.calendar.proofs.Passing.{Passing, begin, step, is_free, is_taken}
+use Rattle.calendar.proofs.Passing.{Passing}
 use Rattle.calendar.proofs.fits.Given as goal
 
 abbrev pub invariant-loop-m : goal.invariant-loop-m

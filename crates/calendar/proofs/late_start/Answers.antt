@@ -1,16 +1,13 @@
 -- `late_start` meets its contract. The invariant: no entry passed starts late.
 -- Assumes nothing.
 use native.Mathlib.Omega.{arith}
-use borrow.Author.Rules.{rules}
 use mathlib.Core.Path.{◌≡◌, sym}
-use mathlib.Core.Bool.{true, false}
-use Prim.Native.Nat.{ℕ, ◌-◌, ◌≤◌, ◌<◌}
+use mathlib.Core.Bool.{true}
+use Prim.Native.Nat.{ℕ, ◌≤◌}
 use lib.Dec.{leb}
-use borrow.Author.Tests.{le-leb, lt-leb}
-use Rattle.calendar.specs.Lowest.{None}
-use Rattle.calendar.specs.Calendar.{late_start}
+use borrow.Author.Tests.{le-leb}
 use Rattle.calendar.specs.declared.Found.TheVariants.{At, Nothing}
-use Rattle.calendar.proofs.Search.{is, none_yet, none_more}
+use Rattle.calendar.proofs.Search.{is}
 use Rattle.calendar.proofs.late_start.Goals as goal
 
 late : (r s a b : ℕ) → r ≡ a → s ≡ b → r ≤ s → leb a b ≡ true

@@ -1,9 +1,7 @@
 -- `left_of_day` meets its contract. The invariant: what is left has the remainder of the whole.
 -- Assumes nothing.
-use native.Mathlib.Omega.{arith}
-use mathlib.Core.Path.{◌≡◌, refl, sym, ◌∙◌}
-use Prim.Native.Nat.{◌%◌}
-use native.Mathlib.Nat.{mod-eq_of_lt, mod-eq-sub-mod}
+use mathlib.Core.Path.{sym, ◌∙◌}
+use native.Mathlib.Nat.{mod-eq-sub-mod}
 use Rattle.calendar.proofs.left_of_day.Goals as goal
 
 pub loop-left-preserved : goal.loop-left-preserved

@@ -1,9 +1,7 @@
 -- `left_of_day` meets its contract. The invariant: what is left has the remainder of the whole.
 -- Assumes nothing.
-use native.Mathlib.Omega.{arith}
-use mathlib.Core.Path.{◌≡◌, refl, sym, ◌∙◌}
+use mathlib.Core.Path.{◌≡◌}
 use Prim.Native.Nat.{◌%◌}
-use native.Mathlib.Nat.{mod-eq_of_lt, mod-eq-sub-mod}
 use Rattle.calendar.proofs.left_of_day.Given as goal
 
 abbrev pub invariant-loop-left : goal.invariant-loop-left

@@ -2,12 +2,9 @@
 -- Assumes nothing.
 use native.Mathlib.Omega.{arith}
 use mathlib.Core.Path.{sym}
-use Prim.Native.Nat.{◌-◌}
-use borrow.Author.Tests.{lt-ltb, le-ltb}
-use Rattle.calendar.specs.Lowest.{None}
-use Rattle.calendar.specs.Loads.{above}
+use borrow.Author.Tests.{lt-ltb}
 use Rattle.calendar.specs.declared.Found.TheVariants.{At, Nothing}
-use Rattle.calendar.proofs.Search.{is, none_yet, none_more}
+use Rattle.calendar.proofs.Search.{is}
 use Rattle.calendar.proofs.over_cap.Goals as goal
 
 pub returns-then-cap-loads : goal.returns-then-cap-loads

@@ -1,13 +1,8 @@
 -- `over_cap` meets its contract. The invariant: no minute passed is above the cap.
 -- Assumes nothing.
-use native.Mathlib.Omega.{arith}
-use mathlib.Core.Path.{sym}
 use Prim.Native.Nat.{◌-◌}
-use borrow.Author.Tests.{lt-ltb, le-ltb}
 use Rattle.calendar.specs.Lowest.{None}
 use Rattle.calendar.specs.Loads.{above}
-use Rattle.calendar.specs.declared.Found.TheVariants.{At, Nothing}
-use Rattle.calendar.proofs.Search.{is, none_yet, none_more}
 use Rattle.calendar.proofs.over_cap.Given as goal
 
 abbrev pub invariant-loop-m : goal.invariant-loop-m

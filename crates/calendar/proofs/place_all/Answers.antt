@@ -1,13 +1,11 @@
 -- `place_all` meets its contract. The invariant: the entries passed are placed, and the rest of the plan is that of the rest.
 -- Assumes nothing.
 use native.Mathlib.Omega.{arith}
-use borrow.Author.Rules.{rules}
-use mathlib.Core.Path.{◌≡◌, refl, sym, ◌∙◌}
-use Prim.Native.Nat.{◌-◌}
-use lib.ListN.{length, length-set}
+use mathlib.Core.Path.{refl, sym, ◌∙◌}
+use lib.ListN.{length-set}
 use Rattle.calendar.proofs.Search.{found}
 use Rattle.calendar.proofs.Loaded.{small}
-use Rattle.calendar.proofs.Placing.{Placing, begin, stops, step, ends}
+use Rattle.calendar.proofs.Placing.{begin, stops, step, ends}
 use Rattle.calendar.proofs.place_all.Goals as goal
 
 pub loop-k-init : goal.loop-k-init

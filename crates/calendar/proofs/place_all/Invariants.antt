@@ -1,13 +1,9 @@
 -- `place_all` meets its contract. The invariant: the entries passed are placed, and the rest of the plan is that of the rest.
 -- Assumes nothing.
-use native.Mathlib.Omega.{arith}
-use borrow.Author.Rules.{rules}
-use mathlib.Core.Path.{◌≡◌, refl, sym, ◌∙◌}
+use mathlib.Core.Path.{◌≡◌}
 use Prim.Native.Nat.{◌-◌}
-use lib.ListN.{length, length-set}
-use Rattle.calendar.proofs.Search.{found}
-use Rattle.calendar.proofs.Loaded.{small}
-use Rattle.calendar.proofs.Placing.{Placing, begin, stops, step, ends}
+use lib.ListN.{length}
+use Rattle.calendar.proofs.Placing.{Placing}
 use Rattle.calendar.proofs.place_all.Given as goal
 
 abbrev pub invariant-loop-k : goal.invariant-loop-k

@@ -1,7 +1,6 @@
 -- `plan` meets its contract: the tests in order.
 -- Assumes nothing.
 use native.Mathlib.Omega.{arith}
-use borrow.Author.Rules.{rules}
 use mathlib.Core.Path.{refl, sym, ◌∙◌}
 use Rattle.calendar.proofs.Search.{nothing}
 use Rattle.calendar.proofs.Repeats.{zero_at, good}

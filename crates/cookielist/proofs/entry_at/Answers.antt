@@ -1,7 +1,6 @@
 -- `entry_at` meets its contract: each answer is that of the tests that led to it. Assumes nothing.
 use Prim.Native.Nat.{◌-◌}
 use native.Mathlib.Omega.{arith}
-use borrow.Author.Rules.{rules}
 use borrow.Author.Tests.{le-ltb, lt-ltb, eq-eqb, ne_eqb}
 use lib.ListN.{length}
 use Rattle.cookielist.specs.List.{record_mark_at, length_at, entry_at}

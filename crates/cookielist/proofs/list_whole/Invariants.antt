@@ -1,12 +1,8 @@
 -- `list_whole` meets its contract. The loop's invariant: what is read from `at` on decides. Assumes nothing.
 use Prim.Native.Nat.{◌≤◌, ◌-◌}
-use mathlib.Core.Path.{◌≡◌, refl, sym, ◌∙◌}
-use native.Mathlib.Omega.{arith}
-use borrow.Author.Rules.{rules}
+use mathlib.Core.Path.{◌≡◌}
 use lib.ListN.{length}
-use Rattle.cookielist.specs.declared.Entry.TheVariants.{Cookie}
-use Rattle.cookielist.specs.List.{entry_at, is_whole, cookies_from, cookies_in}
-use Rattle.cookielist.proofs.Reader.{placed, whole_cookie, whole_end, whole_broken}
+use Rattle.cookielist.specs.List.{is_whole, cookies_from, cookies_in}
 use Rattle.cookielist.proofs.list_whole.Given as goal
 
 abbrev pub invariant-loop-end : goal.invariant-loop-end
