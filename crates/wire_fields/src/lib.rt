@@ -1,6 +1,8 @@
 // Extension fields: what is at an offset, the walk over them, and its places. Module `walker` holds the caller's bytes and finds a field's body.
 // Promises: a walk's fields follow one another within the packet; it is rejected exactly if it meets something broken; a body is part of the packet itself.
 // Rule: RULES, part 7 (RFC 7822); definitions in specs/Field.antt and specs/Walk.antt, of the walker in specs/Walker.antt.
+#![tactic(auto)]
+
 pub mod walker;
 
 ghost use Rattle.std.specs.Prelude.{◌≡◌, ◌≤◌};
