@@ -2,11 +2,7 @@
 -- Assumes nothing.
 use Prim.Native.Nat.{◌≤◌, ◌-◌}
 use mathlib.Core.Path.{◌≡◌}
-use native.Mathlib.Omega.{arith}
-use lib.ListN.{length}
-use Rattle.cookiestash.specs.Stash.{stored, slot_of}
-use Rattle.cookiestash.proofs.Front.{front, front_none, front_more}
-use Rattle.cookiestash.proofs.Stored.{stored_bounds}
+use Rattle.cookiestash.proofs.Front.{front}
 use Rattle.cookiestash.proofs.kept_bytes.Given as goal
 
 abbrev pub invariant-loop-i : goal.invariant-loop-i

@@ -1,5 +1,4 @@
 -- `CookieStash::falls` meets its contract. Assumes nothing.
-use borrow.Author.Rules.{rules}
 use borrow.Author.Tests.{le-leb, lt-leb}
 use Rattle.cookiestash.specs.Stash.{full}
 use Rattle.cookiestash.specs.Falling.{oldest_of}

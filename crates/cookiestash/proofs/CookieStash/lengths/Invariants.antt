@@ -1,15 +1,8 @@
 -- `CookieStash::lengths` meets its contract. The loop's invariant: the lengths passed are there. Assumes nothing.
 use Prim.Native.Nat.{ℕ, ◌≤◌, ◌<◌, ◌-◌}
-use mathlib.Core.Path.{◌≡◌, sym, ◌∙◌}
-use native.Mathlib.Omega.{arith}
-use borrow.Author.Count.{below_none}
-use borrow.Author.Rules.{rules}
-use lib.ListN.{length, get_or, length-map}
-use lib.Seq.{ext_get_or}
+use mathlib.Core.Path.{◌≡◌}
+use lib.ListN.{length, get_or}
 use Rattle.cookiestash.specs.Stash.{slot_at}
-use Rattle.cookiestash.specs.Whole.{lens_of}
-use Rattle.cookiestash.proofs.Scan.{length_step, length_mapped}
-use Rattle.cookiestash.proofs.Lengths.{len_at}
 use Rattle.cookiestash.proofs.CookieStash.lengths.Given as goal
 
 abbrev pub invariant-loop-i : goal.invariant-loop-i

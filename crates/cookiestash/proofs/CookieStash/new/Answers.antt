@@ -1,5 +1,4 @@
 -- `CookieStash::new` meets its contract. Assumes nothing.
-use borrow.Author.Rules.{rules}
 use Rattle.cookiestash.specs.Stash.{new_of}
 use Rattle.cookiestash.proofs.CookieStash.new.Goals as goal
 

@@ -1,17 +1,16 @@
 -- `CookieStash::put` meets its contract. Assumes nothing.
 use Prim.Native.Nat.{◌+◌}
 use native.Mathlib.Omega.{arith}
-use borrow.Author.Rules.{rules}
 use borrow.Author.Tests.{le-leb, lt-leb}
 use Rattle.cookiestash.specs.Stash.{full, put_of}
 use Rattle.cookiestash.proofs.Places.{wrap_lt}
 use Rattle.cookiestash.proofs.CookieStash.put.Goals as goal
 
 pub offset_bounds-self-at : goal.offset_bounds-self-at
-offset_bounds-self-at c = let s = c.args.t1 in omega (arith, wrap_lt c.args.cap (s.read + s.held) (omega arith))
+offset_bounds-self-at c = let s = c.args.self in omega (arith, wrap_lt c.args.cap (s.read + s.held) (omega arith))
 
 pub bounds-self-at : goal.bounds-self-at
-bounds-self-at c = let s = c.args.t1 in omega (arith, wrap_lt c.args.cap (s.read + s.held) (omega arith))
+bounds-self-at c = let s = c.args.self in omega (arith, wrap_lt c.args.cap (s.read + s.held) (omega arith))
 
 pub returns-then-held-cap : goal.returns-then-held-cap
 unfolding put_of full

@@ -1,6 +1,5 @@
 -- `Slot::padded` meets its contract: of an empty slot nothing is stored. Assumes nothing.
 use mathlib.Core.Path.{◌∙◌}
-use borrow.Author.Rules.{rules}
 use Rattle.cookiestash.specs.Stash.{stored}
 use Rattle.cookiestash.specs.Whole.{padded}
 use Rattle.cookiestash.proofs.Slot.padded.Goals as goal
