@@ -73,7 +73,7 @@ pub const HEX: u64 = 16;
 
 const HEX_BITS: u64 = 4;
 
-const DECIMAL: u64 = 10;
+pub(crate) const DECIMAL: u64 = 10;
 
 // The greatest number that one more decimal digit may follow.
 const MAX_TENTH: u64 = u64::MAX / DECIMAL;
