@@ -1,6 +1,8 @@
 // What groups of fields say about the unique identifier, and when they match.
 // Promises: a group agrees, disagrees or is absent exactly as its fields do; an untrusted group counts only for NTSN.
 // Rule: RULES, part 8; definitions in specs/Matching.antt.
+#![tactic(auto)]
+
 ghost use Rattle.std.specs.Prelude.{◌≡◌, ◌&&◌, cond, ltb, leb, eqb};
 ghost use Rattle.wire_fields.specs.Field.{step_at};
 ghost use Rattle.wire_fields.specs.Walk.{walk_of, fields_of, between, bodies_of};
