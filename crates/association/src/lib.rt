@@ -1,6 +1,8 @@
 // The association's settings and record, when a record is whole, and how a new one is made.
 // Promises: `new` returns 0 with a whole record, or 30, 33 or 38 with the blank record, each exactly when its rule says so.
 // Rule: RULES, "Settings and a whole record", No. 5, No. 12 and No. 14; definitions in specs/Settings.antt, specs/Record.antt and specs/New.antt.
+#![tactic(auto)]
+
 ghost use Rattle.std.specs.Prelude.{◌≡◌, ◌&&◌, ◌||◌, eqb};
 ghost use Rattle.words.specs.Bytes.{zeros};
 ghost use Rattle.association.specs.Settings.{within, limits_valid, settings_valid};
