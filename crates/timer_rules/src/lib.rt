@@ -1,6 +1,8 @@
 // The rules of the timer, over the settings, the state and the summary of the stash. `timer` calls them.
 // Promises: the decision, with its answer and the next state, is the rule's, and the actions follow from its number.
 // Rule: RULES, part 10; definitions in specs/Decide.antt, clause by clause in specs/Poll.antt.
+#![tactic(auto)]
+
 ghost use Rattle.std.specs.Prelude.{◌≡◌, ◌+◌, ◌/◌, min, max};
 ghost use Rattle.timer_rules.specs.Answer.{number_of};
 ghost use Rattle.timer_rules.specs.Poll.{short_buffer, startup_over, polled, tried_of, asked_of, deadline_of, pending_of};
