@@ -56,7 +56,7 @@ def edges() -> Dict[str, List[str]]:
     """each crate of crates.txt and what it stands on, in the order of the file; io, libc, os and the like are the toolchain's own"""
     with open(os.path.join(ROOT, 'crates.txt')) as f:
         rows = [line.split('#')[0].split(':') for line in f]
-    found = {row[0].strip(): row[1].split() for row in rows if len(row) == 2}
+    found = {row[0].split()[0]: row[1].split() for row in rows if len(row) == 2}  # what follows the name says that it is a static library
     return {name: [below for below in on if below in found] for name, on in found.items()}
 
 
