@@ -1,6 +1,8 @@
 // The hand-over file: what it is, byte by byte, and what its writer and its readers answer. Module `cut` finds its records and its cookies.
 // Promises: what is written is read back; two whole records have the same file exactly if all that is written agrees; the first wrong mark or length is found.
 // Rule: RULES, No. 6, No. 12 and No. 14; definitions in specs/Sections.antt, Cookies.antt, File.antt, Answers.antt and Steps.antt, by number in Numbers.antt.
+#![tactic(auto)]
+
 pub mod cut;
 
 ghost use Rattle.std.specs.Prelude.{◌≡◌};
