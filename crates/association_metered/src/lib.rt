@@ -1,6 +1,8 @@
 // A profile for metered links, where every packet costs money: the check that returns the first broken rule, and the call that makes such an association.
 // Promises: each number exactly when its rule says so, in its order; with 0 the record that `Association::new` makes, and with any other number the blank one.
 // Rule: RULES, No. 11, and No. 5 for what fell out; definitions in specs/Profile.antt, number by number in specs/Numbers.antt.
+#![tactic(auto)]
+
 ghost use Rattle.std.specs.Prelude.{◌≡◌};
 ghost use Rattle.cookielist.specs.List.{cookies_in};
 ghost use Rattle.association_metered.specs.Profile.{number_of, longer_in, long_cookie, profile_of, metered_of};
