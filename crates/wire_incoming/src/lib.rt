@@ -1,6 +1,8 @@
 // What a reply says, as one value, and how both of its forms are turned into it.
 // Promises: the byte form is rejected (1) exactly if its header, its authenticated end or, with NTS, its decrypted fields are not valid.
 // Rule: RULES, parts 6 to 9 and 11; definitions in specs/Incoming.antt.
+#![tactic(auto)]
+
 ghost use Rattle.std.specs.Prelude.{◌≡◌};
 ghost use Rattle.wire_incoming.specs.Incoming.{leap_printed, leap_of, is_server, is_response, end_valid, decrypted_valid};
 ghost use Rattle.wire_incoming.specs.Incoming.{group_of, encrypted_of, value_of, read_of, decoded_of};
