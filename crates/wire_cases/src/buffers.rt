@@ -13,13 +13,7 @@ use wire_request::Requested;
 // What a buffer holds before it is lent, so that one can tell written bytes from others.
 const FILLER: u8 = 0xee;
 
-fn show(
-    to: &impl Print,
-    label: &[u8],
-    number: u8,
-    len: usize,
-    buffer: &[u8],
-) -> io::Result<()> {
+fn show(to: &impl Print, label: &[u8], number: u8, len: usize, buffer: &[u8]) -> io::Result<()> {
     say::number(to, label, number as u64)?;
     say::number(to, b" len=", len as u64)?;
     say::bytes(to, b" after=", buffer)
@@ -97,12 +91,7 @@ fn write(
     )
 }
 
-pub fn request(
-    to: &impl Print,
-    v: Values,
-    uid: [u8; UID_BYTES],
-    cookie: &[u8],
-) -> io::Result<()> {
+pub fn request(to: &impl Print, v: Values, uid: [u8; UID_BYTES], cookie: &[u8]) -> io::Result<()> {
     let mut buffer = [FILLER; REQUEST_ROOM];
     let size = value::at_most(v.number(key::ROOM), REQUEST_ROOM);
     write(to, v, uid, cookie, &mut buffer[0..size])

@@ -23,12 +23,7 @@ pub fn show(to: &impl Print, label: &[u8], group: Uid) -> io::Result<()> {
 }
 
 // What the groups before and after an authenticated end say.
-pub fn packet(
-    to: &impl Print,
-    packet: &[u8],
-    uid: [u8; UID_BYTES],
-    end: usize,
-) -> io::Result<()> {
+pub fn packet(to: &impl Print, packet: &[u8], uid: [u8; UID_BYTES], end: usize) -> io::Result<()> {
     show(
         to,
         b"uid authenticated=",
