@@ -1,4 +1,5 @@
 -- Laws that belong to no one function.
+pub mod Among
 pub mod Numbers
 pub mod Crate
 pub mod Below
