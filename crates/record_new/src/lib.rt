@@ -1,6 +1,8 @@
 // Makes an association in lent bytes, in place: no record is held on the stack.
 // Promises: the record that `new` or `metered` makes, packed; 31 with no change if the number of bytes is wrong; all zero if it is rejected otherwise.
 // Rule: RULES, "Settings and a whole record", No. 5, No. 11, No. 12 and No. 14; definitions in specs/New.antt.
+#![tactic(auto)]
+
 ghost use Rattle.std.specs.Prelude.{◌≡◌, true, false};
 ghost use Rattle.association.specs.New.{made_of, first_dropped};
 ghost use Rattle.record_stash.specs.Rows.{Sized};
