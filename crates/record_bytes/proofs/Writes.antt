@@ -3,12 +3,12 @@
 use Prim.Native.Nat.{ℕ, ◌≤◌}
 use mathlib.Core.Path.{◌≡◌, refl, sym, ap, ◌∙◌}
 use mathlib.Core.Bool.{Bool, true, false, cond}
-use mathlib.Core.List.{List, [], ◌∷◌, ◌++◌, append_assoc}
+use mathlib.Core.List.{List, [], ◌∷◌, ◌++◌, append_assoc, append-nil}
 use native.Mathlib.Omega.{arith}
 use borrow.Author.Tests.{le-leb, lt-leb}
 use borrow.Rule.Slice.PartMut.{put_mid}
-use lib.ListN.{length, get_or, take, drop, set, replicate, length-append, length-drop}
-use lib.Seq.{take_at, drop_at, drop-drop, drop-cons, set_at}
+use lib.ListN.{length, get_or, take, drop, set, replicate, length-append, length-drop, drop_of_length-le}
+use lib.Seq.{take-length, take_at, drop_at, drop-drop, drop-cons, set_at}
 use Rattle.words.proofs.Tests.{when, unless}
 use Rattle.association.specs.declared.Settings.{Settings}
 use Rattle.association.specs.declared.State.{State}
@@ -48,6 +48,10 @@ module _ (b : List ℕ) (r : Opened) (e : r ≡ opened_of b) where
   found_is o = e ∙ sym (is_opened b o)
 
 -- ---- written
+
+-- bytes copied over a part that has no more of them
+pub copied : (x s w y : List ℕ) → w ≡ s → length x ≤ length s → y ≡ take (length w) w ++ drop (length w) x → y ≡ s
+copied x s w y e n f = f ∙ (λ i. take-length w i ++ drop_of_length-le x {i = length w} (omega (arith, ap length e)) i) ∙ append-nil w ∙ e
 
 module _ (b : List ℕ) where
   pub state_short : (q : State) → length b ≤ 91 → b ≡ stored_state b q
