@@ -1,6 +1,8 @@
 // The rules of a reply, over the settings, the state and the summary of the stash: one judge for both forms. `reply` calls it.
 // Promises: the verdict, with its answer and the next state, is the rule's, in its order, and the actions follow from its number.
 // Rule: RULES, parts 8, 9 and 11; definitions in specs/Judge.antt and specs/Answer.antt.
+#![tactic(auto)]
+
 ghost use Rattle.std.specs.Prelude.{◌≡◌, cond, ◌||◌, replicate};
 ghost use Rattle.wire_incoming.specs.declared.ReplyRead.TheVariants.{Decoded};
 ghost use Rattle.wire_incoming.specs.Incoming.{decoded_of};
