@@ -1,6 +1,8 @@
 // The reply, in both forms. The core functions take a record by value; thin calls above them update the record that the caller lends.
 // Promises: each number exactly when its rule says so, and the next record; a whole record stays whole, and a rejected reply does not change it.
 // Rule: RULES, part 11 and No. 5; definitions in specs/Reply.antt, number by number in specs/Numbers.antt.
+#![tactic(auto)]
+
 ghost use Rattle.std.specs.Prelude.{◌≡◌};
 ghost use Rattle.reply_clauses.specs.After.{arrival};
 ghost use Rattle.reply.specs.Reply.{judged, reply_of, reply_decoded_of};
