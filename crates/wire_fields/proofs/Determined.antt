@@ -1,7 +1,7 @@
 -- Each public function's contract determines its result: any two that it allows are equal.
 -- Assumes nothing.
-use mathlib.Core.Path.{sym, ◌∙◌, ◌≡◌, ap₂}
-use Rattle.words.specs.Determined.{Determined, DeterminedContents}
+use mathlib.Core.Path.{sym, ◌∙◌, ◌≡◌, refl, ap₂}
+use Rattle.words.specs.Determined.{Determined, DeterminedContents, PostOf}
 use Rattle.wire_fields.proofs.packet_field_at.Reads as packet-field-at
 use Rattle.wire_fields.proofs.decrypted_field_at.Reads as decrypted-field-at
 use Rattle.wire_fields.proofs.packet_walk.Reads as packet-walk
@@ -9,13 +9,17 @@ use Rattle.wire_fields.proofs.decrypted_walk.Reads as decrypted-walk
 use Rattle.wire_fields.proofs.is_place.Reads as is-place
 use mathlib.Core.List.{List}
 use Prim.Native.Nat.{ℕ}
+use contract.Lifetimes.{Lfts}
 use denote.Ref.{Bor}
+use denote.Triple.Clauses.{AtExit}
+use borrow.Fn.Read.{all_models, r_last}
+use borrow.Fn.World.{ArgsD, ResD}
 use Rattle.wire_fields.specs.Walker.{IsBody}
 use Rattle.wire_fields.proofs.walker.body_at.Reads as body_at
 use Rattle.wire_fields.proofs.walker.first.Reads as first
-use Rattle.wire_fields.proofs.walker.Walker.new.Reads as new
-use Rattle.wire_fields.proofs.walker.Walker.step.Reads as step
-use Rattle.wire_fields.proofs.walker.Walker.body.Reads as body
+use Rattle.wire_fields.specs.contracts.walker.Walker.new as new
+use Rattle.wire_fields.specs.contracts.walker.Walker.step as step
+use Rattle.wire_fields.specs.contracts.walker.Walker.body as body
 
 pub packet_field_at_determined : Determined packet-field-at.Post
 packet_field_at_determined κs a y z e f p q = p ∙ sym q
@@ -51,11 +55,26 @@ first_determined κs a y z e f p q = p ∙ sym q
 
 -- ---- the walker's methods
 
-pub new_determined : Determined new.Post
+abbrev NewPost : (κs : Lfts 1) → ArgsD new.signature κs → ResD new.signature κs → AtExit new.ended κs → Type 0
+NewPost =
+    PostOf new.ended (λ w. new.clauses w.𝓛 w.𝓜.mem w.𝓡.run) (λ w κs a. tt)
+    (λ κs a y e. all_models _ (λ w. r_last _) (λ w. refl) (λ w. refl) (λ w. refl))
+
+abbrev StepPost : (κs : Lfts 1) → ArgsD step.signature κs → ResD step.signature κs → AtExit step.ended κs → Type 0
+StepPost =
+    PostOf step.ended (λ w. step.clauses w.𝓛 w.𝓜.mem w.𝓡.run) (λ w κs a. tt)
+    (λ κs a y e. all_models _ (λ w. r_last _) (λ w. refl) (λ w. refl) (λ w. refl))
+
+abbrev BodyPost : (κs : Lfts 1) → ArgsD body.signature κs → ResD body.signature κs → AtExit body.ended κs → Type 0
+BodyPost =
+    PostOf body.ended (λ w. body.clauses w.𝓛 w.𝓜.mem w.𝓡.run) (λ w κs a. tt)
+    (λ κs a y e. all_models _ (λ w. r_last _) (λ w. refl) (λ w. refl) (λ w. refl))
+
+pub new_determined : Determined NewPost
 new_determined κs a y z e f p q = p ∙ sym q
 
-pub step_determined : Determined step.Post
+pub step_determined : Determined StepPost
 step_determined κs a y z e f p q = p ∙ sym q
 
-pub body_determined : DeterminedContents body.Post (λ κs y. told y)
+pub body_determined : DeterminedContents BodyPost (λ κs y. told y)
 body_determined κs a y z e f p q = same_told _ _ _ y z p q
