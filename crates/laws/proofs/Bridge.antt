@@ -13,12 +13,11 @@ use Rattle.association.specs.New.{new_of}
 use Rattle.timer_rules.specs.Poll.{timer_input}
 use Rattle.timer.specs.Timer.{Timed}
 use Rattle.timer.specs.contracts.timer as T
-use Rattle.timer.proofs.timer.Reads as timer-reads
+use Rattle.timer.proofs.Determined.{TimerPost}
 use Rattle.reply_clauses.specs.After.{arrival}
 use Rattle.reply.specs.contracts.reply as R
 use Rattle.reply.specs.contracts.reply_decoded as D
-use Rattle.reply.proofs.reply.Reads as reply-reads
-use Rattle.reply.proofs.reply_decoded.Reads as reply-decoded-reads
+use Rattle.reply.proofs.Determined.{ReplyPost, ReplyDecodedPost}
 use Rattle.laws_log.specs.Log.{Accepted}
 use Rattle.laws_log.specs.Machine.{Call, timer, reply, Done, of_timer, of_reply, logged, run, after, log_of}
 use Rattle.laws_log.specs.Demand.{Demand3}
@@ -46,16 +45,16 @@ pub data Ran : Association → List (Call rule) → List (Done machine) → Asso
   timed :
       {cs : List (Call rule)} {ds : List (Done machine)} {b : Association} (κs : Lfts 2) (x : ArgsD T.signature κs) (y : ResD T.signature κs)
       (e : AtExit T.ended κs) →
-      timer-reads.Post κs x y e → Ran e.0.now cs ds b →
+      TimerPost κs x y e → Ran e.0.now cs ds b →
       Ran x.0.now (timer (timer_in κs x) ∷ cs) (of_timer (timer_in κs x) (y, e.1.1.1.1.1.0.now) ∷ ds) b
   replied :
       {cs : List (Call rule)} {ds : List (Done machine)} {b : Association} (κs : Lfts 4) (x : ArgsD R.signature κs) (y : ResD R.signature κs)
       (e : AtExit R.ended κs) →
-      reply-reads.Post κs x y e → Ran e.0.now cs ds b → Ran x.0.now (reply (reply_in κs x) ∷ cs) (of_reply (reply_in κs x) y ∷ ds) b
+      ReplyPost κs x y e → Ran e.0.now cs ds b → Ran x.0.now (reply (reply_in κs x) ∷ cs) (of_reply (reply_in κs x) y ∷ ds) b
   replied-decoded :
       {cs : List (Call rule)} {ds : List (Done machine)} {b : Association} (κs : Lfts 2) (x : ArgsD D.signature κs) (y : ResD D.signature κs)
       (e : AtExit D.ended κs) →
-      reply-decoded-reads.Post κs x y e → Ran e.0.now cs ds b → Ran x.0.now (reply (decoded_in κs x) ∷ cs) (of_reply (decoded_in κs x) y ∷ ds) b
+      ReplyDecodedPost κs x y e → Ran e.0.now cs ds b → Ran x.0.now (reply (decoded_in κs x) ∷ cs) (of_reply (decoded_in κs x) y ∷ ds) b
 
 -- one call more in front
 turn : {X : Type 0} (made : X → Done machine) {x x' : X} {a a' b : Association} (cs : List (Call rule)) {ds : List (Done machine)} →
