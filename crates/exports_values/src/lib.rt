@@ -1,6 +1,8 @@
 // What is passed to C and back: settings, answers and decoded replies as numbers, and what each means to the rules. Module `tools` has the tools' calls.
 // Promises: every number is read or written as defined, in fields of one width on every target; settings have one form; tools answer what their calls answer.
 // Rule: RULES, "Settings and a whole record", parts 10 to 12, No. 5, 6, 9, 10 and 13; definitions in specs/: Codes.antt has the numbers, Told.antt the tools.
+#![tactic(auto)]
+
 pub mod tools;
 
 ghost use Rattle.std.specs.Prelude.{◌≡◌, ◌&&◌, leb, eqb};
