@@ -1,6 +1,6 @@
 """The module that the toolchain hands its compiler, as text: held to what every target can take, then given to the targets' own face (face.c).
 
-The module is the proved code with byte offsets written out, places of bytes and 64-bit lengths. x86-64 shows in three places alone: the triple and layout, two
+The module is the proved code with byte offsets written out, places of bytes and 64-bit lengths. x86-64 shows in three places alone: the triple and layout, three
 attributes, and the exported functions, which follow that machine's calling convention. What stands behind them takes pointers and numbers. All that is known to
 mean the same on every target is listed here; anything else is refused by name, since a compiler would take it without a word."""
 import re
@@ -12,7 +12,7 @@ INT = r'i(?:1|8|16|32|64)'
 NAME = r'@(?:"[^"]+"|[\w.$]+)'
 MEMORY = ('llvm.memmove.p0.p0.i64', 'llvm.memcpy.p0.p0.i64', 'llvm.memset.p0.i64')
 ATTRIBUTES = {'nounwind', 'nocallback', 'nofree', 'nosync', 'willreturn', 'mustprogress', 'norecurse', 'memory(argmem: readwrite)', 'memory(argmem: write)'}
-X86_64 = ('"probe-stack"="inline-asm"', '"target-cpu"="x86-64"')
+X86_64 = ('"probe-stack"="inline-asm"', '"stack-probe-size"="3072"', '"target-cpu"="x86-64"')
 
 ARITHMETIC = r'%s = \w+(?: nuw| nsw| exact| disjoint)* %s %s, %s' % (REG, INT, VAL, VAL)
 CAST = r'%s = \w+(?: nuw| nsw| nneg)* %s %s to %s' % (REG, INT, VAL, INT)

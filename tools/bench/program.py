@@ -111,7 +111,7 @@ def build() -> None:
             os.remove(old)
     with open(LOG, 'wb') as log, proving.Progress('drill', 'drill') as progress:
         progress.begin()
-        status = progress.run(['rt', 'run'], log)
+        status = progress.run(['rt', 'run', '--cpu=x86-64'], log)  # for every x86-64; the toolchain's default is a later processor
     if status != 0:
         for line in proving.tail(LOG):
             say('  ' + line)
