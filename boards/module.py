@@ -1,6 +1,6 @@
 """The module that the toolchain hands its compiler, as text: held to what every target can take, then given to the targets' own face (face.c).
 
-The module is the proved code with byte offsets written out, places of bytes and 64-bit lengths. x86-64 shows in three places alone: the triple and layout, two
+The module is the proved code with byte offsets written out, places of bytes and 64-bit lengths. x86-64 shows in three places alone: the triple and layout, three
 attributes, and the exported functions, which follow that machine's calling convention. What stands behind them takes pointers and numbers. All that is known to
 mean the same on every target is listed here; anything else is refused by name, since a compiler would take it without a word."""
 import re
@@ -8,26 +8,32 @@ from typing import Dict, List, NamedTuple, NoReturn, Optional, Set, Tuple
 
 REG = r'%[\w.]+'
 VAL = r'(?:%[\w.]+|-?\d+|true|false)'
+PLACE = r'(?:%[\w.]+|@static\.\d+)'
 INT = r'i(?:1|8|16|32|64)'
 NAME = r'@(?:"[^"]+"|[\w.$]+)'
+# Two values that go together, out of a place or from one function of the module to another. A pointer goes with a number of 64 bits alone: only so the second
+# stands at the same byte where a pointer has four.
+PAIR = r'\{ (?:i(?:8|16|32|64), i(?:8|16|32|64)|ptr, i64|i64, ptr) \}'
+EMPTY = re.compile(r'@static\.\d+ = private unnamed_addr constant \[0 x i8\] zeroinitializer, align 1\Z')  # where an empty run of bytes is
 MEMORY = ('llvm.memmove.p0.p0.i64', 'llvm.memcpy.p0.p0.i64', 'llvm.memset.p0.i64')
 ATTRIBUTES = {'nounwind', 'nocallback', 'nofree', 'nosync', 'willreturn', 'mustprogress', 'norecurse', 'memory(argmem: readwrite)', 'memory(argmem: write)'}
-X86_64 = ('"probe-stack"="inline-asm"', '"target-cpu"="x86-64"')
+X86_64 = ('"probe-stack"="inline-asm"', '"stack-probe-size"="3072"', '"target-cpu"="x86-64"')
 
 ARITHMETIC = r'%s = \w+(?: nuw| nsw| exact| disjoint)* %s %s, %s' % (REG, INT, VAL, VAL)
 CAST = r'%s = \w+(?: nuw| nsw| nneg)* %s %s to %s' % (REG, INT, VAL, INT)
 FORMS = {
     'alloca': r'(?P<to>%s) = alloca (?P<type>%s|ptr|\[\d+ x i8\]), align [1248]' % (REG, INT),
-    'load': r'%s = load (?P<type>%s|ptr), ptr (?P<at>%s), align [1248](?:, ![\w.]+ !\d+)*' % (REG, INT, REG),
-    'store': r'store (?P<type>%s|ptr) %s, ptr (?P<at>%s), align [1248]' % (INT, VAL, REG),
+    'load': r'%s = load (?P<type>%s|ptr|%s), ptr (?P<at>%s), align [1248](?:, ![\w.]+ !\d+)*' % (REG, INT, PAIR, REG),
+    'store': r'store (?:(?P<type>%s) %s|(?P<pointer>ptr) %s), ptr (?P<at>%s), align [1248]' % (INT, VAL, PLACE, REG),
+    'extractvalue': r'%s = extractvalue %s %s, [01]' % (REG, PAIR, REG),
     'getelementptr': r'(?P<to>%s) = getelementptr(?: inbounds)?(?: nuw)? i8, ptr (?P<of>%s), i64 (?P<by>%s)' % (REG, REG, VAL),
     'icmp': r'%s = icmp \w+ %s %s, %s' % (REG, INT, VAL, VAL),
     'select': r'%s = select i1 %s, %s %s, %s %s' % (REG, VAL, INT, VAL, INT, VAL),
     'br': r'br (?:label %s|i1 %s, label %s, label %s)' % (REG, VAL, REG, REG),
     'switch': r'switch %s %s, label %s \[' % (INT, VAL, REG),
-    'ret': r'ret (?:void|%s %s)' % (INT, VAL),
+    'ret': r'ret (?:void|%s %s|%s %s)' % (INT, VAL, PAIR, REG),
     'unreachable': r'unreachable',
-    'call': r'(?:%s = )?call (?:void|%s) (?P<name>%s)\((?P<arguments>.*)\)(?: #\d+)?' % (REG, INT, NAME),
+    'call': r'(?:%s = )?call (?:void|%s|%s) (?P<name>%s)\((?P<arguments>.*)\)(?: #\d+)?' % (REG, INT, PAIR, NAME),
 }
 FORMS.update({word: ARITHMETIC for word in ('add', 'sub', 'mul', 'udiv', 'sdiv', 'urem', 'srem', 'shl', 'lshr', 'ashr', 'and', 'or', 'xor')})
 FORMS.update({word: CAST for word in ('zext', 'sext', 'trunc')})
@@ -42,7 +48,8 @@ class Refused(Exception):
 
 
 class Form(NamedTuple):
-    """How the function behind an export is called: what it gives, then each argument: i8 .. i64, slice, or ptr with as many bytes as stand there, where that is said."""
+    """How the function behind an export is called: what it gives, then each argument: i8 .. i64, or ptr with as many bytes as stand there, where that is said. Where
+    it gives two values, they are written through a pointer that goes before the others: so C takes them alike on every target (`Module.retargeted`)."""
     result: str
     arguments: Tuple[str, ...]
     sizes: Tuple[Optional[int], ...]
@@ -97,9 +104,35 @@ def functions(text: str) -> List[Function]:
                 raise Refused('the attribute %s, of which it is not known what another target makes of it (%s)' % (other[0], where))
         elif line.startswith('module asm'):
             raise Refused('inline assembly (%s)' % where)
-        elif line and not line.startswith((';', 'source_filename', 'target triple', '!')):
+        elif line and not line.startswith((';', 'source_filename', 'target triple', '!')) and not EMPTY.match(line):
             raise Refused('something that is no function (%s)' % where)
     return found
+
+
+def size_of(kind: str) -> int:
+    return 8 if kind == 'ptr' else max(1, int(kind[1:]) // 8)
+
+
+def parts(pair: str) -> List[Tuple[str, int]]:
+    """the types of two values that go together, each with the byte at which it stands"""
+    first, second = re.findall(r'i\d+|ptr', pair)
+    return [(first, 0), (second, -(-size_of(first) // size_of(second)) * size_of(second))]
+
+
+def distances(function: Function) -> Set[str]:
+    """the numbers of addresses: two are taken from each other, and what they are apart is compared with a length. That is the same where an address has four bytes,
+    and whatever else is done with one is refused"""
+    lines = [line.strip() for line in function.lines]
+    addresses = {found.group(1) for found in (re.match(r'(%s) = ptrtoaddr ptr %s to i64\Z' % (REG, REG), line) for line in lines) if found}
+    apart = {found.group(1) for found in (re.match(r'(%s) = sub i64 (%s), (%s)\Z' % (REG, REG, REG), line) for line in lines)
+             if found and found.group(2) in addresses and found.group(3) in addresses}
+    for line in lines:
+        for register in set(re.findall(REG, line)) & (addresses | apart):
+            known = r'%s = (?:ptrtoaddr ptr %s to i64|sub i64 %s, %s)\Z' if register in addresses else r'%s = (?:sub i64 %s, %s|icmp ult i64 %s, %s)\Z'
+            blanks = (REG, REG, REG, REG) if register in addresses else (REG, REG, REG, re.escape(register), VAL)
+            if not re.match(known % blanks, line) or ' = sub ' in line and re.match(REG, line) and re.match(REG, line)[0] not in apart:
+                raise Refused('a pointer made a number, or a number a pointer: its width would count, in %s: %s' % (function.name, line[:200]))
+    return addresses
 
 
 def held(function: Function, names: Dict[str, Function]) -> None:
@@ -109,11 +142,12 @@ def held(function: Function, names: Dict[str, Function]) -> None:
 
     head = DEFINE.match(function.head)
     for parameter in pieces(head.group(4) if head else ''):
-        if not re.match(r'(?:i1 noundef zeroext|(?:%s|ptr) noundef) %s\Z' % (INT, REG), parameter):
+        if not re.match(r'(?:i1 noundef zeroext|(?:%s|ptr)(?: noundef)?) %s\Z' % (INT, REG), parameter):
             refuse('a parameter of a form that is not known', parameter)
     places: Dict[str, Tuple[str, int]] = {}
     pointers: Set[str] = set()                          # places of one pointer
     used: Dict[str, Dict[Tuple[int, str], str]] = {}    # of each place the offsets that are read or written, and as what
+    addresses = distances(function)
     for raw in function.lines:
         line = re.sub(r'\s*; (?:preds = .*|No predecessors!)\Z', '', raw).strip()
         if not line or re.match(r'[\w.]+:\Z', line) or CASE.match(line):
@@ -121,6 +155,8 @@ def held(function: Function, names: Dict[str, Function]) -> None:
         word = re.sub(r'^%s = ' % REG, '', line).split(' ')[0]
         if ' asm ' in line:
             refuse('inline assembly', line)
+        if word == 'ptrtoaddr' and re.match(REG, line) and re.findall(REG, line)[0] in addresses:
+            continue
         if word in ('ptrtoint', 'inttoptr', 'ptrtoaddr') or 'inttoptr' in line or 'ptrtoint' in line:
             refuse('a pointer made a number, or a number a pointer: its width would count', line)
         form = COMPILED.get(word)
@@ -139,9 +175,11 @@ def held(function: Function, names: Dict[str, Function]) -> None:
             places[got.group('to')] = (root, at + int(got.group('by')))
         if word in ('load', 'store'):
             root, at = places.get(got.group('at'), (got.group('at'), 0))
-            used.setdefault(root, {})[at, got.group('type')] = line
+            kind = got.group('type') or got.group('pointer')
+            for part, offset in parts(kind) if kind.startswith('{') else [(kind, 0)]:
+                used.setdefault(root, {})[at + offset, part] = line
             kept = re.search(r'store \w+ (%s),' % REG, line)
-            if got.group('type') == 'ptr' and not (kept and kept.group(1) in pointers):
+            if kind == 'ptr' and not (kept and kept.group(1) in pointers):
                 continue
         if word == 'call':
             name = got.group('name')[1:].strip('"')
@@ -156,8 +194,7 @@ def held(function: Function, names: Dict[str, Function]) -> None:
     for root, all_used in used.items():
         for at, kind in all_used:
             for other, number in all_used:
-                size = 8 if number == 'ptr' else max(1, int(number[1:]) // 8)
-                if kind == 'ptr' and number != 'ptr' and other < at + 8 and at < other + size:
+                if kind == 'ptr' and number != 'ptr' and other < at + 8 and at < other + size_of(number):
                     refuse('a pointer\'s eight bytes that are also read or written as a number', all_used[other, number])
 
 
@@ -168,7 +205,6 @@ def form_of(export: Function, behind: Function) -> Form:
     result = head.group(2).replace('noundef', '').strip()
     types = [piece.split(' ')[0] for piece in pieces(head.group(4))]
     places: Dict[str, int] = {}
-    stored: Dict[str, str] = {}
     called: List[List[str]] = []
     lent: Dict[str, int] = {}
     outer = DEFINE.match(export.head)
@@ -178,12 +214,9 @@ def form_of(export: Function, behind: Function) -> Form:
             lent[piece.split(' ')[-1]] = int(size.group(1))
     for line in (line.strip() for line in export.lines):
         place = re.match(r'(%s) = alloca \[(\d+) x i8\]' % REG, line)
-        store = re.match(r'store (\w+) %s, ptr (%s)' % (VAL, REG), line)
         call = re.match(r'(?:%s = )?call .*?%s\((.*)\)' % (REG, NAME), line)
         if place:
             places[place.group(1)] = int(place.group(2))
-        elif store:
-            stored.setdefault(store.group(2), store.group(1))
         elif call and 'llvm.' not in line:
             called.append([piece.split(' ')[-1] for piece in pieces(call.group(1))])
     if len(called) != 1 or len(called[0]) != len(types):
@@ -191,18 +224,15 @@ def form_of(export: Function, behind: Function) -> Form:
     arguments: List[str] = []
     sizes: List[Optional[int]] = []
     for kind, register in zip(types, called[0]):
-        if kind != 'ptr':
-            arguments.append(kind)
-            sizes.append(None)
-        elif places.get(register) == 16 and stored.get(register) == 'ptr':
-            arguments.append('slice')
-            sizes.append(16)
-        else:
-            arguments.append('ptr')
-            sizes.append(lent.get(register, places.get(register)))
+        arguments.append(kind)
+        sizes.append(lent.get(register, places.get(register)) if kind == 'ptr' else None)
     if result == 'void' and arguments and arguments[0] == 'ptr' and sizes[0] is None:
         given = {int(size) for size in re.findall(r'llvm\.memmove\.p0\.p0\.i64\(ptr %a0, ptr %[\w.]+, i64 (\d+), ', '\n'.join(behind.lines))}
         sizes[0] = given.pop() if len(given) == 1 else None
+    if result.startswith('{'):
+        (first, _), (second, at) = parts(result)
+        most = max(size_of(first), size_of(second))
+        return Form('void', ('ptr', *arguments), (-(-(at + size_of(second)) // most) * most, *sizes))
     return Form(result, tuple(arguments), tuple(sizes))
 
 
@@ -228,12 +258,17 @@ class Module:
     def retargeted(self, signext: bool) -> str:
         """the text without what is x86-64's; the functions behind the exports have C names, raw_NAME, which no shared object shows"""
         text = re.sub(r'^target (?:datalayout|triple) = .*\n', '', self.text, flags=re.M)
+        text = text.replace(' = ptrtoaddr ptr ', ' = ptrtoint ptr ')  # which fills up an address of four bytes by zeros
         for attribute in X86_64:
             text = text.replace(' ' + attribute, '')
         text = re.sub(r'^(?:; Function Attrs:[^\n]*\n)?define (?!internal )[^\n]*\{\n.*?^\}\n', '', text, flags=re.M | re.S)
         for name, form in self.forms.items():
             quoted = '@"%s::%s"' % (self.crate, name)
             extended = 'signext ' if signext and form.result == 'i32' else ''
+            pair = re.search(r'^define internal (?:noundef )?(%s) %s\((.*)\) (#\d+) \{$' % (PAIR, re.escape(quoted)), text, re.M)
+            if pair:
+                text = paired(text, name, quoted, pair)
+                continue
             text, times = re.subn(r'^define internal (.*)%s\(' % re.escape(quoted), lambda m, n=name, e=extended: 'define hidden %s%s@raw_%s(' % (e, m.group(1), n), text,
                                   flags=re.M)
             if times != 1 or quoted in text:
@@ -241,10 +276,24 @@ class Module:
         return text
 
 
+def paired(text: str, name: str, quoted: str, found: 're.Match[str]') -> str:
+    """the text with a raw_NAME that calls the function behind an export, which gives two values, and writes them through its first argument"""
+    if text.count(quoted) != 1:
+        raise Refused('%s is called from within the module, or is there %d times' % (quoted, text.count(quoted)))
+    pair, kinds = found.group(1), [piece.split(' ')[0] for piece in pieces(found.group(2))]
+    given = ', '.join('%s %%a%d' % (kind, k) for k, kind in enumerate(kinds))
+    lines = ['', 'define hidden void @raw_%s(%s) %s {' % (name, ', '.join(['ptr %to'] + ([given] if given else [])), found.group(3)), 'start:',
+             '  %%pair = call %s @behind_%s(%s)' % (pair, name, given)]
+    for k, (kind, at) in enumerate(parts(pair)):
+        lines += ['  %%value%d = extractvalue %s %%pair, %d' % (k, pair, k), '  %%place%d = getelementptr i8, ptr %%to, i64 %d' % (k, at),
+                  '  store %s %%value%d, ptr %%place%d, align %d' % (kind, k, k, size_of(kind))]
+    return text.replace(quoted, '@behind_' + name) + '\n'.join(lines + ['  ret void', '}', ''])
+
+
 # ---- the face: a C file that declares raw_NAME for each export
 
 DECLARED = re.compile(r'^(\w[\w ]*?)\s+raw_(\w+)\(([^;{}]*)\);', re.M)
-C_TYPES = {'uint8_t': 'i8', 'uint16_t': 'i16', 'uint32_t': 'i32', 'uint64_t': 'i64', 'void': 'void'}
+C_TYPES = {'uint8_t': 'i8', 'int8_t': 'i8', 'uint16_t': 'i16', 'uint32_t': 'i32', 'uint64_t': 'i64', 'void': 'void'}
 
 
 class Call(NamedTuple):
@@ -261,7 +310,7 @@ def declared(face: str) -> Dict[str, Call]:
         arguments, pointed = [], []
         for argument in pieces('' if inside.strip() == 'void' else inside):
             target = argument.replace('const ', '').replace('*', '').strip()
-            arguments.append('slice' if '*' in argument and target == 'struct slice' else 'ptr' if '*' in argument else C_TYPES.get(target, target))
+            arguments.append('ptr' if '*' in argument else C_TYPES.get(target, target))
             pointed.append(target if '*' in argument else '')
         found[name] = Call(C_TYPES.get(result.strip(), result), tuple(arguments), tuple(pointed))
     return found
@@ -281,6 +330,9 @@ def matched(module: Module, face: str) -> str:
         if form.result not in ('void', 'i32', 'i64'):
             raise Refused('the export %s gives %s: how targets hand back a small number differs' % (name, form.result))
         for kind, size, pointed in zip(form.arguments, form.sizes, call.pointed):
+            if (size is None) != (pointed in ('', 'void')):
+                raise Refused('an argument of the export %s is %s, and the face declares %s there' % (
+                    name, 'a run of bytes, or numbers' if size is None else '%d bytes' % size, pointed or 'a number'))
             if pointed and kind == 'ptr' and size is not None and sizes.setdefault(pointed, size) != size:
                 raise Refused('%s has %d bytes in one export and %d in another (%s)' % (pointed, sizes[pointed], size, name))
     return ''.join('_Static_assert(sizeof(%s) == %d, "reckonstile: %s has %d bytes in the proved module");\n' % (c, n, c, n) for c, n in sorted(sizes.items()))

@@ -136,19 +136,22 @@ fn hold(file: &Path, crates: Option<&Path>) {
 }
 
 /// The digest of crates/ and crates.txt, as `tools/library` writes it into PROOF: each file's digest and name, in order.
+/// What `rt` keeps in a crate's `out/` is none of them.
 fn sources(root: &Path) -> String {
-    fn walk(folder: &Path, into: &mut Vec<PathBuf>) {
+    fn walk(folder: &Path, kept: usize, into: &mut Vec<PathBuf>) {
         for entry in fs::read_dir(folder).into_iter().flatten().flatten() {
             let path = entry.path();
             if path.is_dir() {
-                walk(&path, into)
+                if kept != 1 || path.file_name() != Some("out".as_ref()) {
+                    walk(&path, kept.saturating_sub(1), into)
+                }
             } else {
                 into.push(path)
             }
         }
     }
     let mut paths = vec![root.join("crates.txt")];
-    walk(&root.join("crates"), &mut paths);
+    walk(&root.join("crates"), 2, &mut paths);
     let name = |path: &PathBuf| path.strip_prefix(root).unwrap_or(path).to_string_lossy().into_owned();
     let mut named: Vec<(String, PathBuf)> = paths.into_iter().map(|path| (name(&path), path)).collect();
     named.sort();

@@ -4,6 +4,9 @@ On a terminal the line is written over each second; elsewhere a line is written 
 took when it was last proved here, which are kept in target/seconds.json, and before that from the table below. The seconds that are left never jump: they rise by
 at most one in a second and fall by at most five, but for crates that turn out to be proved already, which take their share with them.
 
+rt proves the crates one after the other, those below first, each by as many processes as it sees fit. It says which crate it begins with (`rt: chose --jobs 2 for
+NAME`), and ends each with its verdict (`logic=proved ..`); of a crate whose library is built already it says nothing.
+
 What is not proved again is told by content, as rt itself does it: a source that was only touched counts as unchanged."""
 import fcntl
 import hashlib
@@ -21,12 +24,15 @@ ROOT = os.path.dirname(os.path.dirname(os.path.realpath(__file__)))
 TARGET = os.path.join(ROOT, 'target')
 LOCK = os.path.join(TARGET, 'proving.lock')
 KEPT = os.path.join(TARGET, 'seconds.json')
+OUT = os.path.join(ROOT, 'crates', '%s', 'out')  # what rt keeps of a crate, and makes of it
 PARTS = ('src', 'specs', 'proofs', 'stdin', 'stdout', 'args', 'data')  # what rt proves a crate from, and runs a program on
-PROVED = re.compile(r'rt: (\w+) proved \((?:(\d+) s|unchanged)')
+BEGINS = re.compile(r'rt: chose --jobs \d+ for (\w+)$')
+VERDICT = re.compile(r'logic=proved ')
+OTHERS = ('RT_BACKEND', 'RT_ALLOW_C')  # what would have rt build or allow something else
 UNKNOWN = 10  # seconds of a crate that was never proved here and is not in the table
 CALM = 60  # the seconds that have to be proved before this run's own pace counts as much as the kept seconds do
 
-# About how many seconds each crate's check takes by the clock. They say how much is left where nothing was proved yet, and may be old.
+# About how many seconds each crate's check takes by the clock. They say how much is left where nothing was proved yet, and are those of an older toolchain.
 SECONDS: Dict[str, int] = dict(words=10, laws_log=1, calendar=15, version=5, time_types=6, cookielist=5, reach=3, identifiers=3, cookiestash=18,
                                wire_header=12, salvage=7, record_stash=24, association=15, wire_fields=12, drill_text=59, handover_groups=13, timer_rules=13,
                                wire_collector=6, association_accept=8, association_metered=8, wire_groups=8, record_bytes=27, wire_request=15,
@@ -39,12 +45,16 @@ class Busy(Exception):
     """Nothing can be built: why."""
 
 
+def kit() -> str:
+    """the toolchain's folder, that of the rt on the PATH; nothing where there is none"""
+    found = shutil.which('rt')
+    return os.path.dirname(os.path.dirname(os.path.realpath(found))) if found else ''
+
+
 def kit_id() -> bytes:
     """which toolchain this is, by its own word; nothing where there is none"""
-    found = shutil.which('rt')
-    home = os.environ.get('RATTLE_HOME') or (os.path.dirname(os.path.dirname(os.path.realpath(found))) if found else '')
     try:
-        with open(os.path.join(home, 'KIT-ID'), 'rb') as f:
+        with open(os.path.join(kit(), 'KIT-ID'), 'rb') as f:
             return f.read()
     except OSError:
         return b''
@@ -56,7 +66,7 @@ def edges() -> Dict[str, List[str]]:
     """each crate of crates.txt and what it stands on, in the order of the file; io, libc, os and the like are the toolchain's own"""
     with open(os.path.join(ROOT, 'crates.txt')) as f:
         rows = [line.split('#')[0].split(':') for line in f]
-    found = {row[0].strip(): row[1].split() for row in rows if len(row) == 2}
+    found = {row[0].split()[0]: row[1].split() for row in rows if len(row) == 2}  # what follows the name says that it is a static library
     return {name: [below for below in on if below in found] for name, on in found.items()}
 
 
@@ -71,30 +81,17 @@ def reached(crate: str) -> List[str]:
     return [name for name in on if name in found]
 
 
-def batches(wanted: Iterable[str], jobs: int) -> List[List[str]]:
-    """the crates in the order in which rt proves them: those of one height so many at a time, and the next when all of these have ended"""
-    on, height = edges(), {}  # type: Dict[str, List[str]], Dict[str, int]
-    order: List[str] = []
+def order(crate: str) -> List[str]:
+    """a crate and those that it stands on, in the order in which rt proves them, one after the other"""
+    on, found = edges(), []  # type: Dict[str, List[str]], List[str]
 
     def visit(name: str) -> None:
-        if name not in height:
-            for below in on[name]:
+        for below in on[name]:
+            if below not in found:
                 visit(below)
-            height[name] = 1 + max((height[below] for below in on[name]), default=-1)
-            order.append(name)
-    for name in wanted:
-        visit(name)
-    found: List[List[str]] = []
-    for level in sorted(set(height.values())):
-        here = [name for name in order if height[name] == level]
-        found += [here[at:at + jobs] for at in range(0, len(here), jobs)]
+        found.append(name)
+    visit(crate)
     return found
-
-
-def jobs() -> int:
-    """how many crates rt proves at a time"""
-    given = os.environ.get('RT_JOBS', '')
-    return int(given) if given.isdigit() and int(given) else min(len(os.sched_getaffinity(0)), 4)
 
 
 def digests(names: Iterable[str]) -> Dict[str, str]:
@@ -123,7 +120,8 @@ def kept() -> Dict[str, Dict[str, Any]]:
     try:
         with open(KEPT) as f:
             found = json.load(f)
-        return {name: row for name, row in found.items() if isinstance(row['seconds'], (int, float)) and isinstance(row['digest'], str)}
+        return {name: row for name, row in found.items()
+                if isinstance(row['seconds'], (int, float)) and isinstance(row['digest'], str) and isinstance(row.get('verdict', ''), str)}
     except (OSError, ValueError, KeyError, TypeError, AttributeError):
         return {}  # not there, or not ours: the table serves
 
@@ -140,35 +138,31 @@ def keep(rows: Dict[str, Dict[str, Any]]) -> None:
 class Estimate:
     """How many seconds are left, from the seconds that each crate is expected to take, and from the pace of this run."""
 
-    def __init__(self, plan: Sequence[Sequence[str]], expected: Dict[str, float]) -> None:
+    def __init__(self, plan: Sequence[str], expected: Dict[str, float]) -> None:
         """`expected` has no row for a crate that will not be proved again"""
-        self.plan, self.expected, self.ended = [list(batch) for batch in plan], dict(expected), set()  # type: List[List[str]], Dict[str, float], Set[str]
+        self.plan, self.expected, self.ended = list(plan), dict(expected), set()  # type: List[str], Dict[str, float], Set[str]
         self.thought = self.took = float(CALM)
-        self.began = self.at = 0.0  # when the batch that is running began, and when `left` was asked last
+        self.began = self.at = 0.0  # when the crate that is being proved began, and when `left` was asked last
         self.shown: Optional[float] = None
 
-    def running(self) -> List[str]:
-        """the crates that are being proved, as far as rt has told"""
-        for batch in self.plan:
-            if not self.ended.issuperset(batch):
-                return [name for name in batch if name not in self.ended and name in self.expected]
-        return []
+    def running(self) -> str:
+        """the crate that is being proved, as far as rt has told; nothing at the end"""
+        return next((name for name in self.plan if name not in self.ended and name in self.expected), '')
 
     def rest(self, now: float) -> float:
         """the seconds that are left by the estimate itself, which may jump"""
         pace, total, first = self.took / self.thought, 0.0, True
-        for batch in self.plan:
-            if self.ended.issuperset(batch):
+        for name in self.plan:
+            if name in self.ended or not self.expected.get(name):
                 continue
-            here = pace * max((self.expected.get(name, 0) for name in batch), default=0)
-            total += max(here - (now - self.began), here / 20) if first else here  # a batch that takes longer than expected has a little left, always
+            here = pace * self.expected[name]
+            total += max(here - (now - self.began), here / 20) if first else here  # a crate that takes longer than expected has a little left, always
             first = False
         return total
 
     def proved(self, name: str, seconds: Optional[float], now: float) -> None:
         """a crate was proved, in so many seconds; None: it was proved already"""
         before = self.rest(now)
-        batch: Sequence[str] = next((batch for batch in self.plan if name in batch), [])
         self.ended.add(name)
         expected = self.expected.get(name)
         if seconds is None:
@@ -176,8 +170,7 @@ class Estimate:
                 self.shown = max(0.0, self.shown - max(0.0, before - self.rest(now)))
         elif expected:
             self.thought, self.took = self.thought + expected, self.took + seconds
-        if batch and self.ended.issuperset(batch):
-            self.began = now
+        self.began = now
 
     def left(self, now: float) -> float:
         """the seconds to be shown"""
@@ -202,12 +195,12 @@ class Progress:
 
     def __init__(self, who: str, crate: str, says: bool = True) -> None:
         """`who` begins the line; `crate` and those below it are proved"""
-        self.who, self.names, self.says = who, reached(crate), says
+        self.who, self.names, self.says = who, order(crate), says
         self.rows, self.digests = kept(), digests(self.names)
-        plan = batches([crate], jobs())
         expected = {name: float(self.rows.get(name, {}).get('seconds', SECONDS.get(name, UNKNOWN))) for name in self.names if not self.unchanged(name)}
-        self.estimate, self.done = Estimate(plan, expected), set()  # type: Estimate, Set[str]
+        self.estimate, self.done = Estimate(self.names, expected), set()  # type: Estimate, Set[str]
         self.start, self.written, self.anew = time.monotonic(), 0, 0
+        self.at, self.at_since = '', 0.0  # the crate that rt is proving, and since when
         try:
             self.wide = (os.get_terminal_size(2).columns or 80) if os.isatty(2) else 0  # the columns of a terminal; 0: there is none
         except OSError:
@@ -222,7 +215,7 @@ class Progress:
 
     def unchanged(self, name: str) -> bool:
         """whether a crate was proved here from just what it has now, and what came of it is still there"""
-        made = [os.path.join(TARGET, 'rlib', name + '.rlib'), os.path.join(TARGET, 'bin', name)]
+        made = [os.path.join(OUT % name, file) for file in ('rlib/%s.rlib' % name, name, 'lib%s.a' % name)]
         return self.rows.get(name, {}).get('digest') == self.digests[name] and any(map(os.path.exists, made))
 
     def now(self) -> float:
@@ -254,9 +247,21 @@ class Progress:
     def tick(self) -> None:
         """on a terminal, the line anew"""
         if self.says and self.wide:
-            text = self.words('proving ' + (' and '.join(self.estimate.running()) or self.names[-1]))[:self.wide - 1]
+            text = self.words('proving ' + (self.at or self.estimate.running() or self.names[-1]))[:self.wide - 1]
             self.write('\r' + text + ' ' * (self.written - len(text)))
             self.written = len(text)
+
+    def heard(self, line: str) -> None:
+        """a line of rt"""
+        begins = BEGINS.match(line)
+        if begins and begins[1] in self.names:
+            for name in self.names[:self.names.index(begins[1])]:  # rt goes by this order: of these it had nothing to prove
+                self.proved(name, None)
+            self.at, self.at_since = begins[1], self.now()
+        elif VERDICT.match(line) and self.at:
+            self.proved(self.at, self.now() - self.at_since)
+            self.rows[self.at]['verdict'] = line
+            self.at = ''
 
     def proved(self, name: str, seconds: Optional[float]) -> None:
         """a crate was proved, in so many seconds; None: it was proved already"""
@@ -266,18 +271,23 @@ class Progress:
         self.estimate.proved(name, seconds, self.now())
         if seconds is not None:
             before = self.rows.get(name, {}).get('seconds', seconds)
-            self.rows[name] = {'seconds': (before + seconds) / 2, 'digest': self.digests[name]}
+            self.rows[name] = {'seconds': (before + seconds) / 2, 'digest': self.digests[name], 'verdict': ''}
             self.anew += 1
             if self.says and not self.wide:
                 self.write(self.words('proved ' + name) + '\n')
-        elif name in self.rows:
-            self.rows[name]['digest'] = self.digests[name]
-        else:
-            self.rows[name] = {'seconds': SECONDS.get(name, UNKNOWN), 'digest': self.digests[name]}
+        elif self.rows.get(name, {}).get('digest') != self.digests[name]:
+            self.rows[name] = {'seconds': self.rows.get(name, {}).get('seconds', SECONDS.get(name, UNKNOWN)), 'digest': self.digests[name], 'verdict': ''}
 
-    def run(self, command: Sequence[str], log: IO[bytes], **more: Any) -> int:
-        """runs a command of rt in the repository; all that it says goes to the log. Gives its status"""
-        rt = subprocess.Popen(list(command), cwd=ROOT, stdin=subprocess.DEVNULL, stdout=subprocess.PIPE, stderr=subprocess.STDOUT, **more)
+    def verdict(self, name: str) -> str:
+        """the line in which the toolchain said that a crate is proved, as it stands now; nothing where rt took its library from an earlier run"""
+        row = self.rows.get(name, {})
+        return row.get('verdict', '') if row.get('digest') == self.digests[name] else ''
+
+    def run(self, command: Sequence[str], log: IO[bytes], crate: str = '') -> int:
+        """runs a command of rt in the folder of the crate, or of one below it; all that it says goes to the log. Gives its status; where that is 0, all is proved"""
+        top = crate or self.names[-1]
+        rt = subprocess.Popen(list(command), cwd=os.path.join(ROOT, 'crates', top), stdin=subprocess.DEVNULL, stdout=subprocess.PIPE, stderr=subprocess.STDOUT,
+                              env={name: value for name, value in os.environ.items() if name not in OTHERS})
         assert rt.stdout
         part = b''
         try:
@@ -290,11 +300,12 @@ class Progress:
                 log.flush()
                 *lines, part = (part + data).split(b'\n')
                 for line in lines:
-                    found = PROVED.match(line.decode('utf-8', 'replace'))
-                    if found:
-                        self.proved(found[1], float(found[2]) if found[2] else None)
+                    self.heard(line.decode('utf-8', 'replace'))
                 if not data:
-                    return rt.wait()
+                    status = rt.wait()
+                    for name in self.names[:self.names.index(top) + 1] if status == 0 else ():
+                        self.proved(name, None)
+                    return status
         finally:
             self.clear()
             if rt.poll() is None:
@@ -305,7 +316,7 @@ class Progress:
 # ---- one run at a time
 
 class Alone:
-    """Of several runs at once one proves: `with Alone(say):` waits for the others. rt itself would have them write over each other."""
+    """Of several runs at once one proves: `with Alone(say):` waits for the others. Those that wait find it done."""
 
     def __init__(self, say: Callable[[str], None]) -> None:
         self.say = say

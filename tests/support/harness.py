@@ -16,7 +16,7 @@ ROOT = os.path.dirname(os.path.dirname(os.path.dirname(os.path.realpath(__file__
 HERE = os.path.join(ROOT, 'drill')              # ./drill of this tree
 DRILL = os.environ.get('DRILL', HERE)           # what answers logs
 DRILLS = os.path.join(ROOT, 'drills')
-NOT_OURS = ('.git', 'target', 'published', '__pycache__')   # in the repository's folder, and none of it
+NOT_OURS = ('.git', 'target', 'out', 'published', '__pycache__')   # in the repository's folder, and none of it
 ROOM = 800                                      # characters that are shown of what was found instead
 
 sys.dont_write_bytecode = True

@@ -108,7 +108,7 @@ TITLE = 'replay a log of calls against the proved association'
 LANGUAGE = 'A log has a command to a line; empty lines and lines that begin with # are skipped:'
 FORMS = 'Times may be written as 03:00:00, 5s or 250ms, wall clocks as 2026-11-15T03:00:00.04Z, addresses as 192.0.2.1.'
 PAPERS = 'docs/DRILL.md says what each key takes, docs/NUMBERS.md what each number means; drills/ has logs to start from.'
-FIRST_RUN = 'The first run proves and builds the program: it needs rt, and takes about ten minutes on two cores. --ready says whether that is done.'
+FIRST_RUN = 'The first run proves and builds the program: it needs rt, and takes some minutes. --ready says whether that is done.'
 STREAMS = 'Answers go to standard output, all else to standard error.'
 ZERO = 'if every line was answered, and with --page and --summary every box is up'
 TWO = 'on bad usage, if reading or writing failed, if there is no log to read or it has no command, or if a capture gives no log'
@@ -118,7 +118,6 @@ TWO = 'on bad usage, if reading or writing failed, if there is no log to read or
 ENVIRONMENT = (
     ('DRILL', 'The program that --explain, --page, --watch, --summary, --compare and --strike run in the proved one\'s place; for tests.'),
     ('NO_COLOR', 'If it is set, --explain has no colours.'),
-    ('RATTLE_HOME', 'The folder of the toolchain, if it is not that of the rt on the PATH.'),
 )
 KEPT = (
     ('target/bin/drill', 'The program.'),

@@ -1,11 +1,13 @@
 """The proved program: where it is, whether it is the one that was proved, and how it is proved and built.
 
-Only a program that a stamp names is run. The stamp is written once `rt check drill` has succeeded; it holds a digest of the program, and of the sources and the
-toolchain that it was made with. A program that was linked and then refused has none."""
+Only a program that a stamp names is run. `rt run` in crates/drill proves the crate and all below it, and only then compiles and links crates/drill/out/drill. Once
+that gave its expected answers, it is copied to target/bin/drill, and the stamp is written; it holds a digest of the program, and of the sources and the toolchain
+that it was made with. A program that was refused, or that answered otherwise, has none."""
 import hashlib
 import os
 import platform
 import shutil
+import subprocess
 import sys
 
 from ends import die, say
@@ -14,7 +16,10 @@ sys.path.insert(1, os.path.dirname(os.path.dirname(os.path.realpath(__file__))))
 import proving  # noqa: E402
 
 ROOT, TARGET = proving.ROOT, proving.TARGET
+CRATE = os.path.join(ROOT, 'crates', 'drill')
+MADE = os.path.join(CRATE, 'out', 'drill')  # where rt leaves what it proved, compiled and linked
 PROGRAM = os.path.join(TARGET, 'bin', 'drill')
+SECONDS = 120  # the program has no more for its expected answers, as in rt ci
 STAMP = os.path.join(TARGET, 'drill.stamp')
 LOG = os.path.join(TARGET, 'drill.log')
 
@@ -35,30 +40,19 @@ def contents(path: str) -> bytes:
 
 def kit() -> str:
     """the folder of the toolchain"""
-    rt = shutil.which('rt')
-    if not rt:
-        die("Rattle's command rt is not on the PATH: install the toolchain that README.md names")
-    return os.environ.get('RATTLE_HOME') or os.path.dirname(os.path.dirname(os.path.realpath(rt)))
+    return proving.kit() or die("Rattle's command rt is not on the PATH: install the toolchain that README.md names")
 
 
 def command(program: str = PROGRAM) -> list[str]:
     """what runs a program: it is for x86-64 Linux, so the toolchain's loader and C library run it, and elsewhere an emulator runs those"""
-    home, machine = kit(), platform.machine()
-    tools = os.path.join(home, 'on', machine, 'toolchain')
-    if not os.path.isdir(tools):
-        die('the toolchain at %s has nothing for this machine, %s' % (home, machine))
-    loader = os.path.join(tools, 'lib', 'ld-linux-x86-64.so.2')
+    libraries, machine = os.path.join(kit(), 'toolchain', 'lib'), platform.machine()
+    loader = os.path.join(libraries, 'ld-linux-x86-64.so.2')
     if not os.path.exists(loader):
         die("the toolchain's loader %s is missing: install the toolchain again" % loader)
-    emulator = os.path.join(tools, 'bin', 'qemu-x86_64')
-    if not os.access(emulator, os.X_OK):
-        emulator = shutil.which('qemu-x86_64')
-        if machine in ('x86_64', 'amd64'):
-            emulator = None
-        elif not emulator:
-            die('the program is for x86-64, this machine is %s, and there is no emulator: neither %s nor qemu-x86_64 on the PATH (Debian: apt-get install qemu-user)'
-                % (machine, os.path.join(tools, 'bin', 'qemu-x86_64')))
-    return ([emulator] if emulator else []) + [loader, '--library-path', os.path.join(tools, 'lib'), program]
+    emulator = None if machine in ('x86_64', 'amd64') else shutil.which('qemu-x86_64')
+    if not emulator and machine not in ('x86_64', 'amd64'):
+        die('the program is for x86-64, this machine is %s, and there is no emulator: qemu-x86_64 is not on the PATH (Debian: apt-get install qemu-user)' % machine)
+    return ([emulator] if emulator else []) + [loader, '--library-path', libraries, program]
 
 
 # ---- what was proved
@@ -78,8 +72,8 @@ def sources() -> str:
     return sha256(*pieces, contents(identity) if os.path.exists(identity) else b'')
 
 
-def stamp_for(made_from: str) -> str:
-    return 'sources %s\nprogram %s\n' % (made_from, sha256(contents(PROGRAM)))
+def stamp_for(made_from: str, octets: bytes) -> str:
+    return 'sources %s\nprogram %s\n' % (made_from, sha256(octets))
 
 
 def lacks() -> str | None:
@@ -93,30 +87,49 @@ def lacks() -> str | None:
         return 'the built program is gone'
     if stamped.split()[:2] != ['sources', sources()]:
         return 'a source, or the toolchain, is not the one that the program was proved from'
-    if stamped != stamp_for(stamped.split()[1]):
+    if stamped != stamp_for(stamped.split()[1], contents(PROGRAM)):
         return 'the built program is not the one that was proved'
     return None
 
 
 # ---- proving and building
 
+def expected() -> bool:
+    """whether the program gives its expected answers: crates/drill/stdout, for the logs of crates/drill/data that crates/drill/args names"""
+    words = contents(os.path.join(CRATE, 'args')).decode().splitlines()
+    try:
+        ran = subprocess.run(command(MADE) + words, cwd=os.path.join(CRATE, 'data'), stdin=subprocess.DEVNULL, stdout=subprocess.PIPE, stderr=subprocess.DEVNULL, timeout=SECONDS)
+    except subprocess.TimeoutExpired:
+        return False
+    return ran.returncode == 0 and ran.stdout == contents(os.path.join(CRATE, 'stdout'))
+
+
 def build() -> None:
     made_from = sources()
-    if os.path.exists(STAMP):
-        os.remove(STAMP)
+    for old in (STAMP, MADE):  # what is there afterwards is of this run
+        if os.path.exists(old):
+            os.remove(old)
     with open(LOG, 'wb') as log, proving.Progress('drill', 'drill') as progress:
         progress.begin()
-        status = progress.run(['rt', 'check', 'drill'], log)
+        status = progress.run(['rt', 'run', '--cpu=x86-64'], log)  # for every x86-64; the toolchain's default is a later processor
     if status != 0:
         for line in proving.tail(LOG):
             say('  ' + line)
-        die('the program was not proved or did not give its expected answers, and is not run (target/drill.log has the whole of it)')
-    if not os.path.exists(PROGRAM):
-        die('rt check drill succeeded and left no program at target/bin/drill')
-    if sources() != made_from:
+        die('the program was not proved or could not be built, and is not run (target/drill.log has the whole of it)')
+    if not os.path.exists(MADE):
+        die('rt run succeeded in crates/drill and left no program at crates/drill/out/drill')
+    octets = contents(MADE)
+    if not expected():
+        die('the program was proved and did not give its expected answers, crates/drill/stdout, and is not run (`rt ci drill` says where they differ)')
+    if sources() != made_from or contents(MADE) != octets:
         die('a source changed while it was proved: run this again')
+    os.makedirs(os.path.dirname(PROGRAM), exist_ok=True)
+    with open(PROGRAM + '.new', 'wb') as f:
+        f.write(octets)
+    os.chmod(PROGRAM + '.new', 0o755)
+    os.replace(PROGRAM + '.new', PROGRAM)
     with open(STAMP + '.new', 'w') as f:
-        f.write(stamp_for(made_from))
+        f.write(stamp_for(made_from, octets))
     os.replace(STAMP + '.new', STAMP)
 
 

@@ -9,8 +9,6 @@ use native.Mathlib.Omega.{arith}
 use borrow.Author.Tests.{leb-true, le-leb, eqb-true, eq-eqb, not-true}
 use lib.Dec.{leb, eqb}
 use lib.IntN.{ℤ, pos, negsuc}
-use lib.Signed.{le_z}
-use lib.ListN.{get_or}
 use Rattle.words.specs.Bytes.{zeros}
 use Rattle.words.proofs.Tests.{passes, both}
 use Rattle.cookiestash.specs.Whole.{Typed}
@@ -23,7 +21,6 @@ use Rattle.association.specs.declared.Pending.{Pending}
 use Rattle.association.specs.declared.Association.{Association}
 use Rattle.association.specs.Settings.{within, limits_valid, settings_valid}
 use Rattle.association.specs.Record.{versions_valid, pending_valid, idle_valid, whole_of}
-use Rattle.association.specs.Whole.{Whole}
 use Rattle.association.proofs.Whole.{whole_of_lem, of_whole}
 use Rattle.association.specs.Words.{AllZero, InRanges, NotRetired, Requested, Idle, WholeWords}
 

@@ -2,7 +2,6 @@
 -- Assumes nothing.
 use Rattle.std.specs.Prelude.{◌≡◌, true, false, List, ℕ, ◌≤◌, pos, get_or}
 use Rattle.reach.specs.Register.{unanswered_of}
-use Rattle.cookiestash.specs.declared.CookieStash.{CookieStash}
 use Rattle.cookiestash.specs.Whole as stash
 use Rattle.version.specs.declared.Version.{Version}
 use Rattle.version.specs.declared.ProtocolVersion.TheVariants.{Upgrading}

@@ -1,6 +1,8 @@
 // The association's settings and record, when a record is whole, and how a new one is made.
 // Promises: `new` returns 0 with a whole record, or 30, 33 or 38 with the blank record, each exactly when its rule says so.
 // Rule: RULES, "Settings and a whole record", No. 5, No. 12 and No. 14; definitions in specs/Settings.antt, specs/Record.antt and specs/New.antt.
+#![tactic(auto)]
+
 ghost use Rattle.std.specs.Prelude.{◌≡◌, ◌&&◌, ◌||◌, eqb};
 ghost use Rattle.words.specs.Bytes.{zeros};
 ghost use Rattle.association.specs.Settings.{within, limits_valid, settings_valid};
@@ -19,7 +21,7 @@ pub const MAX_POLL: i8 = 17;
 // The longest window that settings may have, in nanoseconds.
 pub const MAX_WINDOW: u64 = 60000000000;
 
-#[derive(Drop)]
+#[derive(Clone, Copy)]
 pub struct Settings {
     // The limits of the poll exponent.
     pub min: PollInterval,
@@ -39,7 +41,7 @@ pub struct Settings {
 }
 
 // How the polls went: the reach register, and how many were sent.
-#[derive(Drop)]
+#[derive(Clone, Copy)]
 pub struct Effort {
     pub reach: Reach,
     pub tries: u8,
@@ -49,14 +51,14 @@ pub struct Effort {
 
 // The poll exponent last used, and the least that the source allows.
 #[repr(C)]
-#[derive(Drop)]
+#[derive(Clone, Copy)]
 pub struct Polls {
     pub last: PollInterval,
     pub remote: PollInterval,
 }
 
 // What the source last reported about itself, and whether it has denied service since.
-#[derive(Drop)]
+#[derive(Clone, Copy)]
 pub struct Source {
     pub stratum: u8,
     pub refid: ReferenceId,
@@ -64,7 +66,7 @@ pub struct Source {
 }
 
 // The pending request. If there is none, its numbers are zero.
-#[derive(Drop)]
+#[derive(Clone, Copy)]
 pub struct Pending {
     pub present: bool,
     pub id: u64,
@@ -75,7 +77,7 @@ pub struct Pending {
 }
 
 // What the calls change in an association, except its cookies.
-#[derive(Drop)]
+#[derive(Clone, Copy)]
 pub struct State {
     pub effort: Effort,
     pub version: Version,
@@ -85,7 +87,7 @@ pub struct State {
 }
 
 // The settings never change. The cookies are many bytes and rarely change. The state is small, and every call changes it.
-#[derive(Drop)]
+#[derive(Clone, Copy)]
 pub struct Association {
     pub settings: Settings,
     pub stash: CookieStash,
@@ -369,7 +371,7 @@ impl Association {
     }
 }
 
-#[derive(Drop)]
+#[derive(Clone, Copy)]
 pub enum NewAnswer {
     Made,
     BadSettings,
@@ -410,7 +412,7 @@ impl NewAnswer {
 }
 
 // What `new` returns: its answer, what fell out while the first list was stored, and the association, which is blank if it was rejected.
-#[derive(Drop)]
+#[derive(Clone, Copy)]
 pub struct NewOut {
     pub answer: NewAnswer,
     pub dropped: Dropped,

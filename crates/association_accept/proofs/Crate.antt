@@ -14,7 +14,7 @@ use Rattle.association.specs.declared.Association.{Association}
 use Rattle.association.specs.Record.{whole_of}
 use Rattle.association_accept.specs.declared.Bloom.{Bloom}
 use Rattle.association_accept.specs.declared.AcceptAnswer.{AcceptAnswer}
-use Rattle.association_accept.specs.declared.AcceptAnswer.TheVariants.{Accepted, Stratum, Loop, Unreachable, NotWhole}
+use Rattle.association_accept.specs.declared.AcceptAnswer.TheVariants.{Accepted, Stratum, Loop, NotWhole}
 use Rattle.association_accept.proofs.Numbers.{or_right}
 use Rattle.association_accept.specs.Accept.{number_of, among, is_present, is_ours, served_by_us, accept_by, accept_seen, accept_of, crate_accept_of}
 

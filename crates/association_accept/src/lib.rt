@@ -1,6 +1,8 @@
 // Acceptance: whether the source may be synchronised to.
 // Promises: each number exactly when its rule says so, with the rules in their order.
 // Rule: RULES, part 12; definitions in specs/Accept.antt, number by number in specs/Numbers.antt.
+#![tactic(auto)]
+
 ghost use Rattle.std.specs.Prelude.{◌≡◌};
 ghost use Rattle.association_accept.specs.Accept.{among, is_present, is_ours, served_by_us, loops, number_of, accept_seen, accept_of};
 
@@ -8,14 +10,14 @@ use association::{Association, Settings, State};
 use cookiestash::Seen;
 
 // What the caller's Bloom filter says about us: there is no filter, we are absent from it, or we are present in it.
-#[derive(Drop)]
+#[derive(Clone, Copy)]
 pub enum Bloom {
     NoFilter,
     Absent,
     Present,
 }
 
-#[derive(Drop)]
+#[derive(Clone, Copy)]
 pub enum AcceptAnswer {
     Accepted,
     Stratum,

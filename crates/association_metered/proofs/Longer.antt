@@ -11,7 +11,7 @@ use lib.ListN.{length}
 use Rattle.words.specs.Bytes.{part}
 use Rattle.words.proofs.Bytes.{length_part}
 use Rattle.cookielist.specs.declared.Entry.TheVariants.{Cookie, End, Broken}
-use Rattle.cookielist.specs.List.{entry_at, Listed, whole, broken, before, cookies_from, cookies_in}
+use Rattle.cookielist.specs.List.{entry_at, Listed, whole, broken, before, cookies_from}
 use Rattle.cookielist.proofs.Reader.{placed, read_cookie, read_end, read_broken}
 use Rattle.association_metered.specs.Profile.{any_longer, longer_in}
 

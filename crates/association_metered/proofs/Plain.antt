@@ -2,7 +2,7 @@
 -- blank one.
 -- So what is proved of every record that `new` gives is proved of every one that this call gives.
 -- Assumes nothing.
-use mathlib.Core.Path.{◌≡◌, refl, sym, ap, subst, ◌∙◌}
+use mathlib.Core.Path.{◌≡◌, refl, sym, ap, subst}
 use mathlib.Core.Bool.{Bool, true, false}
 use mathlib.Core.List.{List, []}
 use mathlib.Core.Logic.{◌⊎◌, inl, inr}
@@ -22,7 +22,7 @@ use Rattle.association.specs.New as new
 use Rattle.association.proofs.New.{new_gives}
 use Rattle.association.proofs.Numbers as plain
 use Rattle.association_metered.specs.declared.ProfileAnswer.{ProfileAnswer}
-use Rattle.association_metered.specs.Profile.{number_of, low_poll_min, profile_of, metered_of}
+use Rattle.association_metered.specs.Profile.{number_of, profile_of, metered_of}
 use Rattle.association_metered.specs.Numbers as N
 use Rattle.association_metered.specs.Numbers.{bad_settings, broken_list, low_poll_min_lem, high_startup_lem, upgrading_start, long_cookie_lem, met}
 use Rattle.association_metered.proofs.Numbers.{given}

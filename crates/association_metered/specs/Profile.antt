@@ -1,6 +1,6 @@
 -- RULES, No. 11: the metered profile, in order 30, 33, 34, 35, 36, 37, 0, and the call that makes a metered association.
 -- Assumes nothing.
-use Rattle.std.specs.Prelude.{Bool, true, false, ◌&&◌, ◌||◌, cond, List, [], ◌∷◌, ℕ, ltb, eqb, pos, length}
+use Rattle.std.specs.Prelude.{Bool, false, ◌&&◌, ◌||◌, cond, List, [], ◌∷◌, ℕ, ltb, eqb, pos, length}
 use Rattle.std.specs.Int.Signed.{lt_z}
 use Rattle.cookielist.specs.List.{Listed, whole, broken, cookies_in, list_broken}
 use Rattle.cookiestash.specs.Falling.{none_dropped}

@@ -1,6 +1,8 @@
 // A profile for metered links, where every packet costs money: the check that returns the first broken rule, and the call that makes such an association.
 // Promises: each number exactly when its rule says so, in its order; with 0 the record that `Association::new` makes, and with any other number the blank one.
 // Rule: RULES, No. 11, and No. 5 for what fell out; definitions in specs/Profile.antt, number by number in specs/Numbers.antt.
+#![tactic(auto)]
+
 ghost use Rattle.std.specs.Prelude.{◌≡◌};
 ghost use Rattle.cookielist.specs.List.{cookies_in};
 ghost use Rattle.association_metered.specs.Profile.{number_of, longer_in, long_cookie, profile_of, metered_of};
@@ -19,7 +21,7 @@ pub const MOST_STARTUP: u8 = 3;
 pub const LONGEST_COOKIE: usize = 100;
 
 // The profile is met, or the first rule that is broken.
-#[derive(Drop)]
+#[derive(Clone, Copy)]
 pub enum ProfileAnswer {
     Met,
     BadSettings,
@@ -110,7 +112,7 @@ pub fn profile(settings: Settings, list: &[u8]) -> ProfileAnswer
 }
 
 // What `metered` returns: the profile's answer, what fell out while the first list was stored, and the association, which is blank if it was rejected.
-#[derive(Drop)]
+#[derive(Clone, Copy)]
 pub struct MeteredOut {
     pub answer: ProfileAnswer,
     pub dropped: Dropped,

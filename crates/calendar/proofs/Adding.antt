@@ -1,17 +1,15 @@
 -- Laws of the loop that adds an entry's polls to a day's loads.
 -- Assumes nothing.
 use mathlib.Core.Path.{◌≡◌, refl, sym, subst, ◌∙◌}
-use mathlib.Core.Bool.{cond}
 use mathlib.Core.List.{List}
 use mathlib.Core.Logic.{⊎_elim}
-use Prim.Native.Nat.{ℕ, suc, ◌+◌, ◌%◌, ◌≤◌, ◌<◌}
+use Prim.Native.Nat.{ℕ, ◌+◌, ◌%◌, ◌≤◌, ◌<◌}
 use native.Mathlib.Omega.{arith}
 use native.Mathlib.Numerals.{add-one}
 use native.Mathlib.Nat.{eq-or-lt_of_le}
 use lib.ListN.{length, get_or, set, length-set}
 use lib.Seq.{get_or-set_same, get_or-set_other}
 use Rattle.words.proofs.Tests.{when, unless}
-use Rattle.calendar.specs.Calendar.{polls}
 use Rattle.calendar.specs.Loads.{one_more}
 use Rattle.calendar.proofs.Search.{split}
 use Rattle.calendar.proofs.Minutes.{first, none_before, next, none_between, polled}

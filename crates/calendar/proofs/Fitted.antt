@@ -1,21 +1,21 @@
 -- RULES, No. 13: a start fits behind those placed exactly if the check accepts those placed with it.
 -- Assumes nothing.
-use mathlib.Core.Path.{◌≡◌, refl, sym, ap, ◌∙◌}
-use mathlib.Core.Bool.{Bool, true, false, not, ◌&&◌, cond}
+use mathlib.Core.Path.{◌≡◌, refl, sym, ap}
+use mathlib.Core.Bool.{true, false, not}
 use mathlib.Core.List.{List, [], ◌∷◌, ◌++◌}
 use mathlib.Core.Logic.{◌↔◌, ⊎_elim}
 use Prim.Native.Nat.{ℕ, zero, suc, ◌%◌, ◌≤◌, ◌<◌}
 use native.Mathlib.Omega.{arith}
 use native.Mathlib.Nat.{eq-or-lt_of_le}
 use borrow.Author.Tests.{ltb-false, le-ltb, eqb-true, eqb-false, not-true, not-false}
-use lib.Dec.{ltb, eqb}
-use lib.ListN.{length, get_or, take, length-append, get_or-append}
+use lib.Dec.{eqb}
+use lib.ListN.{length, take, length-append, get_or-append}
 use lib.Seq.{get_or_at, get_or-take, length-take-le}
 use Rattle.words.proofs.Tests.{both}
 use Rattle.calendar.specs.declared.Found.TheVariants.{Nothing}
 use Rattle.calendar.specs.declared.CheckAnswer.TheVariants.{Accepted}
-use Rattle.calendar.specs.Lowest.{lowest, is_nothing, First, None}
-use Rattle.calendar.specs.Calendar.{entries_of, start_of, repeat_of, divides_day, bad_repeat, polls, load, over, check_of}
+use Rattle.calendar.specs.Lowest.{is_nothing}
+use Rattle.calendar.specs.Calendar.{entries_of, start_of, repeat_of, divides_day, load, over, check_of}
 use Rattle.calendar.specs.Plan.{fits}
 use Rattle.calendar.specs.Numbers as N
 use Rattle.calendar.specs.PlanNumbers as M

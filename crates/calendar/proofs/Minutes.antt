@@ -1,11 +1,11 @@
 -- Laws of the minutes of an entry: the first is its start, and each is followed by the one a repeat later, with none between.
 -- Assumes nothing.
-use mathlib.Core.Path.{◌≡◌, sym, ◌∙◌}
+use mathlib.Core.Path.{◌≡◌, ◌∙◌}
 use mathlib.Core.Bool.{false, true}
 use mathlib.Core.Logic.{⊎_elim}
-use Prim.Native.Nat.{ℕ, ◌+◌, ◌-◌, ◌%◌, ◌≤◌, ◌<◌}
+use Prim.Native.Nat.{ℕ, ◌+◌, ◌-◌, ◌%◌, ◌<◌}
 use native.Mathlib.Omega.{arith}
-use native.Mathlib.Nat.{mod-lt, mod-eq_of_lt, add-mod, add-mod_right, mod-eq-sub-mod}
+use native.Mathlib.Nat.{mod-eq_of_lt, add-mod, add-mod_right, mod-eq-sub-mod}
 use borrow.Author.Tests.{eq-eqb, ne_eqb}
 use Rattle.calendar.specs.Calendar.{polls}
 use Rattle.calendar.proofs.Search.{split}

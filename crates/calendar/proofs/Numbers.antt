@@ -1,7 +1,7 @@
 -- Each number of the check is given exactly under its rule (specs/Numbers.antt), and a calendar is accepted exactly if it is as RULES has it.
 -- Assumes nothing.
 use mathlib.Core.Path.{◌≡◌, refl, ap, subst, ◌∙◌}
-use mathlib.Core.Bool.{true, false, not}
+use mathlib.Core.Bool.{not}
 use mathlib.Core.List.{List}
 use mathlib.Core.Logic.{◌↔◌}
 use Prim.Native.Nat.{ℕ}
@@ -12,7 +12,6 @@ use Rattle.words.proofs.Tests.{either, passes}
 use Rattle.calendar.specs.declared.Found.TheVariants.{At, Nothing}
 use Rattle.calendar.specs.declared.CheckAnswer.{CheckAnswer}
 use Rattle.calendar.specs.declared.CheckAnswer.TheVariants.{Accepted}
-use Rattle.calendar.specs.Lowest.{lowest}
 use Rattle.calendar.specs.Calendar.{entries_of, repeat_of, start_of, divides_day, bad_repeat, late_start, load, over, check_of, number_of}
 use Rattle.calendar.specs.Numbers as N
 use Rattle.calendar.specs.Numbers.{too_many, bad_repeat_lem, late_start_lem, over_cap, accepted}

@@ -1,7 +1,7 @@
 -- Laws of the loop that asks whether each minute of an entry takes one poll more.
 -- Assumes nothing.
 use mathlib.Core.Path.{◌≡◌, ap, ◌∙◌, subst}
-use mathlib.Core.Bool.{Bool, true, false, ◌&&◌}
+use mathlib.Core.Bool.{true, false}
 use mathlib.Core.List.{List}
 use mathlib.Core.Logic.{⊎_elim}
 use Prim.Native.Nat.{ℕ, ◌+◌, ◌%◌, ◌≤◌, ◌<◌}
@@ -12,7 +12,6 @@ use lib.ListN.{get_or}
 use borrow.Author.Tests.{le-leb, lt-leb}
 use Rattle.words.proofs.Tests.{passes, fails}
 use Rattle.calendar.specs.Lowest.{None, is_nothing}
-use Rattle.calendar.specs.Calendar.{polls}
 use Rattle.calendar.specs.Loads.{taken, free}
 use Rattle.calendar.specs.declared.Found.TheVariants.{At, Nothing}
 use Rattle.calendar.proofs.Search.{split, is}

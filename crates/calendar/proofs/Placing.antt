@@ -3,22 +3,20 @@
 use mathlib.Core.Path.{◌≡◌, refl, sym, ap, subst, ◌∙◌}
 use mathlib.Core.Bool.{Bool, true, false, ◌&&◌, cond}
 use mathlib.Core.List.{List, [], ◌∷◌, ◌++◌}
-use mathlib.Core.Logic.{⊎_elim}
 use Prim.Native.Nat.{ℕ, zero, suc, ◌+◌, ◌-◌, ◌≤◌, ◌<◌}
 use native.Mathlib.Omega.{arith}
 use native.Mathlib.Numerals.{add-one}
 use lib.Dec.{ltb, leb, leb-suc-suc}
-use lib.ListN.{length, get_or, take, set, length-set, get_or-append}
-use lib.Seq.{get_or_at, length-take-le, take-suc-set, take_all}
-use borrow.Author.Tests.{lt-ltb, le-ltb, ltb-false}
-use Rattle.words.proofs.Tests.{either}
+use lib.ListN.{length, get_or, take, set, get_or-append}
+use lib.Seq.{get_or_at, length-take-le, take-suc-set}
+use borrow.Author.Tests.{le-ltb, ltb-false}
 use Rattle.calendar.specs.declared.Found.{Found}
 use Rattle.calendar.specs.declared.Found.TheVariants.{At, Nothing}
-use Rattle.calendar.specs.Lowest.{lowest, is_nothing, named, None}
+use Rattle.calendar.specs.Lowest.{lowest, is_nothing, None}
 use Rattle.calendar.specs.Calendar.{start_of, repeat_of, polls, load, over}
 use Rattle.calendar.specs.Loads.{taken, free, one_more}
-use Rattle.calendar.specs.Plan.{Plan, whole, stuck, fits, earliest_of, plan_from, planned}
-use Rattle.calendar.proofs.Search.{split, never, agree, found, nothing, is}
+use Rattle.calendar.specs.Plan.{whole, stuck, fits, earliest_of, plan_from}
+use Rattle.calendar.proofs.Search.{agree, found, nothing}
 use Rattle.calendar.proofs.Loaded.{Loaded, of_none, of_more}
 
 -- ---- the loads of a list with one start more

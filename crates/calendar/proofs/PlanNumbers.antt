@@ -1,6 +1,6 @@
 -- Each number of the planner is given exactly under its rule (specs/PlanNumbers.antt).
 -- Assumes nothing.
-use mathlib.Core.Path.{◌≡◌, refl, sym, ap, subst, ◌∙◌}
+use mathlib.Core.Path.{◌≡◌, refl, ap, subst, ◌∙◌}
 use mathlib.Core.List.{List, [], ◌∷◌, ◌++◌}
 use mathlib.Core.Logic.{◌↔◌}
 use Prim.Native.Nat.{ℕ, zero, suc, ◌+◌, ◌-◌, ◌≤◌, ◌<◌}
@@ -11,8 +11,7 @@ use borrow.Author.Tests.{lt-ltb, le-ltb, ltb-true, ltb-false}
 use Rattle.words.proofs.Tests.{either}
 use Rattle.calendar.specs.declared.Found.TheVariants.{At, Nothing}
 use Rattle.calendar.specs.declared.PlanAnswer.{PlanAnswer}
-use Rattle.calendar.specs.declared.PlanAnswer.TheVariants.{NoFit}
-use Rattle.calendar.specs.Lowest.{lowest, None}
+use Rattle.calendar.specs.Lowest.{None}
 use Rattle.calendar.specs.Calendar.{repeat_of, bad_repeat}
 use Rattle.calendar.specs.Plan.{Plan, whole, stuck, fits, earliest_of, plan_from, answer_to, plan_of, plan_number_of}
 use Rattle.calendar.specs.PlanNumbers as N

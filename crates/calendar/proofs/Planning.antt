@@ -1,9 +1,8 @@
 -- Laws of the planner's code: which answer and which buffer the definitions have where the code returns.
 -- Assumes nothing.
-use mathlib.Core.Path.{◌≡◌, refl, sym, ap, ◌∙◌}
+use mathlib.Core.Path.{◌≡◌, sym, ap, ◌∙◌}
 use mathlib.Core.List.{List, [], ◌++◌}
 use Prim.Native.Nat.{ℕ, ◌≤◌, ◌<◌}
-use native.Mathlib.Omega.{arith}
 use lib.ListN.{length, take, drop}
 use lib.Seq.{length-take-le}
 use borrow.Author.Tests.{lt-ltb, le-ltb}
@@ -12,7 +11,7 @@ use Rattle.calendar.specs.declared.PlanAnswer.{PlanAnswer}
 use Rattle.calendar.specs.declared.PlanAnswer.TheVariants.{Planned, TooMany, BadRepeat, NoFit, NoRoom}
 use Rattle.calendar.specs.Lowest.{lowest}
 use Rattle.calendar.specs.Calendar.{bad_repeat}
-use Rattle.calendar.specs.Plan.{Plan, whole, stuck, plan_from, plan_of, left_in, starts_in, buffer_of}
+use Rattle.calendar.specs.Plan.{whole, stuck, plan_from, plan_of, left_in, starts_in, buffer_of}
 
 module _ (cap : ℕ) (repeats out : List ℕ) where
   -- an answer and what it leaves in the buffer

@@ -1,15 +1,15 @@
 -- What the planner promises: what it gives is accepted by the check, its 80 and 81 are the check's, and where it refuses nothing is written.
 -- The example of RULES' words "even where another plan exists" is computed.
 -- Assumes nothing.
-use mathlib.Core.Path.{◌≡◌, refl, sym, ap, subst, ◌∙◌}
+use mathlib.Core.Path.{◌≡◌, refl, sym, subst}
 use mathlib.Core.Bool.{true, false}
 use mathlib.Core.List.{List, [], ◌∷◌, ◌++◌}
 use mathlib.Core.Logic.{◌↔◌, ⊎_elim}
-use Prim.Native.Nat.{ℕ, suc, ◌+◌, ◌≤◌, ◌<◌, max}
+use Prim.Native.Nat.{ℕ, suc, ◌+◌, ◌≤◌, ◌<◌}
 use native.Mathlib.Omega.{arith}
 use native.Mathlib.Nat.{eq-or-lt_of_le}
 use lib.Dec.{ltb}
-use lib.ListN.{length, get_or, take, drop, get_or-append, get_or-eq_default, length-append}
+use lib.ListN.{length, take, drop, get_or-append, get_or-eq_default, length-append}
 use lib.Seq.{get_or_at, take_at, drop_at, take-append-le}
 use borrow.Author.Tests.{le-ltb, lt-leb}
 use Rattle.calendar.specs.declared.CheckAnswer.{CheckAnswer}
@@ -18,9 +18,9 @@ use Rattle.calendar.specs.declared.CheckAnswer.TheVariants as C
 use Rattle.calendar.specs.declared.PlanAnswer.{PlanAnswer}
 use Rattle.calendar.specs.declared.PlanAnswer.TheVariants as P
 use Rattle.calendar.specs.declared.PlanAnswer.TheVariants.{Planned, NoFit}
-use Rattle.calendar.specs.Lowest.{lowest, None, First}
-use Rattle.calendar.specs.Calendar.{entries_of, start_of, repeat_of, bad_repeat, late_start, load, over, check_of}
-use Rattle.calendar.specs.Plan.{Plan, whole, fits, plan_from, plan_of, left_in, starts_in, buffer_of, plan_number_of}
+use Rattle.calendar.specs.Lowest.{None, First}
+use Rattle.calendar.specs.Calendar.{entries_of, start_of, repeat_of, bad_repeat, load, over, check_of}
+use Rattle.calendar.specs.Plan.{fits, plan_from, plan_of, left_in, starts_in, buffer_of, plan_number_of}
 use Rattle.calendar.specs.Numbers as N
 use Rattle.calendar.specs.PlanNumbers as M
 use Rattle.calendar.specs.PlanNumbers.{none, next}

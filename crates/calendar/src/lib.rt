@@ -2,6 +2,8 @@
 // Promises: each number exactly when its rule says so, with the lowest entry or minute; the check accepts every plan; each start is the earliest that fits.
 // Rule: RULES, No. 13; definitions in specs/Calendar.antt and specs/Plan.antt.
 // The code never divides, since the smallest boards have no divider: it counts multiples up in steps.
+#![tactic(auto)]
+
 ghost use Rattle.std.specs.Prelude.{◌≡◌, [], ◌++◌, ℕ, ◌%◌, ◌≤◌, ◌<◌, length, get_or, take, drop};
 ghost use Rattle.calendar.specs.Lowest.{lowest};
 ghost use Rattle.calendar.specs.Calendar.{entries_of, divides_day, bad_repeat, late_start, load, check_of, number_of};
@@ -16,14 +18,14 @@ pub const MOST_ENTRIES: usize = 64;
 const LAST_MINUTE: usize = 1439;
 
 // The result of a search: the lowest entry, minute or start that passes, or nothing.
-#[derive(Drop)]
+#[derive(Clone, Copy)]
 enum Found {
     At(usize),
     Nothing,
 }
 
 // What the check answers. Entries and minutes are counted from 0.
-#[derive(Drop)]
+#[derive(Clone, Copy)]
 pub enum CheckAnswer {
     Accepted,
     TooMany,
@@ -48,7 +50,7 @@ impl CheckAnswer {
 }
 
 // What the planner answers. The buffer has a plan only if the answer is `Planned`.
-#[derive(Drop)]
+#[derive(Clone, Copy)]
 pub enum PlanAnswer {
     Planned,
     TooMany,

@@ -83,8 +83,8 @@ after l at f g same Broken e = refl
 -- any two numbers of cookies that reach the end of the bytes give the same
 enough : (n m : ℕ) (l : List ℕ) (at : ℕ) → length l - at ≤ n → length l - at ≤ m → cookies_n n l at ≡ cookies_n m l at
 enough zero zero l at h k = refl
-enough zero (suc m) l at h k = after l at _ _ (λ end a b. absurd (omega arith)) (entry_at l at) refl
-enough (suc n) zero l at h k = after l at _ _ (λ end a b. absurd (omega arith)) (entry_at l at) refl
+enough zero (suc m) l at h k = after l at (λ x. broken) _ (λ end a b. absurd (omega arith)) (entry_at l at) refl
+enough (suc n) zero l at h k = after l at _ (λ x. broken) (λ end a b. absurd (omega arith)) (entry_at l at) refl
 enough (suc n) (suc m) l at h k = after l at _ _ (λ end a b. enough n m l end (omega arith) (omega arith)) (entry_at l at) refl
 
 -- THE LAW of the reader: what stands at the offset, and then the cookies from where it ends

@@ -1,6 +1,8 @@
 // The list in which cookies are passed, in this project's own format: a run of records, each a mark, a length and a cookie.
 // Promises: what is written is read back; a list is rejected exactly if a read from its start meets a broken entry.
 // Rule: RULES, "Settings and a whole record"; definitions in specs/List.antt.
+#![tactic(auto)]
+
 ghost use Rattle.std.specs.Prelude.{◌≡◌};
 ghost use Rattle.cookielist.specs.List.{entry_at, is_whole, cookies_in, list_broken};
 
@@ -14,7 +16,7 @@ pub const HEAD_BYTES: usize = 4;
 pub const MAX_COOKIE: usize = 724;
 
 // What is at an offset of a cookie list: a cookie, with its bytes from start to before end; the end of the list; or something broken.
-#[derive(Drop)]
+#[derive(Clone, Copy)]
 pub enum Entry {
     Cookie { start: usize, end: usize },
     End,

@@ -4,11 +4,9 @@ use Prim.Native.Nat.{ℕ, zero, suc, ◌+◌, ◌*◌, ◌-◌, ◌≤◌, ◌<�
 use mathlib.Core.Path.{◌≡◌, refl, sym, ap, ◌∙◌}
 use mathlib.Core.Bool.{Bool, true, false, cond}
 use mathlib.Core.List.{List, [], ◌∷◌, ◌++◌, map, append_assoc}
-use mathlib.Core.Logic.{◌⊎◌, ⊎_elim}
 use native.Mathlib.Decide.{dec_lt}
 use native.Mathlib.Omega.{arith}
 use borrow.Author.Tests.{le-leb, lt-leb}
-use denote.Enum.Declared.{tag_of}
 use lib.ListN.{length, take, drop, take-append-drop, length-append, length-take, length-map, get_or-eq_default}
 use Rattle.words.specs.Bytes.{part}
 use Rattle.words.proofs.Bytes.{Bytes}
@@ -16,7 +14,6 @@ use Rattle.cookielist.specs.declared.Entry.{Entry}
 use Rattle.cookielist.specs.declared.Entry.TheVariants.{Cookie, End, Broken}
 use Rattle.words.specs.Put.{record_of}
 use Rattle.cookielist.specs.List.{AllShort, list_of, entry_at, Listed, whole, broken, is_whole, before, cookies_from, cookies_in}
-use Rattle.cookielist.specs.contracts.Entry as E
 use Rattle.cookielist.proofs.Reader.{placed, read_cookie, read_end, read_broken}
 use Rattle.cookielist.proofs.RoundTrip.{short_again, list_written, list_short}
 use Rattle.cookiestash.specs.declared.Slot.{Slot}
@@ -155,10 +152,10 @@ module _ (cap : ℕ) (s : CookieStash) where
   nothing_by true i = none_falls cap s i
   nothing_by false i = refl
 
-  -- an answer that is no cookie, by its tag, ends the storing
-  pub falls_stop : (l : List ℕ) (at : ℕ) (e : Entry) (d : Dropped) → entry_at l at ≡ e → (tag_of E.the_type e ≡ 1) ⊎ (tag_of E.the_type e ≡ 2) →
+  -- an answer that is no cookie ends the storing
+  pub falls_stop : (l : List ℕ) (at : ℕ) (e : Entry) (d : Dropped) → entry_at l at ≡ e → ((start end : ℕ) → e ≡ Cookie start end → ⊥) →
       added d (fallen_listed cap s (cookies_from l at)) ≡ d
-  falls_stop l at (Cookie start end) d p h = absurd (⊎_elim (λ q. omega arith) (λ q. omega arith) h)
+  falls_stop l at (Cookie start end) d p h = absurd (h start end refl)
   falls_stop l at End d p h = rw (read_end l at p, nothing_by (in_range cap s) refl) (added_none d)
   falls_stop l at Broken d p h = rw (read_broken l at p) (added_none d)
 

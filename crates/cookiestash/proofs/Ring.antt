@@ -1,23 +1,22 @@
 -- At capacity 8 the stash is the crate's ring (specs/Ring.antt), for cookies that are kept whole: new, stored, taken, gap and length.
 -- Assumes nothing.
 use mathlib.Core.Path.{◌≡◌, refl, sym, ap, ◌∙◌}
-use mathlib.Core.Bool.{Bool, true, false, ◌&&◌, cond}
-use mathlib.Core.List.{List, [], ◌∷◌, ◌++◌, map}
-use mathlib.Core.Option.{Option, none, some}
+use mathlib.Core.Bool.{Bool, true, false, cond}
+use mathlib.Core.List.{List, [], ◌∷◌, map}
+use mathlib.Core.Option.{none, some}
 use Prim.Native.Nat.{ℕ, zero, suc, ◌+◌, ◌-◌, ◌%◌, ◌≤◌, ◌<◌}
 use native.Mathlib.Omega.{arith}
 use native.Mathlib.Nat.{mod-eq_of_lt}
-use borrow.Author.Tests.{lt-ltb, le-ltb, le-leb, lt-leb, eq-eqb, ne_eqb, ltb-true, ltb-false}
+use borrow.Author.Tests.{le-ltb, le-leb, lt-leb, eq-eqb, ne_eqb, ltb-true, ltb-false}
 use lib.Dec.{ltb, leb, eqb}
 use lib.ListN.{length, get_or, take, set, replicate, get_or-map}
 use lib.Seq.{take_at, take_all, length-take-le}
 use Rattle.words.proofs.Tests.{when, unless}
-use Rattle.cookiestash.specs.declared.Slot.{Slot}
 use Rattle.cookiestash.specs.declared.CookieStash.{CookieStash}
-use Rattle.cookiestash.specs.Stash.{stored, slot_of, empty_slot, slot_at, new_of, wrap, full, gap_of, in_range, put_of, store_of, rest_of, get_of}
+use Rattle.cookiestash.specs.Stash.{stored, slot_of, empty_slot, slot_at, new_of, wrap, full, gap_of, put_of, store_of, rest_of, get_of}
 use Rattle.cookiestash.specs.Whole.{Whole}
 use Rattle.cookiestash.proofs.Kept.{in_range_lem, store_put}
-use Rattle.cookiestash.specs.Ring.{Ring, empty, store, Got, got, get, gap, len, kept_in, ring_of}
+use Rattle.cookiestash.specs.Ring.{Ring, empty, store, got, get, gap, len, kept_in, ring_of}
 
 map_set : {A B : Type 0} (f : A → B) (l : List A) (i : ℕ) (x : A) → map f (set l i x) ≡ set (map f l) i (f x)
 map_set f [] i x = refl

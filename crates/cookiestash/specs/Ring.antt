@@ -1,7 +1,7 @@
 -- The crate's stash on values, as its file cookiestash.rs has it (RULES, No. 12): an array of eight cookies, a place to read and a count; places wrap modulo
 -- 8.
 -- Assumes nothing.
-use Rattle.std.specs.Prelude.{Bool, cond, List, [], map, ℕ, ◌+◌, ◌-◌, ◌%◌, ltb, eqb, get_or, take, set, replicate}
+use Rattle.std.specs.Prelude.{cond, List, [], map, ℕ, ◌+◌, ◌-◌, ◌%◌, ltb, eqb, get_or, take, set, replicate}
 use Rattle.std.proofs.Math.Option.{Option, none, some}
 use Rattle.cookiestash.specs.declared.Slot.{Slot}
 use Rattle.cookiestash.specs.declared.CookieStash.{CookieStash}

@@ -1,6 +1,8 @@
 // The cookies that a client holds, given out oldest first.
 // Promises: the stash is a queue of at most as many cookies as its capacity; a cookie that was given out is no longer held; a whole stash stays whole.
 // Rule: RULES, part 3 and No. 5; definitions in specs/Stash.antt, Queue.antt (a queue), Whole.antt (when it is whole) and Falling.antt (what falls out).
+#![tactic(auto)]
+
 ghost use Rattle.std.specs.Prelude.{◌≡◌, ◌&&◌, ◌+◌, ◌-◌, ◌≤◌, ◌<◌, length, drop};
 ghost use Rattle.words.specs.Bytes.{zeros};
 ghost use Rattle.cookiestash.specs.Stash.{stored, slot_of, empty_slot, new_of, wrap, range_of, put_of, get_of};
@@ -23,7 +25,7 @@ pub const MAX_LENGTH: usize = 65535;
 
 // One cookie: its length, and its bytes from the start, followed by zeros. If a cookie is longer than a slot, only its length is kept.
 #[repr(C)]
-#[derive(Drop)]
+#[derive(Clone, Copy)]
 pub struct Slot {
     pub bytes: [u8; 724],
     pub len: u16,
@@ -31,7 +33,7 @@ pub struct Slot {
 
 // The slots, the place of the oldest cookie, and how many are held.
 #[repr(C)]
-#[derive(Drop)]
+#[derive(Clone, Copy)]
 pub struct CookieStash {
     pub slots: [Slot; 8],
     pub read: usize,
@@ -39,7 +41,7 @@ pub struct CookieStash {
 }
 
 // What `get` returns: whether there was a cookie, the cookie, and the stash without it.
-#[derive(Drop)]
+#[derive(Clone, Copy)]
 pub struct Taken {
     pub found: bool,
     pub slot: Slot,
@@ -47,7 +49,7 @@ pub struct Taken {
 }
 
 // What falls out when one cookie is stored: whether an older one does, and its length.
-#[derive(Drop)]
+#[derive(Clone, Copy)]
 pub struct Fallen {
     pub fell: bool,
     pub len: u16,
@@ -55,21 +57,21 @@ pub struct Fallen {
 
 // What falls out when cookies are stored: how many, and the sum of their lengths.
 #[repr(C)]
-#[derive(Drop)]
+#[derive(Clone, Copy)]
 pub struct Dropped {
     pub count: u64,
     pub bytes: u64,
 }
 
 // What `store` returns: the stash with the cookie, and what fell out of it.
-#[derive(Drop)]
+#[derive(Clone, Copy)]
 pub struct StoreOut {
     pub stash: CookieStash,
     pub fallen: Fallen,
 }
 
 // What `store_list` returns: the stash with the cookies, and what fell out of it.
-#[derive(Drop)]
+#[derive(Clone, Copy)]
 pub struct StoreListOut {
     pub stash: CookieStash,
     pub dropped: Dropped,
@@ -77,7 +79,7 @@ pub struct StoreListOut {
 
 // The summary of a stash that the rules read: whether it is whole; whether it has a cookie, how long the oldest is, and how many more there is room for once
 // that one is taken; its place and its count.
-#[derive(Drop)]
+#[derive(Clone, Copy)]
 pub struct Seen {
     pub whole: bool,
     pub found: bool,

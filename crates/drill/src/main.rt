@@ -1,6 +1,8 @@
 // The drill: a program that replays a log against the association and answers each of its lines.
 // Promises: it ends and stays in its bounds. What it prints is tested, not proved: tools/reference and the crate give the same answers (docs/EXCEPTIONS.md).
 // Rule: docs/DRILL.md defines the language, RULES the numbers.
+#![tactic(auto)]
+
 use association::Association;
 use drill_commands::{
     calendars, calls, collects, compares, handovers, polls, profiles, record, replies, requests,
@@ -9,12 +11,22 @@ use drill_commands::{
 use drill_text::run::Ran;
 use drill_text::text::Found;
 use drill_text::{print, text};
-use libc::{STDIN_FILENO, STDOUT_FILENO};
+use std::env::{Env, FillError};
+use std::fs::File;
+use std::io;
+use std::io::Read;
+use std::rt::Files;
 
 // How many bytes a line and an answer may have.
 const MAX_LINE: usize = 32768;
 
 const MAX_ANSWER: usize = 16384;
+
+// How many bytes are read at once.
+const CHUNK: usize = 65536;
+
+// How many bytes an argument may have; a longer one counts as empty.
+const MAX_NAME: usize = 4096;
 
 // The first argument that names a log; argument 0 is the program's own name.
 const FIRST_LOG: usize = 1;
@@ -64,7 +76,7 @@ mod command {
 
 // A log as far as it is read: the association, the number of the line, how many bytes of it are there, whether it is too long,
 // whether there is more to read, and whether reading failed.
-#[derive(Drop)]
+#[derive(Clone, Copy)]
 struct Log {
     association: Association,
     number: u64,
@@ -164,20 +176,20 @@ fn answered(log: Log, line: &[u8], out: &mut [u8]) -> Ran {
 }
 
 // Answers a line with one write, and prepares for the next one.
-fn handle(log: Log, line: &[u8], out: &mut [u8]) -> Log {
+fn handle(to: &impl Print, log: Log, line: &[u8], out: &mut [u8]) -> io::Result<Log> {
     let mut next = log;
     next.used = 0;
     next.long = false;
     next.number = std::num::wrapping_add_u64(log.number, 1);
     if !is_asked(line) {
-        return next;
+        return Ok(next);
     }
     let ran = answered(log, line, out);
     let end = print::byte(out, ran.end, b'\n');
-    io::write_all(STDOUT_FILENO, text::part(out, 0, end));
+    to.write_all(text::part(out, 0, end))?;
     let association = ran.association;
     next.association = association;
-    next
+    Ok(next)
 }
 
 fn has_room(used: usize, room: usize, more: usize) -> bool {
@@ -200,115 +212,178 @@ fn added(log: Log, line: &mut [u8], piece: &[u8]) -> Log {
 }
 
 // Adds the last piece of a line, and answers the line.
-fn finished(log: Log, piece: &[u8], line: &mut [u8], out: &mut [u8]) -> Log {
+fn finished(
+    to: &impl Print,
+    log: Log,
+    piece: &[u8],
+    line: &mut [u8],
+    out: &mut [u8],
+) -> io::Result<Log> {
     let whole = added(log, line, piece);
-    handle(whole, text::part(line, 0, whole.used), out)
+    handle(to, whole, text::part(line, 0, whole.used), out)
 }
 
 // Answers the lines that end in a chunk, and keeps what is left of it for the next one.
-fn taken(log: Log, chunk: &[u8], line: &mut [u8], out: &mut [u8]) -> Log {
+fn taken(
+    to: &impl Print,
+    log: Log,
+    chunk: &[u8],
+    line: &mut [u8],
+    out: &mut [u8],
+) -> io::Result<Log> {
     let mut next = log;
     let mut at = 0;
     while at < chunk.len() {
         let end = text::find(chunk, at, b'\n', b'\n');
         let piece = text::part(chunk, at, end);
         if chunk.len() <= end {
-            return added(next, line, piece);
+            return Ok(added(next, line, piece));
         }
         at = end + 1;
-        next = finished(next, piece, line, out);
+        next = finished(to, next, piece, line, out)?;
     }
-    next
+    Ok(next)
 }
 
 // The log has ended; its last line may lack the newline.
-fn over(log: Log, line: &[u8], out: &mut [u8]) -> Log {
+fn over(to: &impl Print, log: Log, line: &[u8], out: &mut [u8]) -> io::Result<Log> {
     let used = log.used;
     let mut next = log;
     next.more = false;
     if used == 0 {
-        return next;
+        return Ok(next);
     }
-    handle(next, text::part(line, 0, used), out)
+    handle(to, next, text::part(line, 0, used), out)
 }
 
 // Reads once, and answers the lines that are whole.
-fn turn(fd: i32, log: Log, line: &mut [u8], out: &mut [u8]) -> Log {
-    let mut chunk = io::large_buffer();
-    let got = libc::read(fd, &mut chunk);
-    if got <= 0 {
+fn turn(
+    from: &mut impl Read,
+    to: &impl Print,
+    log: Log,
+    line: &mut [u8],
+    out: &mut [u8],
+) -> io::Result<Log> {
+    let mut chunk = [0u8; CHUNK];
+    let Ok(n) = from.read(&mut chunk) else {
         let mut next = log;
-        next.failed = got < 0;
-        return over(next, line, out);
+        next.failed = true;
+        return over(to, next, line, out);
+    };
+    if n == 0 {
+        return over(to, log, line, out);
     }
-    let n = io::count(got, &chunk);
-    taken(log, &chunk[..n], line, out)
+    taken(to, log, &chunk[..n], line, out)
 }
 
-// Reads a log to its end and answers it, from the blank record on. Returns whether it could be read. A proved loop has to end, so its turns are counted down
-// from a number that no run reaches.
-fn replay(fd: i32, line: &mut [u8], out: &mut [u8]) -> bool {
+// Reads a log to its end and answers it, from the blank record on. Returns whether it could be read. A proved loop has to end, so its turns are counted up
+// to a number that no run reaches.
+fn replay(
+    from: &mut impl Read,
+    to: &impl Print,
+    line: &mut [u8],
+    out: &mut [u8],
+) -> io::Result<bool> {
     let mut log = start();
-    let mut turns = u64::MAX;
-    while 0 < turns {
+    for _ in 0..u64::MAX {
         if !log.more {
-            return !log.failed;
+            return Ok(!log.failed);
         }
-        log = turn(fd, log, line, out);
-        turns -= 1;
+        log = turn(from, to, log, line, out)?;
     }
-    true
+    Ok(true)
 }
 
 // Prints a message about a log file.
-fn say(before: &[u8], name: &[u8], after: &[u8], out: &mut [u8]) {
+fn say(
+    to: &impl Print,
+    before: &[u8],
+    name: &[u8],
+    after: &[u8],
+    out: &mut [u8],
+) -> io::Result<()> {
     let at = print::text(out, 0, before);
     let at = print::text(out, at, name);
     let at = print::text(out, at, after);
     let end = print::byte(out, at, b'\n');
-    io::write_all(STDOUT_FILENO, text::part(out, 0, end));
+    to.write_all(text::part(out, 0, end))
 }
 
-fn replay_open(fd: i32, name: &[u8], line: &mut [u8], out: &mut [u8]) {
-    if replay(fd, line, out) {
-        return;
+fn replay_open(
+    from: &mut impl Read,
+    to: &impl Print,
+    name: &[u8],
+    line: &mut [u8],
+    out: &mut [u8],
+) -> io::Result<()> {
+    if replay(from, to, line, out)? {
+        return Ok(());
     }
-    say(b"error 0 ", name, b" cannot be read", out);
+    say(to, b"error 0 ", name, b" cannot be read", out)
 }
 
-fn replay_file(name: &[u8], line: &mut [u8], out: &mut [u8]) {
-    say(b"# ", name, b"", out);
-    let fd = os::open_read(name);
-    if fd < 0 {
-        say(b"error 0 ", name, b" cannot be opened", out);
-        return;
+// Opens a log. A name that is not UTF-8 cannot be opened.
+fn opened<R: Files>(rt: &R, name: &[u8]) -> Option<R::File> {
+    let Ok(path) = str::from_utf8(name) else {
+        return None;
+    };
+    File::open(rt, path).ok()
+}
+
+fn replay_file(
+    rt: &(impl Files + Print),
+    name: &[u8],
+    line: &mut [u8],
+    out: &mut [u8],
+) -> io::Result<()> {
+    say(rt, b"# ", name, b"", out)?;
+    match opened(rt, name) {
+        Some(mut log) => replay_open(&mut log, rt, name, line, out),
+        None => say(rt, b"error 0 ", name, b" cannot be opened", out),
     }
-    replay_open(fd, name, line, out);
-    libc::close(fd);
 }
 
-fn replay_argument(i: usize, line: &mut [u8], out: &mut [u8]) {
-    let mut name = io::buffer();
-    let n = os::arg(i, &mut name);
-    replay_file(text::part(&name, 0, n), line, out);
+fn replay_argument(
+    rt: &(impl Env + Files + Print),
+    i: usize,
+    line: &mut [u8],
+    out: &mut [u8],
+) -> io::Result<()> {
+    let mut name = [0u8; MAX_NAME];
+    let n = rt.arg(i, &mut name).unwrap_or(0);
+    replay_file(rt, text::part(&name, 0, n), line, out)
 }
 
-fn replay_arguments(count: usize, line: &mut [u8], out: &mut [u8]) {
-    let mut i = FIRST_LOG;
-    while i < count {
-        replay_argument(i, line, out);
-        i += 1;
+// How many arguments there are, the program's own name among them.
+fn argument_count(rt: &impl Env) -> usize {
+    for i in 0..usize::MAX {
+        if let Err(FillError::NotPresent) = rt.arg(i, &mut []) {
+            return i;
+        }
     }
+    usize::MAX
+}
+
+fn replay_arguments(
+    rt: &(impl Env + Files + Print),
+    count: usize,
+    line: &mut [u8],
+    out: &mut [u8],
+) -> io::Result<()> {
+    for i in FIRST_LOG..count {
+        replay_argument(rt, i, line, out)?;
+    }
+    Ok(())
 }
 
 // Without arguments the log is the standard input; otherwise each argument names a log.
-fn main() {
+fn main(rt: HostRuntime) -> io::Result<()> {
     let mut line = [0u8; MAX_LINE];
     let mut out = [0u8; MAX_ANSWER];
-    let count = os::arg_count();
+    let count = argument_count(&rt);
     if count <= FIRST_LOG {
-        replay(STDIN_FILENO, &mut line, &mut out);
-        return;
+        replay(&mut rt.stdin(), &rt, &mut line, &mut out)?;
+        return Ok(());
     }
-    replay_arguments(count, &mut line, &mut out);
+    replay_arguments(&rt, count, &mut line, &mut out)
 }

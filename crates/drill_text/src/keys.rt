@@ -15,7 +15,7 @@ const TO_KIND: usize = 1;
 
 const TO_DEFAULT: usize = 3;
 
-#[derive(Drop)]
+#[derive(Clone, Copy)]
 pub enum Fault {
     Fine,
     NoPair,
@@ -26,7 +26,7 @@ pub enum Fault {
 }
 
 // Where a key's value is in the line, if the line has it, and the value as a number.
-#[derive(Drop)]
+#[derive(Clone, Copy)]
 pub struct Value {
     pub given: bool,
     pub start: usize,
@@ -35,7 +35,7 @@ pub struct Value {
 }
 
 // The values of a command's keys, by the keys' places in its table, or what is wrong with the line.
-#[derive(Drop)]
+#[derive(Clone, Copy)]
 pub struct Values {
     pub all: [Value; MAX_KEYS],
     pub fault: Fault,
@@ -101,7 +101,7 @@ fn pairs(line: &[u8], table: &[u8]) -> Values {
     ended(all, Fault::Fine)
 }
 
-#[derive(Drop)]
+#[derive(Clone, Copy)]
 enum Filled {
     Is(u64),
     Missing,

@@ -1,6 +1,8 @@
 // The answer's line is built in a lent buffer: each function writes at a place and returns the place after it. What does not fit is left out.
+ghost use Rattle.std.specs.Prelude.{◌<◌, ◌≤◌, length};
+
 use crate::value;
-use crate::value::{ID_DIGITS, REFID_DIGITS};
+use crate::value::{DECIMAL, ID_DIGITS, REFID_DIGITS};
 
 const HEX: u8 = value::HEX as u8;
 
@@ -26,9 +28,68 @@ pub fn text(out: &mut [u8], from: usize, s: &[u8]) -> usize {
     at
 }
 
+// How many digits a number has in a base, if `most` hold it.
+fn digit_count(n: u64, base: u64, most: usize) -> usize
+    requires { 0 < base }
+    ensures { result ≤ most }
+{
+    let mut rest = n;
+    for k in 0..most {
+        rest = rest / base;
+        if rest == 0 {
+            return k + 1;
+        }
+    }
+    most
+}
+
+// Fills a buffer with a number's last digits in a base; in front are zeros if the number has fewer.
+fn write_digits(n: u64, base: u64, out: &mut [u8])
+    requires base { 0 < base }
+    requires glyphs { base ≤ 16 }
+{
+    let mut rest = n;
+    let mut i = out.len();
+    while 0 < i {
+        i -= 1;
+        out[i] = glyph((rest % base) as u8);
+        rest = rest / base;
+    }
+}
+
+// Puts a number's decimal digits at the start of a buffer, without zeros in front, and returns how many there are.
+fn decimal_digits(n: u64, out: &mut [u8; MAX_DECIMAL]) -> usize
+    ensures { result ≤ 20 }
+{
+    let k = digit_count(n, DECIMAL, MAX_DECIMAL);
+    write_digits(n, DECIMAL, &mut out[..k]);
+    k
+}
+
+// The same for hexadecimal digits, in lower case, with zeros in front up to `width` digits. A width above 16 counts as 16.
+fn hex_digits(n: u64, width: usize, out: &mut [u8; ID_DIGITS]) -> usize
+    ensures { result ≤ 16 }
+{
+    let k = padded(digit_count(n, value::HEX, ID_DIGITS), width);
+    write_digits(n, value::HEX, &mut out[..k]);
+    k
+}
+
+// A count of digits, or the width that they are padded to, if that is greater.
+fn padded(count: usize, width: usize) -> usize
+    requires { count ≤ 16 }
+    ensures { result ≤ 16 }
+{
+    if count < width {
+        value::at_most(width as u64, ID_DIGITS)
+    } else {
+        count
+    }
+}
+
 pub fn decimal(out: &mut [u8], at: usize, n: u64) -> usize {
     let mut digits = [0u8; MAX_DECIMAL];
-    let k = io::decimal(n, &mut digits);
+    let k = decimal_digits(n, &mut digits);
     text(out, at, &digits[..k])
 }
 
@@ -45,7 +106,7 @@ fn signed(out: &mut [u8], at: usize, n: i64) -> usize {
 // A number in `width` hexadecimal digits.
 pub fn hexadecimal(out: &mut [u8], at: usize, n: u64, width: usize) -> usize {
     let mut digits = [0u8; ID_DIGITS];
-    let k = io::hex(n, width, &mut digits);
+    let k = hex_digits(n, width, &mut digits);
     text(out, at, &digits[..k])
 }
 

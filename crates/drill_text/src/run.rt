@@ -4,7 +4,7 @@ use association::Association;
 use version::{ProtocolVersion, Version};
 
 // The result of a line: the association, and where its answer ends in the buffer.
-#[derive(Drop)]
+#[derive(Clone, Copy)]
 pub struct Ran {
     pub association: Association,
     pub end: usize,

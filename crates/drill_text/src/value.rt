@@ -73,7 +73,7 @@ pub const HEX: u64 = 16;
 
 const HEX_BITS: u64 = 4;
 
-const DECIMAL: u64 = 10;
+pub(crate) const DECIMAL: u64 = 10;
 
 // The greatest number that one more decimal digit may follow.
 const MAX_TENTH: u64 = u64::MAX / DECIMAL;
@@ -88,7 +88,7 @@ const HALF_I8: u64 = 1 << 7;
 // Signed numbers of 64 bits go down to minus this.
 const HALF_I64: u64 = 1 << 63;
 
-#[derive(Drop)]
+#[derive(Clone, Copy)]
 pub enum Number {
     Is(u64),
     Bad,

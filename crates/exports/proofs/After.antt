@@ -48,7 +48,6 @@ use Rattle.handover_file.specs.declared.SaveAnswer.{SaveAnswer}
 use Rattle.handover_file.specs.declared.SaveAnswer.TheVariants.{Saved, NotWhole, ShortBuffer}
 use Rattle.handover_file.specs.declared.LoadAnswer.{LoadAnswer}
 use Rattle.handover_file.specs.declared.LoadAnswer.TheVariants as L
-use Rattle.handover_file.specs.declared.LoadOut.{LoadOut}
 use Rattle.handover_file.specs.File.{file_of, emptied, unsent}
 use Rattle.handover_file.specs.Answers.{save_number, saved, save_of, over, buffer_of, handed, handed_of, load_of}
 use Rattle.handover_file.proofs.File.{Fit, read_file}
@@ -58,9 +57,7 @@ use Rattle.record_stash.specs.Rows.{sized_in}
 use Rattle.record_calls.specs.Timer as timer
 use Rattle.record_calls.specs.Reply as reply
 use Rattle.record_new.specs.New as made
-use Rattle.record_new.specs.declared.NewInBytes.{NewInBytes}
 use Rattle.record_new.specs.declared.NewInBytes.TheVariants as B
-use Rattle.record_new.specs.declared.MeteredInBytes.{MeteredInBytes}
 use Rattle.record_new.specs.declared.MeteredInBytes.TheVariants as M
 use Rattle.record_files.specs.Save as save
 use Rattle.record_files.specs.Load as load

@@ -1,6 +1,8 @@
 // What a C or Rust program links: the association's calls, over a record in bytes that the caller lends, and the tools beside it.
 // Promises: each returns as numbers the answer of the call that it makes, and leaves every lent byte as that call does; any bytes get an answer.
 // Rule: RULES, parts 7 and 10 to 12, and No. 1, No. 5, No. 6, No. 9 to No. 11 and No. 13; definitions in specs/Calls.antt, the tools' in `exports_values`.
+#![tactic(auto)]
+
 ghost use Rattle.std.specs.Prelude.{◌≡◌, length, replicate};
 ghost use Rattle.wire_fields.specs.Field.{packet_step};
 ghost use Rattle.wire_collector.specs.Collector.{collect_of, buffer_of as listed};
@@ -218,7 +220,7 @@ pub extern "C" fn reckonstile_load(bytes: &mut [u8], file: &[u8]) -> CLoadAnswer
 
 // What a display or a log shows: 0 with the settings and the state, or 32 with those of an all-zero record.
 #[repr(C)]
-#[derive(Drop)]
+#[derive(Clone, Copy)]
 pub struct CView {
     pub settings: CSettings,
     pub state: CState,

@@ -1,6 +1,8 @@
 // What is passed to C and back: settings, answers and decoded replies as numbers, and what each means to the rules. Module `tools` has the tools' calls.
 // Promises: every number is read or written as defined, in fields of one width on every target; settings have one form; tools answer what their calls answer.
 // Rule: RULES, "Settings and a whole record", parts 10 to 12, No. 5, 6, 9, 10 and 13; definitions in specs/: Codes.antt has the numbers, Told.antt the tools.
+#![tactic(auto)]
+
 pub mod tools;
 
 ghost use Rattle.std.specs.Prelude.{◌≡◌, ◌&&◌, leb, eqb};
@@ -32,7 +34,7 @@ use wire_request::Requested;
 
 // No padding follows any field: no contract would say what a caller finds there after a call.
 #[repr(C)]
-#[derive(Drop)]
+#[derive(Clone, Copy)]
 pub struct CSettings {
     pub window: u64,
     pub upgrademark: u64,
@@ -54,7 +56,7 @@ pub struct CSettings {
 
 // It has no padding either.
 #[repr(C)]
-#[derive(Drop)]
+#[derive(Clone, Copy)]
 pub struct CState {
     pub reach: Reach,
     pub tries: u8,
@@ -169,7 +171,7 @@ fn wide_bit(b: bool) -> u32
 // ---- settings in, settings and state out
 
 // The unpacked settings, and whether every code in them is known.
-#[derive(Drop)]
+#[derive(Clone, Copy)]
 pub struct UnpackedSettings {
     pub ok: bool,
     pub settings: Settings,
@@ -265,7 +267,7 @@ pub fn pack_state(s: State) -> CState
 
 // A unique identifier. It is a struct because an exported function takes an array only within a struct.
 #[repr(C)]
-#[derive(Drop)]
+#[derive(Clone, Copy)]
 pub struct CUid {
     pub bytes: [u8; 32],
 }
@@ -273,7 +275,7 @@ pub struct CUid {
 // The timer's number, and what is sent: 1 V4, 2 V4 with the upgrade mark, 3 V5, 4 NTS V4, 5 NTS V5; with its poll exponent, how many new cookies it asks for,
 // and how many bytes of the buffer its cookie has. If nothing is sent, all but the number is zero.
 #[repr(C)]
-#[derive(Drop)]
+#[derive(Clone, Copy)]
 pub struct CTimerAnswer {
     pub number: u32,
     pub kind: u8,
@@ -339,7 +341,7 @@ pub fn timer_answer(answer: TimerAnswer) -> CTimerAnswer
 
 // The reply's number, and the measurement. If nothing is measured, all but the number is zero.
 #[repr(C)]
-#[derive(Drop)]
+#[derive(Clone, Copy)]
 pub struct CReplyAnswer {
     pub number: u32,
     // 1 if the reply is measured.
@@ -425,7 +427,7 @@ pub fn reply_answer(answer: ReplyAnswer) -> CReplyAnswer
 
 // What a reply answers, with what fell out of the stash while its cookies were stored.
 #[repr(C)]
-#[derive(Drop)]
+#[derive(Clone, Copy)]
 pub struct CReplied {
     pub answer: CReplyAnswer,
     pub dropped: Dropped,
@@ -433,7 +435,7 @@ pub struct CReplied {
 
 // The decoded form (V5 only), with codes as numbers.
 #[repr(C)]
-#[derive(Drop)]
+#[derive(Clone, Copy)]
 pub struct CDecoded {
     pub rootdelay: NtpDuration,
     pub rootdisp: NtpDuration,
@@ -592,7 +594,7 @@ pub fn decoded_in(d: CDecoded) -> DecodedReply
 
 // What `new` and `metered` answer: the number, and what fell out of the first list.
 #[repr(C)]
-#[derive(Drop)]
+#[derive(Clone, Copy)]
 pub struct CNewAnswer {
     pub number: u32,
     // 1 if the association is made.
@@ -634,7 +636,7 @@ pub fn bloom_in(code: u32) -> Bloom
 
 // What is written to a buffer: the number, whether something is written, and its length.
 #[repr(C)]
-#[derive(Drop)]
+#[derive(Clone, Copy)]
 pub struct CWritten {
     pub number: u32,
     // 1 if something is written.
@@ -712,7 +714,7 @@ pub fn send_in(code: u8) -> SendKind
 
 // What loading a file answers: its number, and 1 if a version in the file was of the retired kind and was loaded as V4.
 #[repr(C)]
-#[derive(Drop)]
+#[derive(Clone, Copy)]
 pub struct CLoadAnswer {
     pub number: u32,
     pub retired: u32,
@@ -732,7 +734,7 @@ pub fn load_answer(number: u8, retired: bool) -> CLoadAnswer
 
 // What is at an offset of a packet: a field, with a body of `length` bytes from `body` on and the next field after it; the walk's end; or something broken.
 #[repr(C)]
-#[derive(Drop)]
+#[derive(Clone, Copy)]
 pub struct CField {
     // 0, or 1 if something broken is there.
     pub number: u32,

@@ -14,7 +14,7 @@ use salvage::{PLACES, Salvaged};
 
 // What salvage answers, as numbers without padding. The first `told` places say where gaps start; the others are 0.
 #[repr(C)]
-#[derive(Drop)]
+#[derive(Clone, Copy)]
 pub struct CSalvaged {
     pub number: u32,
     pub told: u32,
@@ -27,7 +27,7 @@ pub struct CSalvaged {
 
 // What the check and the planner answer. If `named` is 1, `place` is the entry or the minute that the answer names; otherwise both are 0.
 #[repr(C)]
-#[derive(Drop)]
+#[derive(Clone, Copy)]
 pub struct CCalendarAnswer {
     pub number: u32,
     pub named: u32,
@@ -146,7 +146,7 @@ pub fn plan(cap: u8, repeats: &[u16], starts: &mut [u16]) -> CCalendarAnswer
 
 // What comparing answers, as numbers without padding.
 #[repr(C)]
-#[derive(Drop)]
+#[derive(Clone, Copy)]
 pub struct CCompared {
     pub number: u32,
     // Which file is rejected: 1 the left one, 2 the right one; otherwise 0.

@@ -1,6 +1,6 @@
 -- The cookie of an age, in the body of a stash's record.
 -- Assumes nothing.
-use Prim.Native.Nat.{ℕ, zero, suc, ◌+◌, ◌-◌, ◌≤◌, ◌<◌}
+use Prim.Native.Nat.{ℕ, zero, suc, ◌+◌, ◌-◌, ◌≤◌}
 use mathlib.Core.Path.{◌≡◌, refl, sym, ap, subst, ◌∙◌}
 use mathlib.Core.Bool.{Bool, true, cond, ◌&&◌}
 use mathlib.Core.Logic.{◌⊎◌, inl, inr}
@@ -10,20 +10,18 @@ use lib.Dec.{eqb}
 use lib.ListN.{length, get_or, drop}
 use Rattle.words.specs.Bytes.{part}
 use Rattle.words.proofs.Bytes.{Bytes, length_part}
-use Rattle.cookiestash.specs.declared.CookieStash.{CookieStash}
-use Rattle.cookiestash.specs.Stash.{stored, in_range}
+use Rattle.cookiestash.specs.Stash.{stored}
 use Rattle.cookiestash.specs.Queue.{Cookie, cookies, queue}
 use Rattle.cookiestash.proofs.Stored.{stored_bounds}
 use Rattle.cookiestash.proofs.Kept.{in_range_lem}
-use Rattle.handover_file.specs.Cookies.{run_of, is_run, cookies_of, stash_fits, held_in, stash_known, empty_at, stash_of}
+use Rattle.handover_file.specs.Cookies.{run_of, is_run, stash_fits, held_in, stash_known, empty_at, stash_of}
 use Rattle.handover_file.proofs.Cookies.{read_laid}
 use Rattle.handover_file.specs.declared.cut.Held.{Held}
 use Rattle.handover_file.specs.declared.cut.Held.TheVariants.{One, End, Broken}
 use Rattle.handover_file.specs.Steps.{held_at}
 use Rattle.handover_file.proofs.Turn.{one_within}
 use Rattle.handover_load.proofs.Reading.{rest_of, has_place, runs_first, runs_on, rest_one, rest_none, rest_whole}
-use Rattle.handover_compare.specs.Readings.{Reading, no_cookie, held_of, aged_of}
-use Rattle.handover_compare.specs.declared.fields.Field.{Field}
+use Rattle.handover_compare.specs.Readings.{no_cookie, held_of, aged_of}
 use Rattle.handover_compare.specs.declared.fields.Kept.{Kept}
 use Rattle.handover_compare.specs.Fields.{place_of, same_reading, field_of}
 use Rattle.handover_compare.specs.Steps.{kept_reading, unkept, kept, first_held, next_held, aged_at, aged_in, KeptIn, cookie_in}

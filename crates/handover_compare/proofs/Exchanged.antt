@@ -1,6 +1,6 @@
 -- Two files compared the other way round (RULES, No. 10): the same number, and in the buffer the same entries with their readings exchanged.
 -- Assumes nothing.
-use mathlib.Core.Path.{◌≡◌, refl, sym, ap, subst, ◌∙◌}
+use mathlib.Core.Path.{◌≡◌, sym, ap, ◌∙◌}
 use mathlib.Core.List.{List, map}
 use Prim.Native.Nat.{ℕ, ◌*◌, ◌≤◌, ◌<◌}
 use native.Mathlib.Omega.{arith}
@@ -11,7 +11,7 @@ use Rattle.handover_compare.specs.Fields.{list_of, list_bytes, swapped}
 use Rattle.handover_compare.proofs.Listed.{exchanged, list_long}
 use Rattle.handover_compare.specs.Answer.{compare_number}
 use Rattle.handover_compare.specs.Answers.{compare_of, out_of}
-use Rattle.handover_compare.specs.Numbers.{list, short_buffer_lem, listed}
+use Rattle.handover_compare.specs.Numbers.{short_buffer_lem, listed}
 use Rattle.handover_compare.proofs.Numbers.{compare_only}
 
 module _ (f g out : List ℕ) (left : load_number (load_of f).answer ≡ 0) (right : load_number (load_of g).answer ≡ 0) where

@@ -1,15 +1,14 @@
 -- The list of fields that differ: which fields are in it, each once and in order; exchanged; and what it follows from.
 -- Assumes nothing.
-use Prim.Native.Nat.{ℕ, zero, suc, ◌+◌, ◌*◌, ◌≤◌, ◌<◌}
+use Prim.Native.Nat.{ℕ, suc, ◌*◌, ◌≤◌, ◌<◌}
 use mathlib.Core.Path.{◌≡◌, refl, sym, ap, subst, ◌∙◌}
 use mathlib.Core.Bool.{Bool, true, false, ◌&&◌, cond}
-use mathlib.Core.List.{List, [], ◌∷◌, ◌++◌, map}
+use mathlib.Core.List.{List, [], ◌∷◌, map}
 use mathlib.Core.Logic.{◌↔◌, ◌⊎◌, inl, inr}
 use native.Mathlib.Omega.{arith}
-use borrow.Author.Tests.{eq-eqb, ne_eqb, eqb-true, eqb-false}
+use borrow.Author.Tests.{eq-eqb, eqb-true, eqb-false}
 use lib.Dec.{lit<, eqb}
-use lib.ListN.{length, length-append, length-map}
-use Rattle.words.proofs.Bytes.{length_to_be}
+use lib.ListN.{length, length-append}
 use Rattle.words.proofs.Tests.{both}
 use Rattle.association.specs.declared.Association.{Association}
 use Rattle.handover_compare.specs.declared.fields.Field.{Field}
@@ -28,7 +27,7 @@ use Rattle.handover_compare.specs.Fields.{
   list_bytes,
   swapped,
 }
-use Rattle.handover_compare.specs.Shown.{Among, Past, Rising, Outline, outline, field_by, fields_by, outlines_of, places_of, list_by}
+use Rattle.handover_compare.specs.Shown.{Among, Past, Rising, outline, field_by, fields_by, outlines_of, places_of, list_by}
 use Rattle.handover_compare.proofs.Places.{eqb_sym, place_sym, same_sym, same_refl, same_eq, same_place}
 
 clash : {A : Type 0} → ◌≡◌ {A = Bool} true false → A

@@ -1,7 +1,7 @@
 -- Each number of the comparison is given exactly under its rule (specs/Numbers.antt), with that rule's answer and buffer; and the buffer with which 71 is
 -- never given.
 -- Assumes nothing.
-use Prim.Native.Nat.{ℕ, ◌*◌, ◌≤◌, ◌<◌}
+use Prim.Native.Nat.{ℕ, ◌≤◌}
 use mathlib.Core.Path.{◌≡◌, refl, sym, ap, subst, ◌∙◌}
 use mathlib.Core.Bool.{Bool, true, false, cond}
 use mathlib.Core.List.{List}
@@ -13,7 +13,7 @@ use lib.ListN.{length}
 use Rattle.handover_file.specs.declared.LoadAnswer.{LoadAnswer}
 use Rattle.handover_file.specs.declared.LoadAnswer.TheVariants.{Loaded, WrongMark, WrongLength, NoAssociation}
 use Rattle.handover_file.specs.Answers.{over, load_number, load_of}
-use Rattle.handover_compare.specs.Fields.{list_of, list_bytes}
+use Rattle.handover_compare.specs.Fields.{list_bytes}
 use Rattle.handover_compare.proofs.Listed.{at_most, list_long}
 use Rattle.handover_compare.specs.declared.Side.TheVariants.{Left, Right}
 use Rattle.handover_compare.specs.declared.CompareAnswer.{CompareAnswer}

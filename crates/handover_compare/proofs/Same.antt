@@ -4,7 +4,7 @@
 use Prim.Native.Nat.{ℕ, zero, suc, ◌+◌, ◌*◌, ◌^◌, ◌≤◌, ◌<◌}
 use mathlib.Core.Path.{◌≡◌, refl, sym, ap, subst, ◌∙◌}
 use mathlib.Core.Bool.{Bool, false, false≢true}
-use mathlib.Core.List.{List, [], ◌∷◌, map}
+use mathlib.Core.List.{List, [], ◌∷◌}
 use mathlib.Core.Logic.{◌↔◌}
 use native.Mathlib.Omega.{arith}
 use lib.IntN.{ℤ, pos, negsuc}
@@ -24,30 +24,14 @@ use Rattle.cookiestash.proofs.Kept.{in_range_lem}
 use Rattle.cookiestash.proofs.Cookies.{length_cookies}
 use Rattle.cookiestash.proofs.Same.{stash_same}
 use Rattle.cookiestash.specs.declared.CookieStash.{CookieStash}
-use Rattle.cookiestash.specs.Stash.{in_range}
 use Rattle.cookiestash.specs.Whole as stash
-use Rattle.association.specs.declared.Settings.{Settings}
-use Rattle.association.specs.declared.State.{State}
 use Rattle.association.specs.declared.Association.{Association}
 use Rattle.association.specs.Whole.{Whole}
 use Rattle.association.proofs.Whole.{none_retired}
 use Rattle.handover_groups.specs.Codes.{yes_code, yes_of, kind_code, tries_code, kind_of}
 use Rattle.handover_groups.proofs.OfCodes.{yes_kept, kind_kept}
 use Rattle.handover_file.proofs.Cookies.{AllKeep, cookies_keep}
-use Rattle.handover_compare.specs.Readings.{
-  Reading,
-  plain,
-  bits64,
-  version_number,
-  settings_numbers,
-  state_numbers,
-  cookie_reading,
-  no_cookie,
-  held_of,
-  aged_of,
-  ages,
-  readings_of,
-}
+use Rattle.handover_compare.specs.Readings.{Reading, plain, bits64, version_number, settings_numbers, state_numbers, held_of, aged_of, readings_of}
 use Rattle.handover_compare.specs.Fields.{list_of}
 use Rattle.handover_compare.proofs.Listed.{readings_equal, itself}
 

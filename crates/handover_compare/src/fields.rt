@@ -22,7 +22,7 @@ const SIGN_BITS: u64 = 0xFFFF_FFFF_FFFF_FF00;
 const FIRST_COOKIE: u8 = 32;
 
 // A field of two associations: its code, both readings, for a cookie the place of the first stored byte that differs, and whether the two agree.
-#[derive(Drop)]
+#[derive(Clone, Copy)]
 pub struct Field {
     pub code: u8,
     pub left: u64,
@@ -32,7 +32,7 @@ pub struct Field {
 }
 
 // All fields of two associations, in the order of the file.
-#[derive(Drop)]
+#[derive(Clone, Copy)]
 pub struct Groups {
     pub settings: [Field; 8],
     pub capacity: Field,
@@ -42,7 +42,7 @@ pub struct Groups {
 }
 
 // Where a cookie is in the body of its stash's record: its length as a reading, and its stored bytes, from start to before end.
-#[derive(Drop)]
+#[derive(Clone, Copy)]
 struct Kept {
     number: u64,
     start: usize,

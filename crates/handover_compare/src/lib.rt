@@ -1,6 +1,8 @@
 // Compares two hand-over files, each read in place: every field in which the two boxes differ, as a list of bytes. Module `fields` compares what was read.
 // Promises: the list is empty exactly when the two loaded records are equal; the left file is rejected before the right one; a rejected call writes nothing.
 // Rule: RULES, No. 10 and No. 12; fields in specs/Readings.antt and specs/Fields.antt, answers in specs/Answers.antt, number by number in specs/Numbers.antt.
+#![tactic(auto)]
+
 pub mod fields;
 
 ghost use Rattle.std.specs.Prelude.{◌≡◌, true, ◌+◌, ◌≤◌, length, ◌∷◌, []};
@@ -23,14 +25,14 @@ pub const ENTRY: usize = 19;
 pub const MAX_LIST: usize = 494;
 
 // Which of the two files.
-#[derive(Drop)]
+#[derive(Clone, Copy)]
 pub enum Side {
     Left,
     Right,
 }
 
 // What comparing answers: how many entries the list has; which file was rejected, and why; or that the buffer is shorter than the list.
-#[derive(Drop)]
+#[derive(Clone, Copy)]
 pub enum CompareAnswer {
     Listed(usize),
     WrongMark(Side),

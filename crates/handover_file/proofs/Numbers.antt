@@ -19,7 +19,6 @@ use Rattle.handover_file.specs.declared.LoadOut.{LoadOut}
 use Rattle.handover_file.specs.Sections.{Shape, Cut, missized, cut_as}
 use Rattle.handover_file.specs.File.{shapes, file_of, known, record_in, settled}
 use Rattle.handover_file.specs.Answers.{save_number, save_of, load_number, on_cut, load_of}
-use Rattle.handover_file.specs.Numbers as N
 use Rattle.handover_file.specs.Numbers.{
   SaveGiven,
   not_whole,

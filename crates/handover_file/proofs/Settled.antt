@@ -9,8 +9,6 @@ use Rattle.words.proofs.Tests.{passes}
 use Rattle.version.specs.declared.Version.{Version}
 use Rattle.version.specs.Upgrade.{upgrading, settled_of}
 use Rattle.version.proofs.Retired as version
-use Rattle.association.specs.declared.Settings.{Settings}
-use Rattle.association.specs.declared.State.{State}
 use Rattle.association.specs.declared.Association.{Association}
 use Rattle.association.specs.Settings.{settings_valid}
 use Rattle.association.specs.Record.{blank_of, versions_valid, whole_seen, whole_of}

@@ -28,7 +28,7 @@ const OLD_LENGTH: usize = 26;
 const RECORDS: usize = 6;
 
 // What is at an offset of a file: a record's body, from start to before end; another mark; or too few bytes.
-#[derive(Drop)]
+#[derive(Clone, Copy)]
 enum Place {
     Body { start: usize, end: usize },
     Other,
@@ -36,7 +36,7 @@ enum Place {
 }
 
 // What is at an offset of the stash's body: a cookie's length, and its stored bytes from start to before end; the end of the body; or something broken.
-#[derive(Drop)]
+#[derive(Clone, Copy)]
 pub enum Held {
     One { len: u16, start: usize, end: usize },
     End,
@@ -44,7 +44,7 @@ pub enum Held {
 }
 
 // How the reading of the records ended: all there, 61 or 62.
-#[derive(Drop)]
+#[derive(Clone, Copy)]
 pub enum Stop {
     Good,
     Misplaced,

@@ -1,6 +1,8 @@
 // The hand-over file: what it is, byte by byte, and what its writer and its readers answer. Module `cut` finds its records and its cookies.
 // Promises: what is written is read back; two whole records have the same file exactly if all that is written agrees; the first wrong mark or length is found.
 // Rule: RULES, No. 6, No. 12 and No. 14; definitions in specs/Sections.antt, Cookies.antt, File.antt, Answers.antt and Steps.antt, by number in Numbers.antt.
+#![tactic(auto)]
+
 pub mod cut;
 
 ghost use Rattle.std.specs.Prelude.{◌≡◌};
@@ -9,7 +11,7 @@ ghost use Rattle.handover_file.specs.Answers.{save_number, load_number, says_ret
 use association::Association;
 
 // What save answers: the length of the file that was written, or why nothing was written.
-#[derive(Drop)]
+#[derive(Clone, Copy)]
 pub enum SaveAnswer {
     Saved(usize),
     NotWhole,
@@ -31,14 +33,14 @@ impl SaveAnswer {
 }
 
 // What save returns: its answer, and the association, whose cookies now belong to the file.
-#[derive(Drop)]
+#[derive(Clone, Copy)]
 pub struct SaveOut {
     pub answer: SaveAnswer,
     pub association: Association,
 }
 
 // What load answers: the first wrong mark or wrong length in the file, and only then that its bytes are no association.
-#[derive(Drop)]
+#[derive(Clone, Copy)]
 pub enum LoadAnswer {
     // Whether a version of the file was of the retired kind, and was loaded as V4.
     Loaded { retired: bool },
@@ -75,7 +77,7 @@ impl LoadAnswer {
 }
 
 // What load returns: its answer, and the association, which is blank if the file was rejected.
-#[derive(Drop)]
+#[derive(Clone, Copy)]
 pub struct LoadOut {
     pub answer: LoadAnswer,
     pub association: Association,

@@ -20,7 +20,7 @@ use Rattle.association.specs.declared.Settings.{Settings}
 use Rattle.identifiers.specs.Names.{named}
 use Rattle.time_types.specs.Poll.{interval}
 use Rattle.version.specs.Upgrade.{version}
-use Rattle.handover_groups.specs.Codes.{yes_of, yes_known, kind_of, kind_known}
+use Rattle.handover_groups.specs.Codes.{yes_of, kind_of}
 use Rattle.handover_groups.specs.Settings.{settings_bytes, settings_of, settings_known}
 use Rattle.handover_groups.proofs.OfCodes.{word, word_again, yes_kept, yes_again, kind_kept, kind_again}
 

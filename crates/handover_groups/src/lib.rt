@@ -1,6 +1,8 @@
 // The small records of the hand-over file, each to bytes and back: settings, effort, version, polls, source.
 // Promises: what is written is read back; bytes with known codes are written as they were read; readers are defined for any bytes.
 // Rule: RULES, No. 6 and No. 12; definitions in specs/Codes.antt, specs/Settings.antt and specs/State.antt.
+#![tactic(auto)]
+
 ghost use Rattle.std.specs.Prelude.{◌≡◌, get_or};
 ghost use Rattle.handover_groups.specs.Codes.{yes_code, yes_known, kind_code, tries_code, kind_of, kind_known};
 ghost use Rattle.handover_groups.specs.Settings.{settings_bytes, settings_of, settings_known};

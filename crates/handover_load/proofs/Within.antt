@@ -8,11 +8,9 @@ use native.Mathlib.Omega.{arith}
 use lib.ListN.{length}
 use Rattle.words.specs.Bytes.{part}
 use Rattle.words.proofs.Tests.{both, when, unless}
-use Rattle.association.specs.declared.Association.{Association}
 use Rattle.association.specs.Record.{whole_of}
 use Rattle.handover_groups.specs.Settings.{settings_of, settings_known}
 use Rattle.handover_groups.specs.State.{version_known, source_known}
-use Rattle.handover_file.specs.declared.LoadAnswer.{LoadAnswer}
 use Rattle.handover_file.specs.declared.LoadAnswer.TheVariants.{Loaded, WrongMark, WrongLength, NoAssociation}
 use Rattle.handover_file.specs.declared.LoadOut.{LoadOut}
 use Rattle.handover_file.specs.Sections.{Cut, bodies, misplaced, missized, body_length, cut_as}

@@ -1,6 +1,8 @@
 // The readers of the hand-over file: by value, for a box that is swapped in and starts with the association of the one before it; and in place, module `read`.
 // Promises: for any bytes both give the answer of the file's definition; the first fault decides between 61 and 62; a rejected file leaves the blank record.
 // Rule: RULES, No. 6, No. 12 and No. 14; `handover_file` defines the file, specs/Read.antt the stash that is read, specs/Reading.antt reading in place.
+#![tactic(auto)]
+
 pub mod read;
 
 ghost use Rattle.std.specs.Prelude.{◌≡◌, true, [], ◌∷◌, ◌≤◌, ◌<◌, length, get_or};
@@ -20,7 +22,7 @@ use handover_file::{LoadAnswer, LoadOut};
 const BEHIND: usize = 28;
 
 // A stash that was read, and whether the bytes are one; if not, it is empty.
-#[derive(Drop)]
+#[derive(Clone, Copy)]
 struct Stashed {
     known: bool,
     stash: CookieStash,

@@ -18,7 +18,7 @@ const BEHIND: usize = 28;
 
 // What a file is read as: the answer of loading it and, if it loads, the settings, the state, and the stash's body, from start to before end. If it is
 // rejected, only the answer counts.
-#[derive(Drop)]
+#[derive(Clone, Copy)]
 pub struct FileRead {
     pub answer: LoadAnswer,
     pub settings: Settings,
@@ -28,7 +28,7 @@ pub struct FileRead {
 }
 
 // What six bodies are: whether they are an association, and the settings and the state that it is loaded with.
-#[derive(Drop)]
+#[derive(Clone, Copy)]
 struct Decided {
     loads: bool,
     retired: bool,

@@ -1,8 +1,6 @@
 -- Each public function's contract determines its result, the next record, and each byte of the lent buffer: any two that it allows are equal.
 -- Assumes nothing.
 use mathlib.Core.Path.{sym, ap, ◌∙◌}
-use mathlib.Core.List.{List}
-use Prim.Native.Nat.{ℕ}
 use Rattle.words.specs.Determined.{DeterminedLent}
 use Rattle.words.specs.Put.{Laid}
 use Rattle.handover_file.specs.Answers.{Handed}

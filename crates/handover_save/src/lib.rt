@@ -1,6 +1,8 @@
 // The writer of the hand-over file: at power-down it writes the association, with its cookies, to a file.
 // Promises: the file byte by byte, and nothing past it; a rejected call writes nothing; the returned association has no cookie and is otherwise unchanged.
 // Rule: RULES, No. 6 and No. 12; the file is defined in `handover_file`, how bytes are written to the buffer in `words`.
+#![tactic(auto)]
+
 ghost use Rattle.std.specs.Prelude.{◌≡◌, ◌+◌, ◌≤◌, length};
 ghost use Rattle.words.specs.Put.{Put, laid, lay_of, record_of};
 ghost use Rattle.cookiestash.specs.Whole.{WholeSlot, Whole};

@@ -3,10 +3,10 @@
 use mathlib.Core.Path.{◌≡◌, refl, sym, ap, subst, ◌∙◌}
 use mathlib.Core.Bool.{true}
 use mathlib.Core.List.{List, [], ◌∷◌, ◌++◌, append_assoc}
-use Prim.Native.Nat.{ℕ, suc, ◌+◌, ◌≤◌}
+use Prim.Native.Nat.{ℕ, ◌+◌, ◌≤◌}
 use native.Mathlib.Omega.{arith}
 use lib.IntN.{pos}
-use lib.ListN.{length, length-replicate}
+use lib.ListN.{length}
 use lib.Dec.{ltb}
 use lib.Signed.{◌≤ℤ◌, ≤ℤ_refl}
 use Rattle.words.proofs.Bytes.{Bytes}
@@ -15,7 +15,6 @@ use Rattle.time_types.proofs.Rate.{≤ℤ_trans}
 use Rattle.cookiestash.specs.Queue.{queue, cookies}
 use Rattle.association.specs.declared.Settings.{Settings}
 use Rattle.association.specs.declared.State.{State}
-use Rattle.association.specs.declared.Effort.{Effort}
 use Rattle.association.specs.declared.Association.{Association}
 use Rattle.association.specs.Settings.{settings_valid}
 use Rattle.association.specs.Record.{whole_seen, whole_of}
@@ -46,7 +45,7 @@ use Rattle.association_metered.specs.Profile.{number_of, profile_of, metered_of}
 use Rattle.association_metered.proofs.Plain.{same_record}
 use Rattle.laws.specs.Polls.{Sparing}
 use Rattle.laws.proofs.Polls.{Held, held_kept, metered_held}
-use Rattle.laws.specs.Saving.{Tick, poll, save, saving_rule, saving_machine, unsaved_by, unsaved}
+use Rattle.laws.specs.Saving.{poll, save, saving_rule, saving_machine, unsaved_by, unsaved}
 use Rattle.laws.proofs.Saves.{save_stash_alone}
 use Rattle.laws.proofs.Cookies as loaded
 

@@ -3,7 +3,7 @@
 -- Assumes nothing.
 use mathlib.Core.Path.{◌≡◌, refl, sym, ap, ◌∙◌}
 use mathlib.Core.Bool.{Bool, true, false, not, cond, false≢true}
-use mathlib.Core.List.{List, []}
+use mathlib.Core.List.{[]}
 use mathlib.Core.Option.{none, some}
 use Prim.Native.Nat.{ℕ}
 use lib.Dec.{T, eqb}
@@ -46,7 +46,7 @@ use Rattle.reply.proofs.Numbers.{given}
 use Rattle.reply.proofs.After.{heard}
 use Rattle.laws_log.specs.Log as log
 use Rattle.laws_log.specs.Machine as M
-use Rattle.laws.specs.Association.{TimerIn, ReplyIn, arrival_of, read_as, answers_as, rule, pending_in, timed, replied, machine}
+use Rattle.laws.specs.Association.{ReplyIn, arrival_of, read_as, answers_as, rule, pending_in, timed, replied, machine}
 
 module _ {a : Association} {read : ReplyRead} {t : Arrival} where
   -- a reply that matches answers what is pending, in time

@@ -9,11 +9,10 @@ use mathlib.Core.Logic.{◌⊎◌, inl, inr}
 use Prim.Native.Nat.{ℕ, ◌≤◌, ◌<◌}
 use native.Mathlib.Omega.{arith}
 use lib.Dec.{eqb}
-use lib.ListN.{length, take}
+use lib.ListN.{length}
 use borrow.Author.Tests.{lt-ltb, le-leb}
 use Rattle.words.proofs.Tests.{passes, when, unless}
 use Rattle.cookielist.specs.List.{cookies_in}
-use Rattle.cookiestash.specs.declared.CookieStash.{CookieStash}
 use Rattle.cookiestash.specs.Stash as stash
 use Rattle.cookiestash.specs.Stash.{in_range, get_of}
 use Rattle.cookiestash.specs.Queue.{cookie_of, cookies}

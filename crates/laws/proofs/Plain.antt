@@ -1,7 +1,7 @@
 -- A metered association answers any log as the plain one of the same settings and list does, and what is proved of logs from a new association is proved of
 -- its logs too (RULES, No. 11).
 -- Assumes nothing.
-use mathlib.Core.Path.{◌≡◌, ap, sym, ◌∙◌}
+use mathlib.Core.Path.{◌≡◌, ap, ◌∙◌}
 use mathlib.Core.List.{List, []}
 use Prim.Native.Nat.{ℕ}
 use Rattle.association.specs.declared.Settings.{Settings}

@@ -11,9 +11,7 @@ use lib.IntN.{ℤ, pos}
 use lib.ListN.{length}
 use lib.Signed.{◌≤ℤ◌, ≤ℤ_refl, lt_z_no}
 use borrow.Author.Tests.{eqb-true, eqb-false}
-use Rattle.words.proofs.Tests.{either}
 use Rattle.time_types.specs.declared.PollInterval.{PollInterval}
-use Rattle.time_types.specs.Poll.{interval, larger}
 use Rattle.time_types.proofs.Rate.{≤ℤ_trans, larger_right}
 use Rattle.cookiestash.specs.StoreList.{store_list_of}
 use Rattle.association.specs.declared.Settings.{Settings}
@@ -26,23 +24,19 @@ use Rattle.association.specs.New as new
 use Rattle.association.specs.Numbers as plain
 use Rattle.association.specs.Numbers.{bad_settings, broken_list, made}
 use Rattle.association.proofs.Numbers as plain-numbers
-use Rattle.timer_rules.specs.declared.TimerAnswer.{TimerAnswer}
 use Rattle.timer_rules.specs.declared.TimerInput.{TimerInput}
 use Rattle.timer_rules.specs.Answer as timer
 use Rattle.timer_rules.specs.Poll.{tried_of, poll_of}
 use Rattle.timer.specs.declared.TimerOut.{TimerOut}
-use Rattle.timer.specs.Timer.{timer_of}
 use Rattle.timer.specs.Numbers as T
 use Rattle.timer.specs.Numbers.{not_whole, short_buffer_lem, demobilize, reset, no_cookie_lem, too_large, sent, sent_nts}
 use Rattle.timer.proofs.Numbers as timer-numbers
 use Rattle.timer.proofs.After.{rang}
-use Rattle.wire_incoming.specs.declared.ReplyRead.{ReplyRead}
-use Rattle.reply_clauses.specs.After.{Arrival}
 use Rattle.reply.specs.Numbers as R
 use Rattle.reply.proofs.Numbers as reply-numbers
 use Rattle.reply.proofs.After as reply-after
 use Rattle.laws_log.specs.Machine as M
-use Rattle.laws.specs.Association.{ReplyIn, arrival_of, read_as, rule, timed, machine}
+use Rattle.laws.specs.Association.{arrival_of, read_as, rule, timed, machine}
 use Rattle.laws.proofs.Bridge.{Ran, ran_is_run}
 use Rattle.laws.specs.Rate.{remote_of}
 use Rattle.laws.proofs.Along.{along_with}

@@ -27,7 +27,6 @@ use Rattle.timer_rules.specs.Poll.{poll_of}
 use Rattle.timer.proofs.After.{rang}
 use Rattle.wire_incoming.specs.declared.ReplyRead.{ReplyRead}
 use Rattle.reply_clauses.specs.After.{Arrival, stepped, after_rate_kiss}
-use Rattle.reply_rules.specs.Answer as reply
 use Rattle.reply.specs.declared.ReplyOut.{ReplyOut}
 use Rattle.reply.specs.Numbers as N
 use Rattle.reply.specs.Numbers.{

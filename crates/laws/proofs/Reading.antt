@@ -3,7 +3,7 @@
 use mathlib.Core.Path.{◌≡◌, refl, sym, ap, ◌∙◌}
 use mathlib.Core.Bool.{Bool, true, false, ◌&&◌, cond, and-false}
 use mathlib.Core.List.{List, [], ◌∷◌, ◌++◌, append_assoc, append-nil}
-use mathlib.Core.Logic.{◌↔◌, inl}
+use mathlib.Core.Logic.{◌↔◌}
 use Prim.Native.Nat.{ℕ, zero, suc, ◌+◌, ◌-◌, ◌%◌, ◌^◌, ◌≤◌, ◌<◌}
 use native.Mathlib.Nat.{mod-eq_of_lt}
 use native.Mathlib.Omega.{arith}
@@ -190,7 +190,7 @@ module _ (p rest : List ℕ) where
           ∙ rw (ne_eqb e.kind uid_kind other.0, and-false (leb 48 at && ltb at end)) behind
       go false h there behind =
           let step = step_ends p front (all_bytes es ++ rest) at e there size ok.0 (ltb-false 24 (e.len + length (all_bytes es ++ rest)) h) in
-          ahead_stop p 48 end 16 24 at (lit≤ tt) End step (inl refl)
+          ahead_stop p 48 end 16 24 at (lit≤ tt) End step (λ kind start len next e. cc)
 
 -- ---- a request's fields are legible
 

@@ -28,7 +28,7 @@ use Rattle.laws.proofs.NewDemand.{new_pends_nothing, new_unanswered}
 use Rattle.laws.proofs.Obeys.{laws}
 use Rattle.association_metered.specs.Profile.{metered_of}
 use Rattle.association_metered.proofs.Plain.{once_over_both}
-use Rattle.laws.specs.Saving.{Tick, poll, save, saving_rule, saving_machine}
+use Rattle.laws.specs.Saving.{poll, save, saving_rule, saving_machine}
 use Rattle.laws.proofs.Saves.{save_stash_alone}
 use Rattle.laws.proofs.Demand.{load_nothing}
 

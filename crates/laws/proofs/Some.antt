@@ -3,7 +3,7 @@
 -- Assumes nothing.
 use mathlib.Core.Path.{◌≡◌, refl, ap, ◌∙◌}
 use mathlib.Core.List.{List, [], ◌∷◌, ◌++◌, map}
-use Prim.Native.Nat.{ℕ, suc, ◌≤◌, ◌<◌}
+use Prim.Native.Nat.{ℕ, suc}
 use native.Mathlib.Omega.{arith}
 use lib.ListN.{length, get_or, drop}
 use Rattle.laws.specs.Some.{SomeOf, none, take, pass, Rising, Below, Placed}
@@ -38,7 +38,7 @@ module _ {A : Type 0} where
 
   pub some_some : {xs ys zs : List A} → SomeOf xs ys → SomeOf ys zs → SomeOf xs zs
   some_some s none = s
-  some_some (take s) (take t) = take (some_some s t)
+  some_some {xs = x ∷ xs} (take s) (take t) = take (some_some {xs = xs} s t)
   some_some (pass s) (take t) = pass (some_some s t)
   some_some s (pass t) = pass (some_some s t)
 

@@ -9,7 +9,7 @@ use Rattle.timer_rules.specs.declared.TimerAnswer.{TimerAnswer}
 use Rattle.timer_rules.specs.declared.TimerAnswer.TheVariants.{Sent, Reset, Demobilize, NoCookie, CookieTooLarge, ShortBuffer, NotWhole}
 use Rattle.wire_request.specs.Request.{has_nts}
 use Rattle.reply_rules.specs.Answer.{number_of}
-use Rattle.laws_log.specs.Machine.{Call, Done, of_timer, of_reply}
+use Rattle.laws_log.specs.Machine.{Done, of_timer, of_reply}
 use Rattle.laws.specs.Association.{arrival_of, machine}
 
 -- ---- stored

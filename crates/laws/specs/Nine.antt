@@ -7,7 +7,7 @@ use Rattle.laws_log.specs.Machine.{Machine, Call, log_of}
 
 -- a timer is rejected with 31 or 32
 -- promise no14.7: Nine timers: among any nine timers in a row that were not rejected, with no reply measured between the first and the ninth, one answers 21,
---     22, 23 or 24. That nine is the least is run: `drills/nine_timers.drill`.
+--     22, 23 or 24. That nine is the least is run: `drills/nine-timers.drill`.
 --     edit: laws/eight_timers_are_enough, laws/a_timer_of_a_broken_record_counts
 abbrev pub refused : ℕ → Bool
 refused n = eqb n 31 || eqb n 32

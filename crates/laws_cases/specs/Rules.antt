@@ -38,7 +38,7 @@ pub data Case : Type 0 where
   -- a version, a reply's version, and whether it is expected (part 4)
   expects : (kind : ProtocolVersion) (reply : ℕ) (expected : Bool) → Case
   -- a version, NTS, and the kind of a send (part 10)
-  sends : (kind : ProtocolVersion) (nts : Bool) (kindOfSend : SendKind) → Case
+  sends : (kind : ProtocolVersion) (nts : Bool) (kind_of_send : SendKind) → Case
   -- a version, the unanswered polls, and the version that a poll is tried with (part 10)
   tries : (kind : ProtocolVersion) (unanswered : ℕ) (next : ProtocolVersion) → Case
   -- when a poll was sent, its window, and its deadline (part 10)

@@ -1,12 +1,11 @@
 -- Cases of what is written and read, byte by byte: the three requests of docs/REQUESTS.md and what the writer rejects, the file of docs/HANDOVER.md, damaged
 -- cookie lists (No. 9), and a comparison in which every field differs (No. 10). The bytes are copied from the papers; no definition makes them.
 -- Assumes nothing.
-use Rattle.std.specs.Prelude.{◌≡◌, Bool, true, false, List, [], ◌∷◌, ◌++◌, ℕ, ◌-◌, ◌^◌, ℤ, pos, negsuc, length, take, replicate}
+use Rattle.std.specs.Prelude.{◌≡◌, true, false, List, [], ◌∷◌, ◌++◌, ℕ, ◌-◌, ◌^◌, ℤ, pos, negsuc, length, replicate}
 use Rattle.identifiers.specs.Names.{named}
 use Rattle.time_types.specs.Poll.{interval}
 use Rattle.cookiestash.specs.declared.Slot.{Slot}
-use Rattle.version.specs.declared.ProtocolVersion.{ProtocolVersion}
-use Rattle.version.specs.declared.ProtocolVersion.TheVariants.{V4, Upgrading, Upgraded, V5}
+use Rattle.version.specs.declared.ProtocolVersion.TheVariants.{V4, Upgraded, V5}
 use Rattle.version.specs.declared.SendKind.{SendKind}
 use Rattle.version.specs.declared.SendKind.TheVariants as send
 use Rattle.version.specs.Upgrade.{version}

@@ -3,7 +3,7 @@
 use mathlib.Core.Path.{◌≡◌, refl, sym, ap, ◌∙◌}
 use mathlib.Core.Bool.{Bool, true, false, cond, not, false≢true}
 use mathlib.Core.List.{List, [], ◌∷◌, ◌++◌}
-use mathlib.Core.Option.{Option, none, some}
+use mathlib.Core.Option.{Option, none}
 use Prim.Native.Nat.{ℕ, zero, suc, ◌≤◌}
 use native.Mathlib.Omega.{arith}
 use lib.Dec.{T, eqb, eqb-suc-zero}
@@ -161,7 +161,7 @@ module _ {D : Rule} (M : Machine D) (L : Laws M) where
   calm [] a ok = tt
   calm (c ∷ cs) a ok = (
     λ e. (struck_call a c ok.0 e).0,
-    rw (L.settings_kept a c, L.Pending-next a c) at (calm cs (step M a c) ok.1),
+    rw (L.settings_kept a c, L.pending_next a c) at (calm cs (step M a c) ok.1),
   )
 
   -- the shorter log, from any record: one call, then all
@@ -184,7 +184,7 @@ module _ {D : Rule} (M : Machine D) (L : Laws M) where
       turn (strikes D (M.settings a) (M.pending a) (note M (made M a c)))
       (marks_from D (M.settings a) (next D (M.settings a) (M.pending a) (note M (made M a c))) (log_of M (step M a c) cs))
       (log_of M (step M a c) cs) (run M (step M a c) cs) (after M (step M a c) cs) a c (λ e. (struck_call a c ok.0 e).1)
-      (rw (L.settings_kept a c, L.Pending-next a c) at (same cs (step M a c) ok.1))
+      (rw (L.settings_kept a c, L.pending_next a c) at (same cs (step M a c) ok.1))
 
   logged_strike : (ms : List Bool) (xs : List (Done M)) → logged M (strike ms xs) ≡ strike ms (logged M xs)
   logged_strike [] xs = refl

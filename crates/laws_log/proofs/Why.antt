@@ -200,7 +200,7 @@ module _ {D : Rule} (M : Machine D) (L : Laws M) where
 
   all : (cs : List (Call D)) (a : M.Record) → Told D (M.settings a) (M.pending a) (M.answered a) (log_of M a cs)
   all [] a = tt
-  all (c ∷ cs) a = (one a c, rw (L.settings_kept a c, L.Pending-next a c, L.answered_next a c) at (all cs (step M a c)))
+  all (c ∷ cs) a = (one a c, rw (L.settings_kept a c, L.pending_next a c, L.answered_next a c) at (all cs (step M a c)))
 
   -- promise: no3.5 (of any machine that obeys the laws)
   pub why_told : (a : M.Record) (calls : List (Call D)) → M.pending a ≡ none → M.answered a ≡ false → Why M a calls

@@ -1,6 +1,6 @@
 -- What demand 3 says about any calls made to a record of a machine. What is struck depends only on the log, its inputs and numbers.
 -- Assumes nothing.
-use Rattle.std.specs.Prelude.{◌≡◌, true, false, List, [], ◌∷◌, ◌++◌, ℕ, ◌≤◌, T}
+use Rattle.std.specs.Prelude.{◌≡◌, true, false, List, ◌∷◌, ◌++◌, ℕ, ◌≤◌, T}
 use Rattle.laws_log.specs.Log.{Rule, Entry, replied, refusal, NoPoll, measured_in, struck, marks, strike, shorter}
 use Rattle.laws_log.specs.Machine.{Machine, Call, Done, of_reply, calls_of, note, logged, run, after, log_of}
 

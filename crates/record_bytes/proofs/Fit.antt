@@ -6,7 +6,7 @@ use denote.Laws.{Is}
 use mir.Val.{Val}
 use Rattle.association.specs.declared.State.{State}
 use Rattle.association.specs.contracts.State as State·
-use Rattle.record_bytes.specs.State.{PendingFit, StateFit}
+use Rattle.record_bytes.specs.State.{StateFit}
 
 pub state_fit : (s : State) (vs : List Val) → Is State·.the_row s vs → StateFit s
 state_fit s vs is =

@@ -1,19 +1,17 @@
 -- An association that lies in bytes: another state, a cookie taken and cookies stored where it lies are what they are by value, packed.
 -- Assumes nothing.
-use Prim.Native.Nat.{ℕ, ◌+◌, ◌-◌, ◌*◌, ◌≤◌, ◌<◌}
-use mathlib.Core.Path.{◌≡◌, refl, sym, ap, subst, ◌∙◌}
+use Prim.Native.Nat.{ℕ, ◌+◌, ◌-◌, ◌*◌, ◌≤◌}
+use mathlib.Core.Path.{◌≡◌, refl, sym, ap, ◌∙◌}
 use mathlib.Core.Bool.{Bool, true, false, cond}
 use mathlib.Core.List.{List, [], ◌∷◌, ◌++◌, append_assoc}
 use native.Mathlib.Omega.{arith}
 use borrow.Author.Tests.{le-leb}
-use borrow.Rule.Slice.PartMut.{put_mid}
 use lib.ListN.{length, get_or, take, drop, replicate, length-append, length-replicate, replicate-append-replicate}
 use lib.Seq.{take_at, drop_at, drop-drop, get_or-append-add}
 use Rattle.words.specs.Bytes.{part}
 use Rattle.words.proofs.Bytes.{Bytes, length_part}
 use Rattle.cookiestash.specs.declared.Slot.{Slot}
 use Rattle.cookiestash.specs.declared.CookieStash.{CookieStash}
-use Rattle.cookiestash.specs.declared.Dropped.{Dropped}
 use Rattle.cookiestash.specs.Stash.{empty_slot, get_of}
 use Rattle.cookiestash.specs.StoreList.{store_list_of}
 use Rattle.cookiestash.specs.Falling.{none_dropped, dropped_of}
@@ -24,14 +22,14 @@ use Rattle.association.specs.declared.Association.{Association}
 use Rattle.association.specs.Record as A
 use Rattle.handover_groups.specs.Settings.{settings_bytes}
 use Rattle.handover_groups.proofs.OfSettings.{settings_long}
-use Rattle.record_stash.specs.Rows.{slots_in, stash_in, sized_in, Sized, rows_of}
+use Rattle.record_stash.specs.Rows.{stash_in, sized_in, Sized, rows_of}
 use Rattle.record_stash.specs.Slots.{with_stash, took, taken_in, refilled, refilled_in}
 use Rattle.record_stash.proofs.Zeros.{zero_at, slots_zero, rows_zero}
 use Rattle.record_stash.proofs.With.{of_sized}
 use Rattle.record_bytes.specs.State.{state_bytes, state_of, pending_of}
-use Rattle.record_bytes.specs.Record.{settings_in, state_in, unpacked, packed, ok, stored_state, headed}
+use Rattle.record_bytes.specs.Record.{state_in, unpacked, packed, ok, stored_state, headed}
 use Rattle.record_bytes.proofs.State.{state_long}
-use Rattle.record_bytes.proofs.Packed.{Ok, of_ok, packed_unpacked}
+use Rattle.record_bytes.proofs.Packed.{of_ok, packed_unpacked}
 use Rattle.record_bytes.proofs.Stated.{state_stash}
 
 pub record Lies (a : Association) (b : List ℕ) : Type 0 where

@@ -1,35 +1,21 @@
 -- The state in its 63 bytes: what is written has its length, is of a kind and is read back; and the other way round.
 -- Assumes nothing.
 use Prim.Native.Nat.{ℕ, zero, suc, ◌+◌}
-use mathlib.Core.Path.{◌≡◌, refl, sym, ap, subst, ◌∙◌}
-use mathlib.Core.Bool.{Bool, true, ◌&&◌}
+use mathlib.Core.Path.{◌≡◌, refl, sym, ap, ◌∙◌}
+use mathlib.Core.Bool.{true, ◌&&◌}
 use mathlib.Core.List.{List, [], ◌∷◌, ◌++◌, append-nil}
 use native.Mathlib.Omega.{arith}
-use lib.ListN.{length, get_or, drop, take, length-append, drop_of_length-le}
+use lib.ListN.{length, get_or, drop, drop_of_length-le}
 use lib.Seq.{drop-cons, take_all}
-use Rattle.words.specs.Bytes.{be, part, to_be}
+use Rattle.words.specs.Bytes.{part, to_be}
 use Rattle.words.proofs.Bytes.{Bytes, part_drop, bytes_part, length_part, length_to_be}
 use Rattle.words.proofs.Tests.{both}
-use Rattle.association.specs.declared.Effort.{Effort}
 use Rattle.association.specs.declared.Pending.{Pending}
 use Rattle.association.specs.declared.State.{State}
-use Rattle.handover_groups.specs.Codes.{yes_code, yes_of, yes_known}
+use Rattle.handover_groups.specs.Codes.{yes_code}
 use Rattle.handover_groups.specs.State.{version_bytes, version_of, version_known, polls_bytes, polls_of, source_bytes, source_of, source_known}
 use Rattle.handover_groups.proofs.OfCodes.{word, word_again, yes_kept, yes_again}
-use Rattle.handover_groups.proofs.OfState.{
-  PollsFit,
-  version_back,
-  version_known_lem,
-  version_long,
-  version_again,
-  polls_back,
-  polls_long,
-  polls_again,
-  source_back,
-  source_known_lem,
-  source_long,
-  source_again,
-}
+use Rattle.handover_groups.proofs.OfState.{version_back, version_known_lem, version_long, version_again, polls_back, polls_long, polls_again, source_back, source_known_lem, source_long, source_again}
 use Rattle.record_bytes.specs.State.{tries_bytes, tries_of, pending_bytes, pending_of, pending_known, state_bytes, state_of, state_known, PendingFit, StateFit}
 
 -- ---- what is written is read back

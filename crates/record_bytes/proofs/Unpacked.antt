@@ -1,23 +1,22 @@
 -- What is packed unpacks to what it was, and is a record.
 -- Assumes nothing.
 use Prim.Native.Nat.{ℕ, zero, suc, ◌+◌, ◌-◌, ◌*◌, ◌≤◌, ◌<◌}
-use mathlib.Core.Path.{◌≡◌, refl, sym, ap, subst, ◌∙◌}
-use mathlib.Core.Bool.{Bool, true, ◌&&◌}
-use mathlib.Core.List.{List, [], ◌∷◌, ◌++◌, append_assoc, append-nil}
+use mathlib.Core.Path.{◌≡◌, refl, sym, ap, ◌∙◌}
+use mathlib.Core.List.{List, [], ◌∷◌, ◌++◌, append_assoc}
 use native.Mathlib.Nat.{mod-eq_of_lt}
 use native.Mathlib.Omega.{arith}
-use lib.ListN.{length, get_or, take, drop, replicate, length-append, length-drop, length-replicate, get_or-replicate, take-append-drop, drop_of_length-le}
-use lib.Seq.{take_at, drop_at, drop-drop, get_or_at, get_or-drop, ext_get_or, length-take-le, take-append-le}
+use lib.ListN.{length, get_or, take, drop, replicate, length-append, length-drop, length-replicate, get_or-replicate, take-append-drop}
+use lib.Seq.{take_at, drop_at, drop-drop, get_or_at, get_or-drop, ext_get_or, length-take-le}
 use Rattle.words.specs.Bytes.{be, part, to_be}
 use Rattle.words.proofs.Bytes.{be_to_be}
 use Rattle.cookiestash.specs.declared.Slot.{Slot}
 use Rattle.cookiestash.specs.Stash.{empty_slot, slot_at}
-use Rattle.cookiestash.specs.Whole.{Typed, Whole}
+use Rattle.cookiestash.specs.Whole.{Typed}
 use Rattle.association.specs.declared.Settings.{Settings}
 use Rattle.association.specs.declared.Association.{Association}
 use Rattle.handover_groups.specs.Settings.{settings_bytes, settings_of, settings_known}
 use Rattle.handover_groups.proofs.OfSettings.{SettingsFit, settings_back, settings_known_lem, settings_long}
-use Rattle.record_stash.specs.Rows.{slot_in, slots_in, stash_in, row_of, rows_of, Sized}
+use Rattle.record_stash.specs.Rows.{slot_in, slots_in, stash_in, row_of, rows_of}
 use Rattle.record_bytes.specs.State.{state_bytes, state_of, state_known, StateFit}
 use Rattle.record_bytes.specs.Record.{settings_in, unpacked, packed}
 use Rattle.record_bytes.proofs.State.{state_back, state_known_lem, state_long}

@@ -1,21 +1,19 @@
 -- What is opened, and what is written, piece by piece.
 -- Assumes nothing.
-use Prim.Native.Nat.{ℕ, ◌+◌, ◌-◌, ◌≤◌}
+use Prim.Native.Nat.{ℕ, ◌≤◌}
 use mathlib.Core.Path.{◌≡◌, refl, sym, ap, ◌∙◌}
 use mathlib.Core.Bool.{Bool, true, false, cond}
 use mathlib.Core.List.{List, [], ◌∷◌, ◌++◌, append_assoc, append-nil}
 use native.Mathlib.Omega.{arith}
 use borrow.Author.Tests.{le-leb, lt-leb}
 use borrow.Rule.Slice.PartMut.{put_mid}
-use lib.Dec.{leb}
-use lib.ListN.{length, get_or, take, drop, set, replicate, length-set, length-append, length-drop, drop_of_length-le}
+use lib.ListN.{length, get_or, take, drop, set, replicate, length-append, length-drop, drop_of_length-le}
 use lib.Seq.{take-length, take_at, drop_at, drop-drop, drop-cons, set_at}
 use Rattle.words.proofs.Tests.{when, unless}
 use Rattle.association.specs.declared.Settings.{Settings}
 use Rattle.association.specs.declared.State.{State}
 use Rattle.handover_groups.specs.Settings.{settings_bytes}
 use Rattle.handover_groups.proofs.OfSettings.{settings_long}
-use Rattle.record_stash.proofs.Mid.{mid_long}
 use Rattle.record_bytes.specs.declared.Opened.{Opened}
 use Rattle.record_bytes.specs.State.{state_bytes}
 use Rattle.record_bytes.specs.Record.{ok_in, ok, settings_in, opened, opened_of, stored_state, headed}

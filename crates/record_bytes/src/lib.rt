@@ -1,6 +1,8 @@
 // A record in lent bytes: when bytes are a record, how its settings and its state are read, and how both are written in place.
 // Promises: any bytes are a record or they are not; reading and writing undo each other, in both directions.
 // Rule: RULES, "Settings and a whole record"; the layout is in specs/Record.antt, the state's in specs/State.antt.
+#![tactic(auto)]
+
 ghost use Rattle.std.specs.Prelude.{◌≡◌, false, ◌≤◌, length, replicate};
 ghost use Rattle.handover_groups.specs.Codes.{yes_code};
 ghost use Rattle.handover_groups.proofs.OfSettings.{SettingsFit};
@@ -11,7 +13,7 @@ use association::{Effort, Pending, Settings, State};
 use reach::Reach;
 
 // What is read from lent bytes: whether they are a record, its settings and its state.
-#[derive(Drop)]
+#[derive(Clone, Copy)]
 pub struct Opened {
     pub ok: bool,
     pub settings: Settings,
@@ -34,7 +36,7 @@ fn uid_of(b: &[u8]) -> [u8; 32]
     ensures { result ≡ b.now }
 {
     let mut uid = [0u8; 32];
-    bytes::copy(b, &mut uid);
+    uid.copy_from_slice(b);
     uid
 }
 
@@ -238,7 +240,7 @@ pub fn store_state(b: &mut [u8], s: State)
         return;
     }
     let w = state_bytes(s);
-    bytes::copy(&w, &mut b[29..92]);
+    b[29..92].copy_from_slice(&w);
 }
 
 // Writes the head of a record with an empty stash and a reading place. Bytes that are too short for a head do not change.
@@ -250,7 +252,7 @@ pub fn store_head(b: &mut [u8], settings: Settings, read: u8, state: State)
         return;
     }
     let first = handover_groups::settings_bytes(settings);
-    bytes::copy(&first, &mut b[0..27]);
+    b[0..27].copy_from_slice(&first);
     b[27] = read;
     b[28] = 0;
     store_state(b, state);

@@ -2,7 +2,7 @@
 -- Assumes nothing.
 use Prim.Native.Nat.{ℕ}
 use mathlib.Core.Path.{◌≡◌, refl, sym, ap, subst, ◌∙◌}
-use mathlib.Core.Bool.{Bool, true, false, cond}
+use mathlib.Core.Bool.{true, false, cond}
 use mathlib.Core.List.{List}
 use lib.ListN.{length}
 use Rattle.words.proofs.Bytes.{Bytes}
@@ -10,7 +10,6 @@ use Rattle.words.proofs.Tests.{when, unless}
 use Rattle.cookiestash.specs.declared.Seen.{Seen}
 use Rattle.cookiestash.specs.Stash.{get_of}
 use Rattle.cookiestash.specs.Handed.{handed_of}
-use Rattle.association.specs.declared.Association.{Association}
 use Rattle.association.specs.Record.{with_state}
 use Rattle.timer_rules.specs.declared.TimerAnswer.TheVariants.{NotWhole}
 use Rattle.timer_rules.specs.declared.TimerInput.{TimerInput}
@@ -22,7 +21,7 @@ use Rattle.record_stash.specs.Slots.{seen_in, took, taken_in}
 use Rattle.record_stash.proofs.With.{of_sized, seen_is}
 use Rattle.record_bytes.specs.declared.Opened.{Opened}
 use Rattle.record_bytes.specs.State.{StateFit}
-use Rattle.record_bytes.specs.Record.{settings_in, state_in, ok, unpacked, opened, opened_of, stored_state}
+use Rattle.record_bytes.specs.Record.{settings_in, ok, unpacked, opened, opened_of, stored_state}
 use Rattle.record_bytes.proofs.Lies.{Lies, opened_lies, state_lies, takes}
 use Rattle.record_bytes.proofs.Writes.{found_ok, found_is}
 use Rattle.record_calls.specs.Timer.{gave, timer_packed, timer_call}

@@ -1,16 +1,13 @@
 -- The parts of the reply on lent bytes do what the definition says.
 -- Assumes nothing.
 use Prim.Native.Nat.{ℕ}
-use mathlib.Core.Path.{◌≡◌, refl, sym, ap, subst, ◌∙◌}
+use mathlib.Core.Path.{◌≡◌, sym, ap, subst, ◌∙◌}
 use mathlib.Core.Bool.{Bool, true, false, cond}
 use mathlib.Core.List.{List}
 use Rattle.words.proofs.Bytes.{Bytes}
 use Rattle.words.proofs.Tests.{when, unless}
-use Rattle.cookiestash.specs.declared.CookieStash.{CookieStash}
 use Rattle.cookiestash.specs.declared.Seen.{Seen}
-use Rattle.cookiestash.specs.declared.Dropped.{Dropped}
-use Rattle.cookiestash.specs.StoreList.{store_list_of}
-use Rattle.cookiestash.specs.Falling.{none_dropped, dropped_of}
+use Rattle.cookiestash.specs.Falling.{none_dropped}
 use Rattle.cookiestash.specs.Whole.{seen_of}
 use Rattle.association.specs.declared.Association.{Association}
 use Rattle.association.specs.declared.Settings.{Settings}
@@ -24,14 +21,14 @@ use Rattle.reply_rules.specs.declared.ReplyAnswer.TheVariants.{Undecodable, NotW
 use Rattle.reply_rules.specs.Judge.{leaves, verdict_of}
 use Rattle.reply.specs.declared.Replied.{Replied}
 use Rattle.reply.specs.Reply.{judged, replied_of}
-use Rattle.record_stash.specs.Slots.{Refilled, seen_in}
+use Rattle.record_stash.specs.Slots.{seen_in}
 use Rattle.record_stash.proofs.With.{of_sized, seen_is}
 use Rattle.record_bytes.specs.declared.Opened.{Opened}
 use Rattle.record_bytes.specs.State.{StateFit}
-use Rattle.record_bytes.specs.Record.{settings_in, state_in, ok, unpacked, opened, opened_of, stored_state}
+use Rattle.record_bytes.specs.Record.{settings_in, ok, unpacked, opened, opened_of, stored_state}
 use Rattle.record_bytes.proofs.Packed.{of_ok}
 use Rattle.record_bytes.proofs.RoundTrip.{bytes_again}
-use Rattle.record_bytes.proofs.Lies.{Lies, opened_lies, state_lies, refills}
+use Rattle.record_bytes.proofs.Lies.{opened_lies, state_lies, refills}
 use Rattle.record_bytes.proofs.Writes.{found_ok, found_is}
 use Rattle.record_calls.specs.Reply.{gave, no_record, reply_packed, answered, replied_call, settled_in}
 

@@ -1,23 +1,20 @@
 -- The rows of a record: read for the file, and then cleared.
 -- Assumes nothing.
-use Prim.Native.Nat.{ℕ, zero, suc, ◌+◌, ◌-◌, ◌*◌, ◌≤◌, ◌<◌}
+use Prim.Native.Nat.{ℕ, ◌+◌, ◌-◌, ◌*◌, ◌≤◌, ◌<◌}
 use mathlib.Core.Path.{◌≡◌, refl, sym, ap, subst, ◌∙◌}
-use mathlib.Core.List.{List, [], ◌∷◌, ◌++◌}
+use mathlib.Core.List.{List, ◌++◌}
 use native.Mathlib.Omega.{arith}
 use borrow.Rule.Slice.PartMut.{put_mid}
-use lib.ListN.{length, get_or, take, drop, set, replicate, length-set, length-replicate, length-take, length-drop, replicate-append-replicate}
-use lib.Seq.{ext_get_or, get_or-take, get_or-drop, get_or-set_same, get_or-set_other, take-take, take_all, length-take-le}
+use lib.ListN.{length, get_or, take, drop, set, replicate, length-set, length-replicate, length-drop, replicate-append-replicate}
+use lib.Seq.{get_or-drop, get_or-set_same, get_or-set_other, take-take, take_all, length-take-le}
 use Rattle.words.specs.Bytes.{be, part}
-use Rattle.words.proofs.Bytes.{length_part}
 use Rattle.cookiestash.specs.declared.Slot.{Slot}
-use Rattle.cookiestash.specs.declared.CookieStash.{CookieStash}
-use Rattle.cookiestash.specs.Stash.{empty_slot, slot_at, stored}
+use Rattle.cookiestash.specs.Stash.{empty_slot, slot_at}
 use Rattle.cookiestash.specs.Whole.{WholeSlot, Whole}
 use Rattle.cookiestash.specs.Queue.{seen}
-use Rattle.cookiestash.proofs.Stored.{stored_bounds}
 use Rattle.handover_file.specs.Cookies.{cookie_bytes, empty_at}
 use Rattle.words.specs.Put.{Put}
-use Rattle.record_stash.specs.Rows.{slot_in, slots_in, stash_in, Sized}
+use Rattle.record_stash.specs.Rows.{slot_in, stash_in, Sized}
 use Rattle.record_stash.specs.Slots.{Becomes}
 use Rattle.record_stash.proofs.Mid.{part_same, mid_below, mid_inside, mid_long}
 use Rattle.record_stash.proofs.Change.{slot_at_lem}

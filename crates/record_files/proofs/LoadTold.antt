@@ -18,7 +18,7 @@ use Rattle.handover_load.specs.Reading.{read_of}
 use Rattle.handover_load.proofs.Within.{body_in, Found, answer_is, found_is}
 use Rattle.record_bytes.specs.Record.{packed}
 use Rattle.record_files.specs.declared.loads.LoadTold.{LoadTold}
-use Rattle.record_files.specs.Load.{LoadCall, gave, number, by_answer, loaded_by}
+use Rattle.record_files.specs.Load.{gave, number, by_answer, loaded_by}
 
 module _ (b f : List ℕ) (o : FileRead) (e : o ≡ read_of f) where
   told_by : (x : LoadAnswer) → o.answer ≡ x → by_answer b x (load_of f).association ≡ loaded_by b (load_of f)

@@ -2,9 +2,8 @@
 -- Assumes nothing.
 use Prim.Native.Nat.{ℕ, ◌+◌, ◌≤◌, ◌<◌}
 use mathlib.Core.Path.{◌≡◌, refl, sym, ap, subst, ◌∙◌}
-use mathlib.Core.Bool.{Bool, true, false, cond, ◌&&◌}
+use mathlib.Core.Bool.{true, false, ◌&&◌}
 use mathlib.Core.List.{List}
-use native.Mathlib.Omega.{arith}
 use lib.ListN.{length, get_or}
 use Rattle.words.specs.Bytes.{part}
 use Rattle.words.proofs.Bytes.{Bytes}
@@ -12,18 +11,15 @@ use Rattle.words.proofs.Tests.{both}
 use Rattle.cookiestash.specs.declared.CookieStash.{CookieStash}
 use Rattle.cookiestash.specs.declared.Seen.{Seen}
 use Rattle.cookiestash.specs.Whole.{seen_of, Whole}
-use Rattle.cookiestash.specs.Whole as S
 use Rattle.cookiestash.proofs.Whole.{whole_of_lem}
 use Rattle.association.specs.declared.Settings.{Settings}
 use Rattle.association.specs.declared.State.{State}
-use Rattle.association.specs.declared.Association.{Association}
 use Rattle.association.specs.Settings.{settings_valid}
 use Rattle.association.specs.Record.{effort_valid, versions_valid, pending_valid, idle_valid, whole_seen, whole_of}
 use Rattle.handover_groups.specs.Settings.{settings_of, settings_known}
-use Rattle.handover_file.specs.declared.SaveAnswer.{SaveAnswer}
 use Rattle.handover_file.specs.declared.SaveAnswer.TheVariants.{Saved, NotWhole, ShortBuffer}
 use Rattle.handover_file.specs.Cookies.{stash_bytes, empty_at}
-use Rattle.handover_file.specs.Answers.{saved, handed, handed_of}
+use Rattle.handover_file.specs.Answers.{handed_of}
 use Rattle.words.specs.Put.{Put}
 use Rattle.handover_save.specs.Groups.{groups_file}
 use Rattle.handover_save.proofs.Saved.{not_whole_by, short_by, saved_by_lem}
@@ -36,7 +32,7 @@ use Rattle.record_bytes.specs.declared.Opened.{Opened}
 use Rattle.record_bytes.specs.Record.{ok_in, ok, settings_in, unpacked, packed, opened, opened_of}
 use Rattle.record_bytes.proofs.Packed.{Ok, of_ok_in, packed_unpacked}
 use Rattle.record_bytes.proofs.Writes.{found_ok, found_is}
-use Rattle.record_files.specs.Save.{SaveCall, gave, save_packed, save_call}
+use Rattle.record_files.specs.Save.{gave, save_packed, save_call}
 
 -- a stash that changed, and nothing else
 unpacks : (b : List ℕ) (cap : ℕ) (c : List ℕ) (t : CookieStash) → Becomes cap b c t → settings_in c ≡ settings_in b → (settings_in c).capacity ≡ cap →

@@ -39,7 +39,7 @@ fn lay_all(b: &mut [u8], capacity: u8, body: &[u8])
 }
 
 // What loading reports: its number, and whether a version in the file was of the retired kind.
-#[derive(Drop)]
+#[derive(Clone, Copy)]
 pub struct LoadTold {
     pub number: u8,
     pub retired: bool,

@@ -25,7 +25,6 @@ use Rattle.association_metered.specs.Profile as Profile
 use Rattle.association_metered.proofs.Plain.{plain_made, same_record, same_dropped}
 use Rattle.record_stash.specs.Rows.{sized_in, Sized}
 use Rattle.record_stash.specs.Slots.{Refilled, refilled, refilled_in}
-use Rattle.record_stash.proofs.Zeros.{cleared}
 use Rattle.record_bytes.specs.State.{StateFit}
 use Rattle.record_bytes.specs.Record.{packed, headed}
 use Rattle.record_bytes.proofs.Lies.{Lies, empty_from, headed_lies, refills}

@@ -1,6 +1,8 @@
 // Makes an association in lent bytes, in place: no record is held on the stack.
 // Promises: the record that `new` or `metered` makes, packed; 31 with no change if the number of bytes is wrong; all zero if it is rejected otherwise.
 // Rule: RULES, "Settings and a whole record", No. 5, No. 11, No. 12 and No. 14; definitions in specs/New.antt.
+#![tactic(auto)]
+
 ghost use Rattle.std.specs.Prelude.{◌≡◌, true, false};
 ghost use Rattle.association.specs.New.{made_of, first_dropped};
 ghost use Rattle.record_stash.specs.Rows.{Sized};
@@ -13,7 +15,7 @@ use association_metered::ProfileAnswer;
 use cookiestash::Dropped;
 
 // What `new` answers, or that the number of bytes does not fit the capacity.
-#[derive(Drop)]
+#[derive(Clone, Copy)]
 pub enum NewInBytes {
     Said(NewAnswer),
     WrongSize,
@@ -31,7 +33,7 @@ impl NewInBytes {
 }
 
 // What `metered` answers, or that the number of bytes does not fit the capacity.
-#[derive(Drop)]
+#[derive(Clone, Copy)]
 pub enum MeteredInBytes {
     Said(ProfileAnswer),
     WrongSize,
@@ -49,14 +51,14 @@ impl MeteredInBytes {
 }
 
 // What `new` returns: its answer, and what fell out while the first list was stored.
-#[derive(Drop)]
+#[derive(Clone, Copy)]
 pub struct NewMade {
     pub answer: NewInBytes,
     pub dropped: Dropped,
 }
 
 // What `metered` returns.
-#[derive(Drop)]
+#[derive(Clone, Copy)]
 pub struct MeteredMade {
     pub answer: MeteredInBytes,
     pub dropped: Dropped,
@@ -74,7 +76,7 @@ fn make(b: &mut [u8], settings: Settings, list: &[u8]) -> Dropped
 }
 
 // Whether the number of bytes fits the capacity, and what fell out while the first list was stored.
-#[derive(Drop)]
+#[derive(Clone, Copy)]
 struct Placed {
     fits: bool,
     dropped: Dropped,

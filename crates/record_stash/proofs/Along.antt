@@ -2,7 +2,7 @@
 -- Assumes nothing.
 use Prim.Native.Nat.{ℕ, ◌-◌, ◌≤◌, ◌<◌}
 use mathlib.Core.Path.{◌≡◌, refl, sym, ap, subst, ◌∙◌}
-use mathlib.Core.Bool.{Bool, true, false, cond}
+use mathlib.Core.Bool.{true, false}
 use mathlib.Core.List.{List}
 use native.Mathlib.Omega.{arith}
 use lib.ListN.{length}
@@ -17,8 +17,8 @@ use Rattle.cookiestash.specs.declared.Fallen.{Fallen}
 use Rattle.cookiestash.specs.Stash.{store_of}
 use Rattle.cookiestash.specs.StoreList.{store_listed, store_list_of}
 use Rattle.cookiestash.specs.Falling.{fallen_of, fallen_listed, tally_of, dropped_of, none_dropped, plus_of, Fit}
-use Rattle.cookiestash.proofs.Falling.{added, from_none, less_fits, falls_broken, falls_stop, falls_cookie, fits}
-use Rattle.cookiestash.proofs.StoreList.{listed_broken, listed_cookie, listed_stop}
+use Rattle.cookiestash.proofs.Falling.{added, from_none, less_fits, falls_broken, falls_cookie, fits}
+use Rattle.cookiestash.proofs.StoreList.{listed_broken, listed_cookie}
 use Rattle.record_stash.specs.Rows.{stash_in, Sized}
 use Rattle.record_stash.specs.Slots.{Becomes, RefilledIn}
 use Rattle.record_stash.proofs.Change.{same}

@@ -8,7 +8,7 @@ use native.Mathlib.Omega.{arith}
 use lib.Dec.{eqb}
 use lib.ListN.{length, get_or, take, drop, replicate, length-drop}
 use lib.Seq.{take_all, take-take, drop-drop}
-use Rattle.words.specs.Bytes.{be, part, zeros}
+use Rattle.words.specs.Bytes.{part, zeros}
 use Rattle.words.proofs.Zeros.{of_zeros}
 use Rattle.cookiestash.specs.declared.Seen.{Seen}
 use Rattle.cookiestash.specs.Stash.{wrap, range_of}

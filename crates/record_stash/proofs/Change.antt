@@ -1,33 +1,19 @@
 -- A row that is put anew, with the reading place and the count: what the stash becomes.
 -- Assumes nothing.
-use Prim.Native.Nat.{ℕ, zero, suc, ◌+◌, ◌-◌, ◌*◌, ◌≤◌, ◌<◌}
+use Prim.Native.Nat.{ℕ, ◌+◌, ◌-◌, ◌*◌, ◌≤◌, ◌<◌}
 use mathlib.Core.Path.{◌≡◌, refl, sym, ap, subst, ◌∙◌}
-use mathlib.Core.List.{List, [], ◌∷◌, ◌++◌, append_assoc, append-nil}
+use mathlib.Core.List.{List, [], ◌++◌, append_assoc, append-nil}
 use native.Mathlib.Decide.{dec_lt}
 use native.Mathlib.Nat.{mod-eq_of_lt}
 use native.Mathlib.Omega.{arith}
 use borrow.Rule.Slice.PartMut.{put_mid}
-use lib.ListN.{
-  length,
-  get_or,
-  take,
-  drop,
-  set,
-  replicate,
-  length-set,
-  length-append,
-  length-take,
-  length-drop,
-  length-replicate,
-  drop_of_length-le,
-  get_or-append,
-}
-use lib.Seq.{get_or-set_same, get_or-set_other, set-append_left, ext_get_or, take_at, drop_at, take_all, take-length, length-take-le}
+use lib.ListN.{length, get_or, take, drop, set, replicate, length-set, length-append, length-drop, length-replicate, drop_of_length-le, get_or-append}
+use lib.Seq.{get_or-set_same, get_or-set_other, set-append_left, ext_get_or, take_at, drop_at, length-take-le}
 use Rattle.words.specs.Bytes.{be, part, to_be}
 use Rattle.words.proofs.Bytes.{be_to_be}
 use Rattle.cookiestash.specs.declared.Slot.{Slot}
 use Rattle.cookiestash.specs.declared.CookieStash.{CookieStash}
-use mathlib.Core.Bool.{Bool, true, false, ◌&&◌}
+use mathlib.Core.Bool.{true, false}
 use borrow.Author.Tests.{ltb-true}
 use lib.Dec.{ltb}
 use Rattle.words.proofs.Tests.{both}
@@ -166,27 +152,23 @@ module _ (cap : ℕ) (b : List ℕ) (s : Sized b cap) (k : ℕ) (inside : k < ca
 
 -- its bytes, zeros behind them, and the length, put into a row one after the other
 pub row_kept : (row c : List ℕ) (len : ℕ) → length row ≡ 726 → length c ≤ 724 →
-    (m : ℕ) → m ≡ length c → (r₁ : List ℕ) → r₁ ≡ take m c ++ drop m row →
+    (m : ℕ) → m ≡ length c → (r₁ : List ℕ) → r₁ ≡ c ++ drop m row →
     (z : List ℕ) → z ≡ replicate (length (take (724 - m) (drop m r₁))) 0 →
-    (l : List ℕ) → l ≡ to_be 2 len → (y : List ℕ) → y ≡ take (length l) l ++ drop (length l) (take 2 (drop 724 (put_mid m (724 - m) r₁ z))) →
+    (l : List ℕ) → l ≡ to_be 2 len → (y : List ℕ) → y ≡ l →
     put_mid 724 2 (put_mid m (724 - m) r₁ z) y ≡ row_of (kept_slot len c)
 unfolding kept_slot
 row_kept row c len long most m em r₁ e₁ z ez l el y ey =
     let ln : length c ≡ m = sym em in
-    let f₁ : r₁ ≡ c ++ drop m row = e₁ ∙ ap (λ (q : List ℕ). q ++ drop m row) (take_all m c (omega arith)) in
-    let d₁ : drop m r₁ ≡ drop m row = ap (drop m) f₁ ∙ drop_at c (drop m row) m ln in
+    let d₁ : drop m r₁ ≡ drop m row = ap (drop m) e₁ ∙ drop_at c (drop m row) m ln in
     let lz : length (take (724 - m) (drop m r₁)) ≡ 724 - m = length-take-le (724 - m) (drop m r₁) (omega (arith, ap length d₁, length-drop m row)) in
     let fz : z ≡ replicate (724 - m) 0 = ez ∙ ap (λ (k : ℕ). replicate k 0) lz in
     let kz : length z ≡ 724 - m = ap length fz ∙ length-replicate {A = ℕ} (724 - m) 0 in
     let t = drop (724 - m) (drop m row) in
-    let f₂ : put_mid m (724 - m) r₁ z ≡ (c ++ z) ++ t = ap (λ (q : List ℕ). put_mid m (724 - m) q z) f₁ ∙ mid_at m (724 - m) c (drop m row) z ln
+    let f₂ : put_mid m (724 - m) r₁ z ≡ (c ++ z) ++ t = ap (λ (q : List ℕ). put_mid m (724 - m) q z) e₁ ∙ mid_at m (724 - m) c (drop m row) z ln
     ∙ sym (append_assoc c z t) in
     let lx : length (c ++ z) ≡ 724 = length-append c z ∙ omega arith in
     let lt : length t ≡ 2 = length-drop (724 - m) (drop m row) ∙ ap (λ (k : ℕ). k - (724 - m)) (length-drop m row) ∙ omega arith in
-    let ll : length l ≡ 2 = ap length el in
-    let w = take 2 (drop 724 (put_mid m (724 - m) r₁ z)) in
-    let lw : length w ≤ 2 = omega (arith, length-take 2 (drop 724 (put_mid m (724 - m) r₁ z))) in
-    let fy : y ≡ to_be 2 len = ey ∙ (λ i. take-length l i ++ drop_of_length-le w {i = length l} (omega arith) i) ∙ append-nil l ∙ el in
+    let fy : y ≡ to_be 2 len = ey ∙ el in
     ap (λ (q : List ℕ). put_mid 724 2 q y) f₂ ∙ mid_at 724 2 (c ++ z) t y lx
     ∙ (λ i. (c ++ z) ++ (fy i ++ drop_of_length-le t {i = 2} (omega arith) i))
     ∙ (λ i. (c ++ (fz ∙ ap (λ (k : ℕ). replicate (724 - k) 0) em) i) ++ append-nil (to_be 2 len) i)

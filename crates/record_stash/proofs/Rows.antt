@@ -12,7 +12,7 @@ use Rattle.words.proofs.Zeros.{of_zeros}
 use Rattle.cookiestash.specs.declared.Slot.{Slot}
 use Rattle.cookiestash.specs.Stash.{stored, empty_slot, slot_at}
 use Rattle.cookiestash.specs.Whole.{padded, all_padded, lens_of, seen_of, seen_from}
-use Rattle.cookiestash.proofs.Front.{front, front_none, front_more}
+use Rattle.cookiestash.proofs.Front.{front, front_more}
 use Rattle.cookiestash.proofs.Lengths.{seen_from_lem}
 use Rattle.record_stash.specs.Rows.{slot_in, slots_in, stash_in, lens_in}
 

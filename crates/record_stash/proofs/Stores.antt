@@ -1,24 +1,23 @@
 -- A cookie that is stored in lent bytes, and a list of them.
 -- Assumes nothing.
-use Prim.Native.Nat.{ℕ, zero, suc, ◌+◌, ◌-◌, ◌*◌, ◌≤◌, ◌<◌, ◌^◌}
+use Prim.Native.Nat.{ℕ, ◌+◌, ◌-◌, ◌*◌, ◌≤◌, ◌<◌, ◌^◌}
 use mathlib.Core.Path.{◌≡◌, refl, sym, ap, subst, ◌∙◌}
-use mathlib.Core.Bool.{Bool, true, false, ◌&&◌, cond}
-use mathlib.Core.List.{List, [], ◌∷◌, ◌++◌}
+use mathlib.Core.Bool.{true, false}
+use mathlib.Core.List.{List, [], ◌++◌}
 use native.Mathlib.Decide.{dec_lt}
 use native.Mathlib.Omega.{arith}
 use borrow.Author.Tests.{le-leb, lt-leb}
-use lib.ListN.{length, get_or, take, set, replicate, length-append, length-replicate, get_or-replicate, get_or-append}
+use lib.ListN.{length, get_or, take, replicate, length-append, length-replicate, get_or-replicate}
 use lib.Seq.{get_or-append-add}
 use Rattle.words.specs.Bytes.{be, part}
 use Rattle.words.proofs.Bytes.{Bytes, length_part, bytes_part, be_below}
 use Rattle.cookiestash.specs.declared.Slot.{Slot}
-use Rattle.cookiestash.specs.declared.CookieStash.{CookieStash}
 use Rattle.cookiestash.specs.declared.Fallen.{Fallen}
 use Rattle.cookiestash.specs.Stash.{stored, slot_of, empty_slot, slot_at, wrap, full, range_of, in_range, put_of, store_of}
 use Rattle.cookiestash.specs.Whole.{Typed}
 use Rattle.cookiestash.specs.Falling.{none_fallen, oldest_of, fallen_of}
 use Rattle.record_stash.specs.Rows.{slot_in, slots_in, stash_in, Sized}
-use Rattle.record_stash.proofs.Rows.{slots_long, slots_at}
+use Rattle.record_stash.proofs.Rows.{slots_long}
 use Rattle.record_stash.specs.Slots.{kept_slot, Becomes, changed, StoredIn}
 use Rattle.record_stash.proofs.Change.{slot_at_lem, same, kept_stored}
 

@@ -1,18 +1,18 @@
 -- Zeros: what is read of them, and the rows that they are.
 -- Assumes nothing.
-use Prim.Native.Nat.{ℕ, zero, suc, ◌+◌, ◌-◌, ◌*◌, ◌≤◌, ◌<◌}
+use Prim.Native.Nat.{ℕ, zero, suc, ◌+◌, ◌-◌, ◌*◌, ◌≤◌}
 use mathlib.Core.Path.{◌≡◌, refl, sym, ap, ◌∙◌}
-use mathlib.Core.Bool.{Bool, true, ◌&&◌}
-use mathlib.Core.List.{List, [], ◌∷◌, ◌++◌, map}
+use mathlib.Core.Bool.{true}
+use mathlib.Core.List.{List, ◌∷◌, ◌++◌, map}
 use native.Mathlib.Omega.{arith}
 use lib.ListN.{length, get_or, take, drop, replicate, length-replicate, replicate-append-replicate}
 use lib.Seq.{ext_get_or, get_or-take, get_or-drop}
-use Rattle.words.specs.Bytes.{be, part, to_be, zeros}
+use Rattle.words.specs.Bytes.{be, part, zeros}
 use Rattle.words.proofs.Bytes.{length_part}
 use Rattle.words.proofs.Zeros.{zeros_of}
 use Rattle.cookiestash.specs.declared.Slot.{Slot}
 use Rattle.cookiestash.specs.Stash.{empty_slot}
-use Rattle.cookiestash.specs.Whole.{padded, all_padded}
+use Rattle.cookiestash.specs.Whole.{all_padded}
 use Rattle.record_stash.specs.Rows.{slot_in, slots_in, lens_in, Sized, row_of, rows_of}
 use Rattle.record_stash.proofs.Rows.{none_padded}
 

@@ -1,6 +1,8 @@
 // A stash in lent bytes, whose number fits its capacity: summarizes it, takes a cookie, and stores a list, all in place.
 // Promises: what `cookiestash` promises of a stash by value, and no other byte changes; no slot is copied. If the number of bytes is wrong, nothing changes.
 // Rule: RULES, part 3, No. 5 and No. 12; definitions in specs/Rows.antt and specs/Slots.antt.
+#![tactic(auto)]
+
 ghost use Rattle.std.specs.Prelude.{◌≡◌, true, ◌&&◌, ◌+◌, ◌*◌, ◌≤◌, ◌<◌, min, length, get_or, replicate};
 ghost use Rattle.words.specs.Bytes.{be, part, zeros};
 ghost use Rattle.cookiestash.specs.Stash.{range_of, put_of};
@@ -35,7 +37,7 @@ pub fn sized(b: &[u8], capacity: u8) -> bool
 }
 
 // What is read from the rows: whether every slot is zero past its stored bytes, and how long the cookies are.
-#[derive(Drop)]
+#[derive(Clone, Copy)]
 struct RowsRead {
     padded: bool,
     lens: [u16; 8],
@@ -171,10 +173,10 @@ fn fill_row(row: &mut [u8], len: u16, kept: &[u8])
     ensures { row.new ≡ row_of (kept_slot len kept.now) }
 {
     let n = kept.len();
-    bytes::copy(kept, row);
+    row[..n].copy_from_slice(kept);
     clear(&mut row[n..724]);
     let word = words::be16_bytes(len);
-    bytes::copy(&word, &mut row[724..726]);
+    row[724..726].copy_from_slice(&word);
 }
 
 // Writes a kept cookie to a place, and stores the reading place and the count.
@@ -203,7 +205,7 @@ fn give(b: &[u8], at: usize, buffer: &mut [u8])
     let len = words::be16_at(b, at + 724);
     let n = least(cookiestash::stored_bytes(len as usize), buffer.len());
     let end = at + n;
-    bytes::copy(&b[at..end], buffer);
+    buffer[..n].copy_from_slice(&b[at..end]);
 }
 
 // Whether a stash of this place and count has a cookie.

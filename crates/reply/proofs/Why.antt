@@ -1,7 +1,7 @@
 -- RULES, No. 3, of both forms of the call: a reply gives 12, 13 or 14 exactly where it gave 3. Which of them it gives, each number's own rule says (Numbers).
 -- Assumes nothing.
 use mathlib.Core.Path.{◌≡◌, refl, sym, subst}
-use mathlib.Core.Bool.{Bool, true, false}
+use mathlib.Core.Bool.{Bool}
 use mathlib.Core.Logic.{◌↔◌}
 use Prim.Native.Nat.{ℕ}
 use lib.Dec.{T}

@@ -62,7 +62,7 @@ module _ (a : Association) (read : ReplyRead) (t : Arrival) where
 
   -- nor 33
   pub record Listed (r : Reply) : Type 0 where
-    pub read_as_lem : Read r
+    pub read_as : Read r
     pub cookies : list_broken a.settings.nts t.list ≡ false
 
   -- nor 2

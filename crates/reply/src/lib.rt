@@ -1,6 +1,8 @@
 // The reply, in both forms. The core functions take a record by value; thin calls above them update the record that the caller lends.
 // Promises: each number exactly when its rule says so, and the next record; a whole record stays whole, and a rejected reply does not change it.
 // Rule: RULES, part 11 and No. 5; definitions in specs/Reply.antt, number by number in specs/Numbers.antt.
+#![tactic(auto)]
+
 ghost use Rattle.std.specs.Prelude.{◌≡◌};
 ghost use Rattle.reply_clauses.specs.After.{arrival};
 ghost use Rattle.reply.specs.Reply.{judged, reply_of, reply_decoded_of};
@@ -12,14 +14,14 @@ use time_types::NtpTimestamp;
 use wire_incoming::DecodedReply;
 
 // What a caller gets from a reply: its answer, and what fell out of the stash while the reply's cookies were stored.
-#[derive(Drop)]
+#[derive(Clone, Copy)]
 pub struct Replied {
     pub answer: ReplyAnswer,
     pub dropped: Dropped,
 }
 
 // What the reply returns: what the caller gets, and the next record.
-#[derive(Drop)]
+#[derive(Clone, Copy)]
 pub struct ReplyOut {
     pub replied: Replied,
     pub association: Association,

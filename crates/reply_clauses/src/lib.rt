@@ -1,6 +1,8 @@
 // The clauses of a reply: when it answers what is pending, what each kind of reply does to the state, and the measurement.
 // Promises: each function is one clause of the rule; what a clause does not name does not change.
 // Rule: RULES, parts 8, 9 and 11; definitions in specs/After.antt.
+#![tactic(auto)]
+
 ghost use Rattle.std.specs.Prelude.{◌≡◌, ◌||◌};
 ghost use Rattle.reply_clauses.specs.After.{never_sent, already_measured, expired, answers, stepped, after_rate_kiss};
 ghost use Rattle.reply_clauses.specs.After.{after_denial, raised, after_measured, measurement_of};
@@ -11,7 +13,7 @@ use wire_header::Kisses;
 use wire_incoming::{NtpLeapIndicator, Reply};
 
 // What a measured reply says about the clocks.
-#[derive(Drop)]
+#[derive(Clone, Copy)]
 pub struct Measurement {
     pub delay: NtpDuration,
     pub offset: NtpDuration,

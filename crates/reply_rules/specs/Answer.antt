@@ -1,7 +1,7 @@
 -- The number in RULES for each answer to a reply, and the actions that follow from the number.
 -- Assumes nothing.
 use Rattle.std.specs.Prelude.{◌≡◌, cond, List, [], ◌∷◌, ℕ, eqb}
-use Rattle.association.specs.Actions.{Action, updateSystem, demobilize}
+use Rattle.association.specs.Actions.{Action, update_system, demobilize}
 use Rattle.reply_rules.specs.declared.ReplyAnswer.{ReplyAnswer}
 use Rattle.reply_rules.specs.declared.ReplyAnswer.TheVariants.{
   Measured,
@@ -55,11 +55,11 @@ number_of BrokenList = 33
 -- actions follow from the number: 0 from a reply is one system update with the measurement; 7 demobilizes; others none
 -- promise actions.3: Actions of a reply, number by number; demand 3 cites them.
 abbrev pub actions_of : ℕ → List Action
-actions_of n = cond (eqb n 0) (updateSystem ∷ []) (cond (eqb n 7) (demobilize ∷ []) [])
+actions_of n = cond (eqb n 0) (update_system ∷ []) (cond (eqb n 7) (demobilize ∷ []) [])
 
 -- number by number
 pub record ReplyActs (actions : ℕ → List Action) : Type 0 where
-  pub measured_0 : actions 0 ≡ updateSystem ∷ []
+  pub measured_0 : actions 0 ≡ update_system ∷ []
   pub none_1 : actions 1 ≡ []
   pub none_2 : actions 2 ≡ []
   pub none_4 : actions 4 ≡ []

@@ -1,7 +1,7 @@
 -- RULES, part 11: the verdict on a reply, from the settings, the state and the summary of the stash. In order 32, 1 (byte form), 33, 2, 12, 13, 14, 4, the
 -- upgrade step, then 5 to 11.
 -- Assumes nothing.
-use Rattle.std.specs.Prelude.{Bool, true, false, not, cond, List, ℕ, ltb}
+use Rattle.std.specs.Prelude.{false, not, cond, List, ℕ, ltb}
 use Rattle.cookielist.specs.List.{list_broken}
 use Rattle.cookiestash.specs.declared.Seen.{Seen}
 use Rattle.version.specs.Upgrade.{expects_of}

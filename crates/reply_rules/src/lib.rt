@@ -1,6 +1,8 @@
 // The rules of a reply, over the settings, the state and the summary of the stash: one judge for both forms. `reply` calls it.
 // Promises: the verdict, with its answer and the next state, is the rule's, in its order, and the actions follow from its number.
 // Rule: RULES, parts 8, 9 and 11; definitions in specs/Judge.antt and specs/Answer.antt.
+#![tactic(auto)]
+
 ghost use Rattle.std.specs.Prelude.{◌≡◌, cond, ◌||◌, replicate};
 ghost use Rattle.wire_incoming.specs.declared.ReplyRead.TheVariants.{Decoded};
 ghost use Rattle.wire_incoming.specs.Incoming.{decoded_of};
@@ -15,7 +17,7 @@ use reply_clauses::Measurement;
 use time_types::NtpTimestamp;
 use wire_incoming::{DecodedReply, Reply, ReplyRead};
 
-#[derive(Drop)]
+#[derive(Clone, Copy)]
 pub enum ReplyAnswer {
     Measured(Measurement),
     Undecodable,
@@ -39,7 +41,7 @@ pub enum ReplyAnswer {
 }
 
 // The result of the tests: the answer, the next state, and whether the reply's cookies are stored.
-#[derive(Drop)]
+#[derive(Clone, Copy)]
 pub struct Verdict {
     pub answer: ReplyAnswer,
     pub state: State,

@@ -44,7 +44,7 @@ module _ (m x : ℕ) (old found : List ℕ) (long : length old ≡ m) where
       rw (n, a, b, take-append-le m found (x ∷ []) h)
 
 -- what is done at an offset of the walk, and that it goes on with what the walk from there reports
-pub record Along (l out₀ out places : List ℕ) (at to kept skipped gaps : ℕ) (inGap : Bool) : Type 0 where
+pub record Along (l out₀ out places : List ℕ) (at to kept skipped gaps : ℕ) (in_gap : Bool) : Type 0 where
   pub within : at ≤ length l
   pub kept_few : kept ≤ at
   pub skipped_few : skipped ≤ at
@@ -57,7 +57,7 @@ pub record Along (l out₀ out places : List ℕ) (at to kept skipped gaps : ℕ
   pub buffer : out ≡ take to (clean_of l) ++ drop to out₀
   pub long : length out ≡ length out₀
   pub gaps_upto : gaps ≤ length (gaps_in (walk_of l))
-  pub gaps_left : drop gaps (gaps_in (walk_of l)) ≡ gaps_from inGap (walk_from l at)
+  pub gaps_left : drop gaps (gaps_in (walk_of l)) ≡ gaps_from in_gap (walk_from l at)
   pub told : places ≡ places_of (take gaps (gaps_in (walk_of l)))
 
 -- before the walk
@@ -84,7 +84,7 @@ places_noted : (gs : List ℕ) → places_of gs ≡ noted 32 (replicate 32 0) gs
 unfolding places_of noted
 places_noted gs = refl
 
-module _ (l out₀ out places : List ℕ) (at to kept skipped gaps : ℕ) (inGap : Bool) (i : Along l out₀ out places at to kept skipped gaps inGap) where
+module _ (l out₀ out places : List ℕ) (at to kept skipped gaps : ℕ) (in_gap : Bool) (i : Along l out₀ out places at to kept skipped gaps in_gap) where
   -- a record is kept
   module _ (end : ℕ) (h : at < length l) (e : record_at l at ≡ Record end) where
     k : Kept l at end
@@ -123,7 +123,7 @@ module _ (l out₀ out places : List ℕ) (at to kept skipped gaps : ℕ) (inGap
           buffer = p.leaves ∙ rw p.ends (buffer_is (clean_of l) R T to i.upto ahead out₀ out i.buffer);
           long = el ∙ i.long;
           gaps_upto = i.gaps_upto;
-          gaps_left = i.gaps_left ∙ ap (gaps_from inGap) w;
+          gaps_left = i.gaps_left ∙ ap (gaps_from in_gap) w;
           told = i.told;
         }
 
@@ -133,7 +133,7 @@ module _ (l out₀ out places : List ℕ) (at to kept skipped gaps : ℕ) (inGap
     v = walk_skipped l at h e
 
     -- in a gap
-    pub skip : inGap ≡ true → Along l out₀ out places (at + 1) to kept (skipped + 1) gaps true
+    pub skip : in_gap ≡ true → Along l out₀ out places (at + 1) to kept (skipped + 1) gaps true
     skip q = record {
       within = omega arith;
       kept_few = omega (arith, i.kept_few);
@@ -147,16 +147,16 @@ module _ (l out₀ out places : List ℕ) (at to kept skipped gaps : ℕ) (inGap
       buffer = i.buffer;
       long = i.long;
       gaps_upto = i.gaps_upto;
-      gaps_left = i.gaps_left ∙ ap (gaps_from inGap) v ∙ rw q;
+      gaps_left = i.gaps_left ∙ ap (gaps_from in_gap) v ∙ rw q;
       told = i.told;
     }
 
-    module _ (q : inGap ≡ false) where
+    module _ (q : in_gap ≡ false) where
       found : List ℕ
       found = take gaps (gaps_in (walk_of l))
 
       next : drop gaps (gaps_in (walk_of l)) ≡ (at ∷ []) ++ gaps_from true (walk_from l (at + 1))
-      next = i.gaps_left ∙ ap (gaps_from inGap) v ∙ rw q
+      next = i.gaps_left ∙ ap (gaps_from in_gap) v ∙ rw q
 
       found_long : length found ≡ gaps
       unfolding found
@@ -220,7 +220,7 @@ module _ (l out₀ out places : List ℕ) (at to kept skipped gaps : ℕ) (inGap
     all_written = omega (arith, i.upto, simp length-drop at (ap length (i.left ∙ ap (records_in l) none)))
 
     all_gaps : gaps ≡ length (gaps_in (walk_of l))
-    all_gaps = omega (arith, i.gaps_upto, simp length-drop at (ap length (i.gaps_left ∙ ap (gaps_from inGap) none)))
+    all_gaps = omega (arith, i.gaps_upto, simp length-drop at (ap length (i.gaps_left ∙ ap (gaps_from in_gap) none)))
 
     all_places : places ≡ places_of (gaps_in (walk_of l))
     all_places = i.told ∙ rw all_gaps (ap places_of (take-length (gaps_in (walk_of l))))

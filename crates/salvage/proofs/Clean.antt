@@ -1,10 +1,10 @@
 -- The clean list is a whole one by the cookie list's own reader, and its cookies are those of the records kept.
 -- Assumes nothing.
 use Prim.Native.Nat.{ℕ, ◌+◌, ◌-◌, ◌≤◌}
-use mathlib.Core.Path.{◌≡◌, refl, sym, ap, ◌∙◌}
+use mathlib.Core.Path.{◌≡◌, refl, ◌∙◌}
 use mathlib.Core.List.{List, ◌++◌}
 use native.Mathlib.Omega.{arith}
-use lib.ListN.{length, take, drop}
+use lib.ListN.{length, drop}
 use lib.Seq.{take_at}
 use Rattle.words.specs.Bytes.{part}
 use Rattle.words.specs.Put.{record_of}

@@ -2,9 +2,9 @@
 -- is not, and the places rise.
 -- And a list is without damage exactly where no byte of it is skipped.
 -- Assumes nothing.
-use Prim.Native.Nat.{ℕ, suc, ◌+◌, ◌≤◌, ◌<◌}
-use mathlib.Core.Path.{◌≡◌, refl, sym, ap, ◌∙◌}
-use mathlib.Core.Bool.{Bool, true, false, cond}
+use Prim.Native.Nat.{ℕ, suc, ◌+◌, ◌≤◌}
+use mathlib.Core.Path.{◌≡◌, refl, ap, ◌∙◌}
+use mathlib.Core.Bool.{Bool, true, false}
 use mathlib.Core.List.{List, [], ◌∷◌}
 use mathlib.Core.Logic.{◌⊎◌, inl, inr, ◌↔◌}
 use native.Mathlib.Omega.{arith}
@@ -14,7 +14,7 @@ use Rattle.cookielist.proofs.Reader.{read_end, whole_cookie}
 use Rattle.cookielist.proofs.RoundTrip.{entry_end}
 use Rattle.salvage.specs.Walk.{Step, kept, skipped, walk_from, walk_of}
 use Rattle.salvage.specs.Salvage.{skipped_in, gaps_from, gaps_in}
-use Rattle.salvage.proofs.Walks.{Kept, walk_induction}
+use Rattle.salvage.proofs.Walks.{walk_induction}
 use Rattle.salvage.proofs.Undamaged.{undamaged}
 
 -- the place is one of them

@@ -4,16 +4,15 @@ use Prim.Native.Nat.{ℕ, suc, ◌≤◌}
 use mathlib.Core.Path.{◌≡◌, refl, sym, ap, ◌∙◌}
 use mathlib.Core.Bool.{true}
 use mathlib.Core.List.{List, [], ◌∷◌}
-use native.Mathlib.Omega.{arith}
 use borrow.Author.Tests.{le-ltb}
 use lib.ListN.{length, replicate}
 use Rattle.words.proofs.Bytes.{Bytes}
-use Rattle.cookielist.specs.List.{is_whole, whole, cookies_in}
+use Rattle.cookielist.specs.List.{is_whole, cookies_in}
 use Rattle.salvage.specs.declared.Salvaged.{Salvaged}
 use Rattle.salvage.specs.Walk.{Step, kept, skipped, walk_of}
-use Rattle.salvage.specs.Salvage.{kept_in, skipped_in, gaps_in, places_of, cookies_kept, clean_of, report_of, salvage_of}
+use Rattle.salvage.specs.Salvage.{kept_in, places_of, cookies_kept, clean_of, report_of, salvage_of}
 use Rattle.salvage.proofs.Clean.{clean_whole}
-use Rattle.salvage.proofs.Undamaged.{Same, same, undamaged}
+use Rattle.salvage.proofs.Undamaged.{same, undamaged}
 
 -- as many records are kept as cookies
 kept_count : (l : List ℕ) (w : List Step) → length (cookies_kept l w) ≡ kept_in w

@@ -1,25 +1,23 @@
 -- A list without damage comes out byte for byte, with no gap, and its cookies are those of the records kept.
 -- Assumes nothing.
 use Prim.Native.Nat.{ℕ, ◌+◌, ◌-◌, ◌≤◌, ◌<◌}
-use mathlib.Core.Path.{◌≡◌, refl, sym, ap, ◌∙◌}
+use mathlib.Core.Path.{◌≡◌, refl, sym, ◌∙◌}
 use mathlib.Core.Bool.{Bool, true, false, cond}
-use mathlib.Core.List.{List, [], ◌++◌}
+use mathlib.Core.List.{List, []}
 use native.Mathlib.Omega.{arith}
 use borrow.Author.Tests.{le-leb, eq-eqb, ne_eqb}
 use lib.ListN.{length, drop}
 use lib.Seq.{drop-length}
-use Rattle.words.specs.Bytes.{part}
 use Rattle.words.proofs.Bytes.{part_drop}
 use Rattle.cookielist.specs.List.{record_mark_at, entry_at, is_whole, whole, cookies_from, cookies_in}
 use Rattle.cookielist.specs.declared.Entry.{Entry}
 use Rattle.cookielist.specs.declared.Entry.TheVariants.{Cookie, End, Broken}
 use Rattle.cookielist.proofs.Reader.{placed, ended, read_cookie, read_end, whole_cookie, whole_broken}
 use Rattle.cookielist.proofs.RoundTrip.{entry_end}
-use Rattle.salvage.specs.declared.Found.{Found}
 use Rattle.salvage.specs.declared.Found.TheVariants.{Record, Nothing}
 use Rattle.salvage.specs.Walk.{mark_at, followed, on_entry, record_at, Step, walk_from, walk_of}
 use Rattle.salvage.specs.Salvage.{skipped_in, gaps_from, gaps_in, records_in, cookies_kept, clean_of}
-use Rattle.salvage.proofs.Walks.{Kept, walk_induction}
+use Rattle.salvage.proofs.Walks.{walk_induction}
 
 module _ (l : List ℕ) where
   -- where a whole list goes on, there is the end or a mark

@@ -1,6 +1,8 @@
 // Reads a damaged cookie list and writes a clean one.
 // Promises: one walk over the input says what is kept, skipped and written; the clean list is whole, and does not change when it is salvaged again.
 // Rule: RULES, No. 9; definitions in specs/Walk.antt and specs/Salvage.antt.
+#![tactic(auto)]
+
 ghost use Rattle.std.specs.Prelude.{◌≡◌, length};
 ghost use Rattle.salvage.specs.Walk.{mark_at, followed, record_at};
 ghost use Rattle.salvage.specs.Salvage.{salvage_of, buffer_of, refused_of};
@@ -13,7 +15,7 @@ const MARK_BYTES: usize = 2;
 pub const PLACES: usize = 32;
 
 // What is at an offset of a damaged list: a record that is kept and ends before `end`; or nothing, and one byte is skipped.
-#[derive(Drop)]
+#[derive(Clone, Copy)]
 enum Found {
     Record { end: usize },
     Nothing,
@@ -21,7 +23,7 @@ enum Found {
 
 // What salvage answers: its number (0, or 70 with all else zero), the records kept, the bytes skipped, the gaps, where the first 32 of them start, and how
 // many bytes of the buffer are the clean list.
-#[derive(Drop)]
+#[derive(Clone, Copy)]
 pub struct Salvaged {
     pub number: u8,
     pub kept: usize,

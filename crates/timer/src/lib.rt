@@ -1,6 +1,8 @@
 // The timer: sends a poll, or gives up. The core function takes a record by value; a thin call above it updates the record that the caller lends.
 // Promises: each number exactly when its rule says so, the next record and every byte of the buffer; a whole record stays whole.
 // Rule: RULES, part 10; definitions in specs/Timer.antt, number by number in specs/Numbers.antt.
+#![tactic(auto)]
+
 ghost use Rattle.std.specs.Prelude.{◌≡◌, cond, min};
 ghost use Rattle.cookiestash.specs.Handed.{handed_of};
 ghost use Rattle.timer_rules.specs.Poll.{timer_input};
@@ -12,7 +14,7 @@ use time_types::PollInterval;
 use timer_rules::{Decision, TimerAnswer, TimerInput};
 
 // What the timer returns: its answer, and the next record.
-#[derive(Drop)]
+#[derive(Clone, Copy)]
 pub struct TimerOut {
     pub answer: TimerAnswer,
     pub association: Association,
@@ -30,7 +32,7 @@ fn hand_out(slot: Slot, buffer: &mut [u8])
 {
     let cookie = slot.bytes;
     let n = least(cookiestash::stored_bytes(slot.len as usize), buffer.len());
-    bytes::copy(&cookie[0..n], buffer);
+    buffer[0..n].copy_from_slice(&cookie[0..n]);
 }
 
 // Carries out a decision: stores the next state and, if the decision takes a cookie, moves the oldest to the buffer.
@@ -88,7 +90,7 @@ pub fn timer_core(
 }
 
 // The timer. Updates the association that the caller lends.
-// promise: 10.1, 10.8, 10.9 (proved by a walk, over `timer_core`), no12.2
+// promise: 10.1, 10.8, 10.9 (over `timer_core`), no12.2
 pub fn timer(
     a: &mut Association,
     time: u64,

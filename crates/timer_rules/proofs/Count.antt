@@ -1,7 +1,7 @@
 -- How many cookies are asked for: what RULES says for every gap that a stash can have, what it comes to for a larger one; none exactly where the
 -- cookie that is taken is longer than 724 bytes, since the take leaves room for one.
 -- Assumes nothing.
-use mathlib.Core.Path.{◌≡◌, refl}
+use mathlib.Core.Path.{◌≡◌}
 use mathlib.Core.Logic.{◌↔◌}
 use Prim.Native.Nat.{ℕ, ◌+◌, ◌*◌, ◌/◌, ◌≤◌, ◌<◌, min, max}
 use native.Mathlib.Decide.{dec_le}

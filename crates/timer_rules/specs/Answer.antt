@@ -1,7 +1,7 @@
 -- The number in RULES for each answer of the timer, and the actions that follow from it.
 -- Assumes nothing.
 use Rattle.std.specs.Prelude.{◌≡◌, ◌||◌, cond, List, [], ◌∷◌, ℕ, eqb}
-use Rattle.association.specs.Actions.{Action, last_poll, send, updateSystem, set_timer, demobilize, reset}
+use Rattle.association.specs.Actions.{Action, last_poll, send, update_system, set_timer, demobilize, reset}
 use Rattle.timer_rules.specs.declared.TimerAnswer.{TimerAnswer}
 use Rattle.timer_rules.specs.declared.TimerAnswer.TheVariants.{Sent, Reset, Demobilize, NoCookie, CookieTooLarge, ShortBuffer, NotWhole}
 
@@ -19,14 +19,14 @@ number_of NotWhole = 32
 -- promise actions.2: Actions of the timer, number by number.
 abbrev pub actions_of : ℕ → List Action
 actions_of n =
-    cond (eqb n 20) (send ∷ updateSystem ∷ set_timer last_poll ∷ [])
+    cond (eqb n 20) (send ∷ update_system ∷ set_timer last_poll ∷ [])
     (cond (eqb n 22) (demobilize ∷ [])
     (cond (eqb n 21 || eqb n 23 || eqb n 24) (reset ∷ [])
     []))
 
 -- number by number
 pub record TimerActs (actions : ℕ → List Action) : Type 0 where
-  pub sent_20 : actions 20 ≡ send ∷ updateSystem ∷ set_timer last_poll ∷ []
+  pub sent_20 : actions 20 ≡ send ∷ update_system ∷ set_timer last_poll ∷ []
   pub reset_21 : actions 21 ≡ reset ∷ []
   pub demobilize_22 : actions 22 ≡ demobilize ∷ []
   pub reset_23 : actions 23 ≡ reset ∷ []

@@ -1,6 +1,8 @@
 // The rules of the timer, over the settings, the state and the summary of the stash. `timer` calls them.
 // Promises: the decision, with its answer and the next state, is the rule's, and the actions follow from its number.
 // Rule: RULES, part 10; definitions in specs/Decide.antt, clause by clause in specs/Poll.antt.
+#![tactic(auto)]
+
 ghost use Rattle.std.specs.Prelude.{◌≡◌, ◌+◌, ◌/◌, min, max};
 ghost use Rattle.timer_rules.specs.Answer.{number_of};
 ghost use Rattle.timer_rules.specs.Poll.{short_buffer, startup_over, polled, tried_of, asked_of, deadline_of, pending_of};
@@ -11,7 +13,7 @@ use cookiestash::{SLOT_BYTES, Seen};
 use time_types::PollInterval;
 use version::SendKind;
 
-#[derive(Drop)]
+#[derive(Clone, Copy)]
 pub enum TimerAnswer {
     // A poll is sent: its kind and poll exponent; with NTS the length of its cookie and how many new ones it asks for.
     Sent {
@@ -29,7 +31,7 @@ pub enum TimerAnswer {
 }
 
 // What the caller passes for a poll: the time, the desired poll exponent, and the identifiers.
-#[derive(Drop)]
+#[derive(Clone, Copy)]
 pub struct TimerInput {
     pub time: u64,
     pub desired: PollInterval,
@@ -38,7 +40,7 @@ pub struct TimerInput {
 }
 
 // What the timer decides: its answer, the next state, and whether the oldest cookie is taken.
-#[derive(Drop)]
+#[derive(Clone, Copy)]
 pub struct Decision {
     pub answer: TimerAnswer,
     pub state: State,

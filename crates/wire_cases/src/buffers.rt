@@ -4,6 +4,7 @@ use drill_text::keys::Values;
 use drill_text::names::send;
 use drill_text::value;
 use drill_text::value::{COLLECT_ROOM, REQUEST_ROOM, UID_BYTES};
+use std::io;
 use time_types::PollInterval;
 use version::SendKind;
 use wire_collector::Collected;
@@ -12,10 +13,10 @@ use wire_request::Requested;
 // What a buffer holds before it is lent, so that one can tell written bytes from others.
 const FILLER: u8 = 0xee;
 
-fn show(label: &[u8], number: u8, len: usize, buffer: &[u8]) {
-    say::number(label, number as u64);
-    say::number(b" len=", len as u64);
-    say::bytes(b" after=", buffer);
+fn show(to: &impl Print, label: &[u8], number: u8, len: usize, buffer: &[u8]) -> io::Result<()> {
+    say::number(to, label, number as u64)?;
+    say::number(to, b" len=", len as u64)?;
+    say::bytes(to, b" after=", buffer)
 }
 
 fn list_length(answer: Collected) -> usize {
@@ -26,16 +27,22 @@ fn list_length(answer: Collected) -> usize {
     }
 }
 
-fn collect_into(fields: &[u8], buffer: &mut [u8]) {
-    say::bytes(b"collect before=", buffer);
+fn collect_into(to: &impl Print, fields: &[u8], buffer: &mut [u8]) -> io::Result<()> {
+    say::bytes(to, b"collect before=", buffer)?;
     let answer = wire_collector::collect(fields, buffer);
-    show(b" number=", answer.number(), list_length(answer), buffer);
+    show(
+        to,
+        b" number=",
+        answer.number(),
+        list_length(answer),
+        buffer,
+    )
 }
 
-pub fn collect(fields: &[u8], room: u64) {
+pub fn collect(to: &impl Print, fields: &[u8], room: u64) -> io::Result<()> {
     let mut buffer = [FILLER; COLLECT_ROOM];
     let size = value::at_most(room, COLLECT_ROOM);
-    collect_into(fields, &mut buffer[0..size]);
+    collect_into(to, fields, &mut buffer[0..size])
 }
 
 fn kind_of(n: u64) -> SendKind {
@@ -57,7 +64,13 @@ fn packet_length(answer: Requested) -> usize {
     }
 }
 
-fn write(v: Values, uid: [u8; UID_BYTES], cookie: &[u8], buffer: &mut [u8]) {
+fn write(
+    to: &impl Print,
+    v: Values,
+    uid: [u8; UID_BYTES],
+    cookie: &[u8],
+    buffer: &mut [u8],
+) -> io::Result<()> {
     let poll = PollInterval(v.signed8(key::POLL));
     let answer = wire_request::write_request(
         kind_of(v.number(key::KIND)),
@@ -70,15 +83,16 @@ fn write(v: Values, uid: [u8; UID_BYTES], cookie: &[u8], buffer: &mut [u8]) {
         buffer,
     );
     show(
+        to,
         b"request number=",
         answer.number(),
         packet_length(answer),
         buffer,
-    );
+    )
 }
 
-pub fn request(v: Values, uid: [u8; UID_BYTES], cookie: &[u8]) {
+pub fn request(to: &impl Print, v: Values, uid: [u8; UID_BYTES], cookie: &[u8]) -> io::Result<()> {
     let mut buffer = [FILLER; REQUEST_ROOM];
     let size = value::at_most(v.number(key::ROOM), REQUEST_ROOM);
-    write(v, uid, cookie, &mut buffer[0..size]);
+    write(to, v, uid, cookie, &mut buffer[0..size])
 }

@@ -1,6 +1,8 @@
 // A program that answers cases of the wire format, one line for each line of its standard input; tools/wire_cases.py writes the cases and the answers.
 // Promises: it ends and stays in its bounds. What it prints is tested, not proved (docs/EXCEPTIONS.md).
 // Rule: RULES, parts 6 to 9 and No. 1.
+#![tactic(auto)]
+
 mod buffers;
 mod headers;
 mod say;
@@ -11,7 +13,8 @@ use drill_text::keys::Values;
 use drill_text::text::Found;
 use drill_text::value::{MAX_BYTES, UID_BYTES};
 use drill_text::{keys, text};
-use libc::STDIN_FILENO;
+use std::io;
+use std::io::Read;
 
 // All lines together must have fewer bytes than this.
 const INPUT_ROOM: usize = 131072;
@@ -96,27 +99,34 @@ fn command_of(line: &[u8]) -> usize {
 }
 
 // The bytes are a packet, decrypted fields or a cookie. The offset is also an authenticated end, or where a part starts.
-fn ask(line: &[u8], number: u64, v: Values, bytes: &[u8], uid: [u8; UID_BYTES]) {
+fn ask(
+    to: &impl Print,
+    line: &[u8],
+    number: u64,
+    v: Values,
+    bytes: &[u8],
+    uid: [u8; UID_BYTES],
+) -> io::Result<()> {
     let at = v.number(key::AT) as usize;
     match command_of(line) {
-        command::HEADER => headers::answer(bytes),
-        command::WALK => walks::packet(bytes, at),
-        command::DECRYPTED => walks::decrypted(bytes, at),
-        command::WALKER => walks::walker(bytes, at, v.number(key::LEN) as usize),
-        command::UID => uids::packet(bytes, uid, at),
-        command::ENCRYPTED => uids::show(b"encrypted ", wire_groups::decrypted_uid(bytes, uid)),
-        command::MATCH => uids::matching(v),
-        command::COLLECT => buffers::collect(bytes, v.number(key::ROOM)),
-        command::REQUEST => buffers::request(v, uid, bytes),
+        command::HEADER => headers::answer(to, bytes),
+        command::WALK => walks::packet(to, bytes, at),
+        command::DECRYPTED => walks::decrypted(to, bytes, at),
+        command::WALKER => walks::walker(to, bytes, at, v.number(key::LEN) as usize),
+        command::UID => uids::packet(to, bytes, uid, at),
+        command::ENCRYPTED => uids::show(to, b"encrypted ", wire_groups::decrypted_uid(bytes, uid)),
+        command::MATCH => uids::matching(to, v),
+        command::COLLECT => buffers::collect(to, bytes, v.number(key::ROOM)),
+        command::REQUEST => buffers::request(to, v, uid, bytes),
         _ => {
-            say::number(b"error ", number);
-            say::text(b" unknown command");
+            say::number(to, b"error ", number)?;
+            say::text(to, b" unknown command")
         }
     }
 }
 
 // The values of a line's keys. If they cannot be read the error is the answer.
-fn read(line: &[u8], number: u64) -> Values {
+fn read(to: &impl Print, line: &[u8], number: u64) -> io::Result<Values> {
     let mut out = [0u8; REFUSAL_ROOM];
     let v = keys::read(
         line,
@@ -125,61 +135,77 @@ fn read(line: &[u8], number: u64) -> Values {
           ntsn:y=no kind:e=v4 poll:b=0 id:x=0000000000000000 mark:x=0000000000000000 asked:u=0",
         &mut out,
     );
-    say::text(text::part(&out, 0, v.end));
-    v
+    say::text(to, text::part(&out, 0, v.end))?;
+    Ok(v)
 }
 
-fn answer(line: &[u8], number: u64) {
-    let v = read(line, number);
+fn answer(to: &impl Print, line: &[u8], number: u64) -> io::Result<()> {
+    let v = read(to, line, number)?;
     if v.refused {
-        return;
+        return Ok(());
     }
     let mut bytes = [0u8; MAX_BYTES];
     let given = v.bytes(key::BYTES, line, &mut bytes);
     let count = std::num::wrapping_add_usize(given, v.number(key::ZEROS) as usize);
     ask(
+        to,
         line,
         number,
         v,
         text::part(&bytes, 0, count),
         uids::identifier(v, line),
-    );
+    )
 }
 
 // A comment is repeated, so that each answer is in the line of its case.
-fn answer_line(line: &[u8], number: u64) {
+fn answer_line(to: &impl Print, line: &[u8], number: u64) -> io::Result<()> {
     if text::byte_at(line, 0) == b'#' {
-        say::text(line);
+        say::text(to, line)?;
     } else {
-        answer(line, number);
+        answer(to, line, number)?;
     }
-    say::text(b"\n");
+    say::text(to, b"\n")
 }
 
-fn answer_lines(input: &[u8]) {
+fn answer_lines(to: &impl Print, input: &[u8]) -> io::Result<()> {
     let mut at = 0;
     let mut number: u64 = 1;
     while at < input.len() {
         let end = text::find(input, at, b'\n', b'\n');
-        answer_line(text::part(input, at, end), number);
+        answer_line(to, text::part(input, at, end), number)?;
         if input.len() <= end {
-            return;
+            return Ok(());
         }
         at = end + 1;
         number = std::num::wrapping_add_u64(number, 1);
     }
+    Ok(())
 }
 
-fn answer_input(input: &mut [u8]) {
-    let count = io::read_full(STDIN_FILENO, input);
-    if input.len() <= count {
-        say::text(b"error 0 the input does not fit\n");
-        return;
+// Reads until the buffer is full, the input ends or a read fails, and returns how many bytes are there.
+fn read_full(from: &mut impl Read, out: &mut [u8]) -> usize {
+    let mut done = 0;
+    while done < out.len() {
+        let Ok(n) = from.read(&mut out[done..]) else {
+            return done;
+        };
+        if n == 0 {
+            return done;
+        }
+        done += n;
     }
-    answer_lines(text::part(input, 0, count));
+    done
 }
 
-fn main() {
+fn answer_input(from: &mut impl Read, to: &impl Print, input: &mut [u8]) -> io::Result<()> {
+    let count = read_full(from, input);
+    if input.len() <= count {
+        return say::text(to, b"error 0 the input does not fit\n");
+    }
+    answer_lines(to, text::part(input, 0, count))
+}
+
+fn main(rt: HostRuntime) -> io::Result<()> {
     let mut input = [0u8; INPUT_ROOM];
-    answer_input(&mut input);
+    answer_input(&mut rt.stdin(), &rt, &mut input)
 }

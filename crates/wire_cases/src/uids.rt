@@ -3,6 +3,7 @@ use crate::{key, say};
 use drill_text::keys::Values;
 use drill_text::names::{choice, uid};
 use drill_text::value::UID_BYTES;
+use std::io;
 use wire_groups::Uid;
 use wire_header::HEADER_BYTES;
 
@@ -12,25 +13,27 @@ pub fn identifier(v: Values, line: &[u8]) -> [u8; UID_BYTES] {
     uid
 }
 
-pub fn show(label: &[u8], group: Uid) {
-    say::text(label);
+pub fn show(to: &impl Print, label: &[u8], group: Uid) -> io::Result<()> {
+    say::text(to, label)?;
     match group {
-        Uid::Absent => say::text(b"absent"),
-        Uid::Agree => say::text(b"agree"),
-        Uid::Disagree => say::text(b"disagree"),
+        Uid::Absent => say::text(to, b"absent"),
+        Uid::Agree => say::text(to, b"agree"),
+        Uid::Disagree => say::text(to, b"disagree"),
     }
 }
 
 // What the groups before and after an authenticated end say.
-pub fn packet(packet: &[u8], uid: [u8; UID_BYTES], end: usize) {
+pub fn packet(to: &impl Print, packet: &[u8], uid: [u8; UID_BYTES], end: usize) -> io::Result<()> {
     show(
+        to,
         b"uid authenticated=",
         wire_groups::packet_uid(packet, HEADER_BYTES, end, uid),
-    );
+    )?;
     show(
+        to,
         b" untrusted=",
         wire_groups::packet_uid(packet, end, packet.len(), uid),
-    );
+    )
 }
 
 fn group_of(n: u64) -> Uid {
@@ -41,8 +44,9 @@ fn group_of(n: u64) -> Uid {
     }
 }
 
-pub fn matching(v: Values) {
+pub fn matching(to: &impl Print, v: Values) -> io::Result<()> {
     say::flag(
+        to,
         b"match ",
         wire_groups::uid_matches(
             group_of(v.number(key::AUTHENTICATED)),
@@ -50,5 +54,5 @@ pub fn matching(v: Values) {
             group_of(v.number(key::UNTRUSTED)),
             v.number(key::NTSN) == choice::YES,
         ),
-    );
+    )
 }

@@ -1,6 +1,8 @@
 // The cookies among decrypted fields, collected as a cookie list in a lent buffer.
 // Promises: the list is whole and has the cookies in order; nothing else in the buffer changes, and a rejected call changes nothing.
 // Rule: RULES, part 7; definitions in specs/Collector.antt.
+#![tactic(auto)]
+
 ghost use Rattle.std.specs.Prelude.{◌≡◌, length};
 ghost use Rattle.wire_collector.specs.Collector.{list_in, collect_of, buffer_of, number_of};
 
@@ -11,7 +13,7 @@ use wire_fields::{Step, Walked};
 pub const COOKIE_KIND: u16 = 0x0204;
 
 // The length of the list that was written, or why nothing was written.
-#[derive(Drop)]
+#[derive(Clone, Copy)]
 pub enum Collected {
     Done(usize),
     Broken,

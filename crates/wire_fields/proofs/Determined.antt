@@ -53,7 +53,7 @@ body_at_determined κs a y z e f p q = same_told _ _ _ y z p q
 pub first_determined : Determined first.Post
 first_determined κs a y z e f p q = p ∙ sym q
 
--- ---- the walker's methods, whose proofs are by hand
+-- ---- the walker's methods
 
 abbrev NewPost : (κs : Lfts 1) → ArgsD new.signature κs → ResD new.signature κs → AtExit new.ended κs → Type 0
 NewPost =

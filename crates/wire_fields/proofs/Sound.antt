@@ -166,7 +166,7 @@ end_listed n broken e = absurd (broken_ends n e)
 
 -- where a walk stops there is no other place
 pub no_place : (f : ℕ → Walk) (n at : ℕ) (s : Step) → NoField s → eqb at n ≡ false → place_in n (on_step f at s) ≡ false
-no_place f n at (Field kind start len next) h e = absurd (⊎_elim (λ e. omega arith) (λ e. omega arith) h)
+no_place f n at (Field kind start len next) h e = absurd (h kind start len next refl)
 no_place f n at End h e = e
 no_place f n at Broken h e = refl
 

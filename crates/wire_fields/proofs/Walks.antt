@@ -3,15 +3,12 @@
 use mathlib.Core.Path.{◌≡◌, refl, sym, ◌∙◌, ap}
 use mathlib.Core.Bool.{Bool, true, false, ◌&&◌, cond}
 use mathlib.Core.List.{List, []}
-use mathlib.Core.Logic.{◌⊎◌, ⊎_elim}
 use Prim.Native.Nat.{ℕ, zero, suc, ◌+◌, ◌-◌, ◌≤◌, ◌%◌}
 use native.Mathlib.Omega.{arith}
 use lib.Dec.{ltb, leb, eqb}
 use lib.ListN.{length}
-use denote.Enum.Declared.{tag_of}
 use borrow.Author.Tests.{ltb-false, leb-true, eqb-true}
 use Rattle.words.proofs.Tests.{both}
-use Rattle.wire_fields.specs.contracts.Step as S
 use Rattle.wire_fields.specs.Field.{kind_at, length_at, field_is, step_at}
 use Rattle.wire_fields.specs.Walk.{Walk, field, ends, broken, on_step, walk_n, walk_of, fields_of}
 use Rattle.wire_fields.specs.declared.Step.{Step}
@@ -115,18 +112,18 @@ walk_turn p at least tail h =
     ∙ after_step _ (λ next. walk_n (length p - next) p next least tail) p at least tail h
     (λ next a b. enough (length p - at) (length p - next) p next least tail h (omega arith) (omega arith)) (step_at p at least tail) refl
 
--- an answer that is not a field, by its tag
+-- an answer that is not a field
 abbrev pub NoField : Step → Type 0
-NoField s = (tag_of S.the_type s ≡ 1) ⊎ (tag_of S.the_type s ≡ 2)
+NoField s = (kind start len next : ℕ) → s ≡ Field kind start len next → ⊥
 
 -- after it nothing follows
 pub stops : (f g : ℕ → Walk) (at : ℕ) (s : Step) → NoField s → on_step f at s ≡ on_step g at s
-stops f g at (Field kind start len next) h = absurd (⊎_elim (λ e. omega arith) (λ e. omega arith) h)
+stops f g at (Field kind start len next) h = absurd (h kind start len next refl)
 stops f g at End h = refl
 stops f g at Broken h = refl
 
 pub no_fields : (f : ℕ → Walk) (at : ℕ) (s : Step) → NoField s → fields_of (on_step f at s) ≡ []
-no_fields f at (Field kind start len next) h = absurd (⊎_elim (λ e. omega arith) (λ e. omega arith) h)
+no_fields f at (Field kind start len next) h = absurd (h kind start len next refl)
 no_fields f at End h = refl
 no_fields f at Broken h = refl
 

@@ -1,6 +1,8 @@
 // Extension fields: what is at an offset, the walk over them, and its places. Module `walker` holds the caller's bytes and finds a field's body.
 // Promises: a walk's fields follow one another within the packet; it is rejected exactly if it meets something broken; a body is part of the packet itself.
 // Rule: RULES, part 7 (RFC 7822); definitions in specs/Field.antt and specs/Walk.antt, of the walker in specs/Walker.antt.
+#![tactic(auto)]
+
 pub mod walker;
 
 ghost use Rattle.std.specs.Prelude.{◌≡◌, ◌≤◌};
@@ -20,7 +22,7 @@ const DECRYPTED_LEAST: usize = 4;
 const DECRYPTED_TAIL: usize = 0;
 
 // What is at an offset: a field, whose body is `len` bytes from `start` and which ends at `next`; the end of the walk; or something broken.
-#[derive(Drop)]
+#[derive(Clone, Copy)]
 pub enum Step {
     Field {
         kind: u16,
@@ -83,7 +85,7 @@ pub fn decrypted_field_at(p: &[u8], at: usize) -> Step
 }
 
 // Where a walk ends, or that it is broken.
-#[derive(Drop)]
+#[derive(Clone, Copy)]
 pub enum Walked {
     Ends(usize),
     Broken,

@@ -1,5 +1,5 @@
 // A thin walker over a packet: it holds the caller's bytes and an offset, and calls the walk of `wire_fields`.
-// Promises: a field's body is that part of the packet itself, in the packet's own memory. Proved by hand.
+// Promises: a field's body is that part of the packet itself, in the packet's own memory.
 // Rule: RULES, part 7 and "What must change shape"; definitions in specs/Walker.antt.
 ghost use Rattle.std.specs.Prelude.{◌≡◌};
 ghost use Rattle.wire_fields.specs.Field.{packet_step};
@@ -24,7 +24,7 @@ pub fn body_at(p: &[u8], start: usize, len: usize) -> &[u8]
     }
 }
 
-#[derive(Drop)]
+#[derive(Clone, Copy)]
 pub struct Walker<'a> {
     pub packet: &'a [u8],
     pub at: usize,

@@ -1,6 +1,8 @@
 // What groups of fields say about the unique identifier, and when they match.
 // Promises: a group agrees, disagrees or is absent exactly as its fields do; an untrusted group counts only for NTSN.
 // Rule: RULES, part 8; definitions in specs/Matching.antt.
+#![tactic(auto)]
+
 ghost use Rattle.std.specs.Prelude.{◌≡◌, ◌&&◌, cond, ltb, leb, eqb};
 ghost use Rattle.wire_fields.specs.Field.{step_at};
 ghost use Rattle.wire_fields.specs.Walk.{walk_of, fields_of, between, bodies_of};
@@ -13,7 +15,7 @@ use wire_header::HEADER_BYTES;
 pub const UID_KIND: u16 = 0x0104;
 
 // A group of fields has no identifier, only identifiers that agree with the expected one, or one that does not.
-#[derive(Drop)]
+#[derive(Clone, Copy)]
 pub enum Uid {
     Absent,
     Agree,

@@ -1,6 +1,8 @@
 // The NTP header: 48 bytes, read from a packet and written by value, and the kiss that it may be.
 // Promises: reader and writer undo each other, and the reader rejects exactly what is too short or has another version.
 // Rule: RULES, parts 6 and 9; definitions in specs/Header.antt and specs/Kiss.antt.
+#![tactic(auto)]
+
 ghost use Rattle.std.specs.Prelude.{◌≡◌, ◌+◌, ◌≤◌, ◌<◌, length};
 ghost use Rattle.words.specs.Put.{laid_at};
 ghost use Rattle.words.specs.Bytes.{be, part, to_be};
@@ -13,13 +15,13 @@ use time_types::{NtpTimestamp, PollInterval};
 pub const HEADER_BYTES: usize = 48;
 
 // The versions whose header has this form.
-#[derive(Drop)]
+#[derive(Clone, Copy)]
 pub enum HeaderVersion {
     V3,
     V4,
 }
 
-#[derive(Drop)]
+#[derive(Clone, Copy)]
 pub enum Leap {
     NoWarning,
     Leap61,
@@ -27,7 +29,7 @@ pub enum Leap {
     Unsynchronized,
 }
 
-#[derive(Drop)]
+#[derive(Clone, Copy)]
 pub enum Mode {
     Reserved,
     SymmetricActive,
@@ -40,7 +42,7 @@ pub enum Mode {
 }
 
 // The root delay and the root dispersion are the raw 32 bits of the short format.
-#[derive(Drop)]
+#[derive(Clone, Copy)]
 pub struct Header {
     pub version: HeaderVersion,
     pub leap: Leap,
@@ -57,14 +59,14 @@ pub struct Header {
     pub transmit: NtpTimestamp,
 }
 
-#[derive(Drop)]
+#[derive(Clone, Copy)]
 pub enum HeaderRead {
     Decoded(Header),
     Undecodable,
 }
 
 // Whether a header is a kiss, and which of the names it has.
-#[derive(Drop)]
+#[derive(Clone, Copy)]
 pub struct Kisses {
     pub rate: bool,
     pub deny: bool,

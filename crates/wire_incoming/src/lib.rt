@@ -1,6 +1,8 @@
 // What a reply says, as one value, and how both of its forms are turned into it.
 // Promises: the byte form is rejected (1) exactly if its header, its authenticated end or, with NTS, its decrypted fields are not valid.
 // Rule: RULES, parts 6 to 9 and 11; definitions in specs/Incoming.antt.
+#![tactic(auto)]
+
 ghost use Rattle.std.specs.Prelude.{◌≡◌};
 ghost use Rattle.wire_incoming.specs.Incoming.{leap_printed, leap_of, is_server, is_response, end_valid, decrypted_valid};
 ghost use Rattle.wire_incoming.specs.Incoming.{group_of, encrypted_of, value_of, read_of, decoded_of};
@@ -12,7 +14,7 @@ use wire_groups::Uid;
 use wire_header::{HEADER_BYTES, Header, HeaderRead, HeaderVersion, Kisses, Leap, Mode};
 
 // The leap kinds of a measurement: a header's four, and Unknown, which only the decoded form can carry.
-#[derive(Drop)]
+#[derive(Clone, Copy)]
 pub enum NtpLeapIndicator {
     NoWarning,
     Leap61,
@@ -22,7 +24,7 @@ pub enum NtpLeapIndicator {
 }
 
 // What a reply says, in the terms in which it is judged.
-#[derive(Drop)]
+#[derive(Clone, Copy)]
 pub struct Reply {
     pub version: u8,
     pub leap: NtpLeapIndicator,
@@ -45,21 +47,21 @@ pub struct Reply {
     pub untrusted: Uid,
 }
 
-#[derive(Drop)]
+#[derive(Clone, Copy)]
 pub enum ReplyRead {
     Decoded(Reply),
     Undecodable,
 }
 
 // The mode of a V5 packet.
-#[derive(Drop)]
+#[derive(Clone, Copy)]
 pub enum DecodedMode {
     Request,
     Response,
 }
 
 // The decoded form of a reply, V5 only: what the caller reads from the packet.
-#[derive(Drop)]
+#[derive(Clone, Copy)]
 pub struct DecodedReply {
     pub leap: NtpLeapIndicator,
     pub mode: DecodedMode,

@@ -1,6 +1,8 @@
 // The request writer: the packet of a poll, up to where the caller's authenticator goes.
 // Promises: the packet byte by byte, and nothing else in the buffer changes; a rejected request writes nothing.
 // Rule: RULES, No. 1; definitions in specs/Request.antt, specs/Extension.antt and specs/Answer.antt.
+#![tactic(auto)]
+
 ghost use Rattle.std.specs.Prelude.{◌≡◌, true, ◌+◌, ◌*◌, ◌-◌, ◌≤◌, ◌<◌, length, replicate};
 ghost use Rattle.words.specs.Put.{laid_at};
 ghost use Rattle.wire_header.specs.Header.{bytes_of};
@@ -31,7 +33,7 @@ const IN_FRONT: usize = 84;
 const MAX_ASKED: u8 = 8;
 
 // The length of the packet that was written, or why nothing was written.
-#[derive(Drop)]
+#[derive(Clone, Copy)]
 pub enum Requested {
     Written(usize),
     VersionFive,

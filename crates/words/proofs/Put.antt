@@ -3,27 +3,23 @@
 use Prim.Native.Nat.{ℕ, ◌+◌, ◌-◌, ◌≤◌, ◌<◌}
 use mathlib.Core.Path.{◌≡◌, refl, sym, ap, subst, ◌∙◌}
 use mathlib.Core.Bool.{Bool, true, false}
-use mathlib.Core.List.{List, [], ◌++◌, append_assoc, append-nil}
+use mathlib.Core.List.{List, [], ◌++◌, append_assoc}
 use native.Mathlib.Nat.{zero-add}
 use native.Mathlib.Omega.{arith}
 use borrow.Author.Tests.{le-leb, lt-leb, leb-true, leb-false}
 use borrow.Rule.Slice.PartMut.{put_mid}
 use lib.Dec.{leb}
-use lib.ListN.{length, take, drop, length-append, length-drop, take-append-drop, drop_of_length-le}
-use lib.Seq.{take-add, take_at, take_all, drop_at, drop-drop, length-take-le, take-length}
+use lib.ListN.{length, take, drop, length-append, length-drop, take-append-drop}
+use lib.Seq.{take-add, take_at, drop_at, drop-drop, length-take-le}
 use Rattle.words.specs.Bytes.{to_be}
 use Rattle.words.specs.Put.{laid_at, Put, Laid, laid, lay_of, record_of}
 
--- what a copy into the buffer's end leaves
-pub put_is : (out piece ys : List ℕ) (at : ℕ) → at + length piece ≤ length out →
-    ys ≡ take (length piece) piece ++ drop (length piece) (take (length out - at) (drop at out))
-    → put_mid at (length out - at) out ys ≡ laid_at out at piece
+-- what a copy into a part of the buffer leaves
+pub put_is : (out piece ys : List ℕ) (at : ℕ) → ys ≡ piece → put_mid at (at + length piece - at) out ys ≡ laid_at out at piece
 unfolding laid_at
-put_is out piece ys at h e =
-    let k : drop (length out - at) (drop at out) ≡ [] = drop_of_length-le (drop at out) {i = length out - at} (simp length-drop (omega arith)) in
-    let a : take (length out - at) (drop at out) ≡ drop at out = take_all (length out - at) (drop at out) (simp length-drop (omega arith)) in
-    let y : ys ≡ piece ++ drop (at + length piece) out = e ∙ rw (a, take-length, drop-drop) in
-    rw (k, y) (simp (append_assoc, append-nil))
+put_is out piece ys at e =
+    let k : at + length piece - at ≡ length piece = omega arith in
+    rw (k, e, drop-drop) refl
 
 -- nothing put is nothing changed
 pub laid_none : (out : List ℕ) (at : ℕ) → laid_at out at [] ≡ out

@@ -1,7 +1,7 @@
 -- A record with any mark, a length and a body, at an offset of a file, is read back: its mark and its length there, its body behind them, and behind that
 -- what follows. And what is read there is, written again, what stands there.
 -- Assumes nothing.
-use Prim.Native.Nat.{ℕ, ◌+◌, ◌-◌, ◌≤◌, ◌<◌}
+use Prim.Native.Nat.{ℕ, ◌+◌, ◌≤◌, ◌<◌}
 use mathlib.Core.Path.{◌≡◌, refl, sym, ap, ◌∙◌}
 use mathlib.Core.List.{List, ◌++◌, append_assoc}
 use native.Mathlib.Nat.{mod-eq_of_lt}

@@ -1,0 +1,33 @@
+-- `settings_of` meets its contract: field by field, what each call ensures.
+-- Assumes nothing.
+use Prim.Native.Nat.{◌^◌}
+use mathlib.Core.Path.{ap, ◌∙◌}
+use mir.Syntax.{w8}
+use mir.Facts.{to_z-of_z}
+use Rattle.words.specs.Signed.{signed}
+use Rattle.identifiers.specs.Names.{named}
+use Rattle.time_types.specs.Poll.{interval}
+use Rattle.version.specs.Upgrade.{version}
+use Rattle.handover_groups.specs.Codes.{yes_of, kind_of}
+use Rattle.handover_groups.specs.Settings.{settings_of}
+use Rattle.handover_groups.proofs.settings_of.Goals as goal
+
+pub returns : goal.returns
+unfolding settings_of
+returns c =
+    let min = c.u8_as_i8 in
+    let max = c.u8_as_i8-2 in
+    let is-min = to_z-of_z {w = w8} (record { sfits = min.type_inv }) ∙ min.ensures ∙ ap (signed (2 ^ 7)) c.byte_at.ensures in
+    let is-max = to_z-of_z {w = w8} (record { sfits = max.type_inv }) ∙ max.ensures ∙ ap (signed (2 ^ 7)) c.byte_at-2.ensures in
+    let is-kind = c.kind_of-kind.ensures ∙ (λ i. kind_of (c.byte_at-3.ensures i) (c.byte_at-4.ensures i)) in
+    λ i. record {
+      min = interval (is-min i);
+      max = interval (is-max i);
+      startup = c.byte_at-startup.ensures i;
+      window = c.be64_at-window.ensures i;
+      upgrademark = c.be64_at-upgrademark.ensures i;
+      start = version (is-kind i);
+      nts = yes_of (c.byte_at-nts.ensures i);
+      source = named (c.be32_at.ensures i);
+      capacity = c.capacity_at-capacity.ensures i;
+    }

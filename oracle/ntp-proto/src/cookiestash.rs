@@ -1,1 +1,0 @@
-../../published/cookiestash.rs

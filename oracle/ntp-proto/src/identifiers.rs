@@ -1,1 +1,0 @@
-../../published/identifiers.rs

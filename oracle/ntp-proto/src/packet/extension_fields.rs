@@ -1,1 +1,0 @@
-../../../published/packet/extension_fields.rs

@@ -1,1 +1,0 @@
-../../../published/packet/mod.rs

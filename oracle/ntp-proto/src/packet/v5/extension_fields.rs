@@ -1,1 +1,0 @@
-../../../../published/packet/v5/extension_fields.rs

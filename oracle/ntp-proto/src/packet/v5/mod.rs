@@ -1,1 +1,0 @@
-../../../../published/packet/v5/mod.rs

@@ -1,1 +1,0 @@
-../../../../published/packet/v5/server_reference_id.rs
