@@ -11,12 +11,15 @@ VAL = r'(?:%[\w.]+|-?\d+|true|false)'
 PLACE = r'(?:%[\w.]+|@static\.\d+)'
 INT = r'i(?:1|8|16|32|64)'
 NAME = r'@(?:"[^"]+"|[\w.$]+)'
-# Two values that go together, out of a place or from one function of the module to another. A pointer goes with a number of 64 bits alone: only so the second
-# stands at the same byte where a pointer has four.
-PAIR = r'\{ (?:i(?:8|16|32|64), i(?:8|16|32|64)|ptr, i64|i64, ptr) \}'
+# Two values that go together, out of a place or from one function of the module to another. Before a number a pointer goes with one of 64 bits alone: only so the
+# number stands at the same byte where a pointer has four. Behind a number the pointer stands at byte 8, which `apart` keeps.
+PAIR = r'\{ (?:i(?:8|16|32|64), i(?:8|16|32|64)|ptr, i64|i(?:8|16|32|64), ptr) \}'
+NARROW = r'\{ i(?:8|16|32), ptr \}'  # of these a processor with pointers of four bytes would look for the pointer at byte 4
 EMPTY = re.compile(r'@static\.\d+ = private unnamed_addr constant \[0 x i8\] zeroinitializer, align 1\Z')  # where an empty run of bytes is
 MEMORY = ('llvm.memmove.p0.p0.i64', 'llvm.memcpy.p0.p0.i64', 'llvm.memset.p0.i64')
-ATTRIBUTES = {'nounwind', 'nocallback', 'nofree', 'nosync', 'willreturn', 'mustprogress', 'norecurse', 'memory(argmem: readwrite)', 'memory(argmem: write)'}
+TRAP = 'llvm.trap'  # where the proof says that nothing comes: before `unreachable` alone
+ATTRIBUTES = {'nounwind', 'nocallback', 'nofree', 'nosync', 'willreturn', 'mustprogress', 'norecurse', 'memory(argmem: readwrite)', 'memory(argmem: write)',
+              'alwaysinline', 'cold', 'noreturn', 'memory(inaccessiblemem: write)'}
 X86_64 = ('"probe-stack"="inline-asm"', '"stack-probe-size"="3072"', '"target-cpu"="x86-64"')
 
 ARITHMETIC = r'%s = \w+(?: nuw| nsw| exact| disjoint)* %s %s, %s' % (REG, INT, VAL, VAL)
@@ -31,9 +34,9 @@ FORMS = {
     'select': r'%s = select i1 %s, %s %s, %s %s' % (REG, VAL, INT, VAL, INT, VAL),
     'br': r'br (?:label %s|i1 %s, label %s, label %s)' % (REG, VAL, REG, REG),
     'switch': r'switch %s %s, label %s \[' % (INT, VAL, REG),
-    'ret': r'ret (?:void|%s %s|%s %s)' % (INT, VAL, PAIR, REG),
+    'ret': r'ret (?:void|%s %s|ptr %s|%s %s)' % (INT, VAL, PLACE, PAIR, REG),
     'unreachable': r'unreachable',
-    'call': r'(?:%s = )?call (?:void|%s|%s) (?P<name>%s)\((?P<arguments>.*)\)(?: #\d+)?' % (REG, INT, PAIR, NAME),
+    'call': r'(?:%s = )?call (?:void|%s|ptr|%s) (?P<name>%s)\((?P<arguments>.*)\)(?: #\d+)?' % (REG, INT, PAIR, NAME),
 }
 FORMS.update({word: ARITHMETIC for word in ('add', 'sub', 'mul', 'udiv', 'sdiv', 'urem', 'srem', 'shl', 'lshr', 'ashr', 'and', 'or', 'xor')})
 FORMS.update({word: CAST for word in ('zext', 'sext', 'trunc')})
@@ -94,7 +97,7 @@ def functions(text: str) -> List[Function]:
             if '"e-' not in line or '-i64:64-' not in line:
                 raise Refused('numbers do not lie as on a little-endian machine that aligns 64 bits to 8 bytes (%s)' % where)
         elif line.startswith('declare '):
-            if not any('@%s(' % name in line for name in MEMORY):
+            if not any('@%s(' % name in line for name in MEMORY + (TRAP,)):
                 raise Refused('a function that the module does not have and that is none of memory\'s (%s)' % where)
         elif line.startswith('attributes '):
             held = line[line.index('{') + 1:line.rindex('}')]
@@ -148,7 +151,7 @@ def held(function: Function, names: Dict[str, Function]) -> None:
     pointers: Set[str] = set()                          # places of one pointer
     used: Dict[str, Dict[Tuple[int, str], str]] = {}    # of each place the offsets that are read or written, and as what
     addresses = distances(function)
-    for raw in function.lines:
+    for row, raw in enumerate(function.lines):
         line = re.sub(r'\s*; (?:preds = .*|No predecessors!)\Z', '', raw).strip()
         if not line or re.match(r'[\w.]+:\Z', line) or CASE.match(line):
             continue
@@ -183,7 +186,9 @@ def held(function: Function, names: Dict[str, Function]) -> None:
                 continue
         if word == 'call':
             name = got.group('name')[1:].strip('"')
-            if name not in MEMORY and name not in names:
+            if name == TRAP and [after.strip() for after in function.lines[row + 1:row + 2]] != ['unreachable']:
+                refuse('a trap that is not where nothing comes', line)
+            if name not in MEMORY + (TRAP,) and name not in names:
                 refuse('a call of %s, which the module does not have' % name, line)
             for argument in pieces(got.group('arguments')):
                 if not ARGUMENT.match(argument):
@@ -259,6 +264,7 @@ class Module:
         """the text without what is x86-64's; the functions behind the exports have C names, raw_NAME, which no shared object shows"""
         text = re.sub(r'^target (?:datalayout|triple) = .*\n', '', self.text, flags=re.M)
         text = text.replace(' = ptrtoaddr ptr ', ' = ptrtoint ptr ')  # which fills up an address of four bytes by zeros
+        text = re.sub(r'^  (%s) = load (%s), ptr (%s), align (\d)[^\n]*$' % (REG, NARROW, REG), apart, text, flags=re.M)
         for attribute in X86_64:
             text = text.replace(' ' + attribute, '')
         text = re.sub(r'^(?:; Function Attrs:[^\n]*\n)?define (?!internal )[^\n]*\{\n.*?^\}\n', '', text, flags=re.M | re.S)
@@ -274,6 +280,16 @@ class Module:
             if times != 1 or quoted in text:
                 raise Refused('%s is called from within the module, or is there %d times' % (quoted, times))
         return text
+
+
+def apart(load: 're.Match[str]') -> str:
+    """a number and the pointer behind it, read one by one: the pointer at byte 8, where the module writes it, whatever a pointer's own alignment is"""
+    to, pair, at, align = load.groups()
+    (first, _), (second, byte) = parts(pair)
+    lines = ('%s.0 = load %s, ptr %s, align %s' % (to, first, at, align), '%s.at = getelementptr i8, ptr %s, i64 %d' % (to, at, byte),
+             '%s.1 = load %s, ptr %s.at, align %s' % (to, second, to, align), '%s.half = insertvalue %s poison, %s %s.0, 0' % (to, pair, first, to),
+             '%s = insertvalue %s %s.half, %s %s.1, 1' % (to, pair, to, second, to))
+    return '\n'.join('  ' + line for line in lines)
 
 
 def paired(text: str, name: str, quoted: str, found: 're.Match[str]') -> str:

@@ -11,8 +11,7 @@ use Rattle.version.specs.Upgrade.{upgrading}
 use Rattle.association.specs.declared.Settings.{Settings}
 use Rattle.association.specs.declared.NewOut.{NewOut}
 use Rattle.association.specs.Settings.{settings_valid}
-use Rattle.association.specs.Record.{blank_of}
-use Rattle.association.specs.New.{number_of, out, new_made, new_of}
+use Rattle.association.specs.New.{number_of, new_made, new_of}
 use Rattle.association.specs.Numbers as N
 use Rattle.association.specs.Numbers.{bad_settings, broken_list, retired, made}
 
@@ -55,7 +54,7 @@ module _ (s : Settings) (list : List ℕ) where
     λ g. ap (λ (o : NewOut). number_of o.answer) (only g.1) ∙ numbered g.1,
   )
 
-  -- 0 makes the association, and any other number rejects
+  -- 0 makes the association
   pub is_made : number_of (new_of s list).answer ≡ 0 → new_of s list ≡ new_made s list
   is_made = by given
     where
@@ -64,12 +63,3 @@ module _ (s : Settings) (list : List ℕ) where
       by (broken_list v b) e = absurd (omega arith)
       by (retired v b u) e = absurd (omega arith)
       by (made v b u) e = refl
-
-  pub is_rejected : (number_of (new_of s list).answer ≡ 0 → ⊥) → new_of s list ≡ out (new_of s list).answer blank_of
-  is_rejected = by given
-    where
-      by : {n : ℕ} {o : NewOut} → Given n o → (n ≡ 0 → ⊥) → o ≡ out o.answer blank_of
-      by (bad_settings v) h = refl
-      by (broken_list v b) h = refl
-      by (retired v b u) h = refl
-      by (made v b u) h = absurd (h refl)

@@ -1,6 +1,6 @@
 -- The call that makes an association: its answer, the number in RULES for it, and the record.
 -- Assumes nothing.
-use Rattle.std.specs.Prelude.{cond, List, ℕ}
+use Rattle.std.specs.Prelude.{cond, List, ℕ, Result, Ok, Err}
 use Rattle.cookielist.specs.List.{list_broken}
 use Rattle.cookiestash.specs.declared.Dropped.{Dropped}
 use Rattle.cookiestash.specs.StoreList.{store_list_of}
@@ -8,22 +8,22 @@ use Rattle.cookiestash.specs.Falling.{none_dropped, dropped_of}
 use Rattle.version.specs.Upgrade.{upgrading}
 use Rattle.association.specs.declared.Settings.{Settings}
 use Rattle.association.specs.declared.Association.{Association}
-use Rattle.association.specs.declared.NewAnswer.{NewAnswer}
-use Rattle.association.specs.declared.NewAnswer.TheVariants.{Made, BadSettings, BrokenList, Retired}
+use Rattle.association.specs.declared.NewRefusal.{NewRefusal}
+use Rattle.association.specs.declared.NewRefusal.TheVariants.{BadSettings, BrokenList, Retired}
 use Rattle.association.specs.declared.NewOut.{NewOut}
 use Rattle.association.specs.Settings.{settings_valid}
 use Rattle.association.specs.Record.{blank_of, fresh_of, with_stash}
 
 -- 0: association made; 30: settings outside the ranges; 33: broken cookie list (NTS only); 38: the start version is retired (RULES, No. 14)
 -- promise: whole.4
-abbrev pub number_of : NewAnswer → ℕ
-number_of Made = 0
-number_of BadSettings = 30
-number_of BrokenList = 33
-number_of Retired = 38
+abbrev pub number_of : Result (Unit {0}) NewRefusal → ℕ
+number_of (Ok made) = 0
+number_of (Err BadSettings) = 30
+number_of (Err BrokenList) = 33
+number_of (Err Retired) = 38
 
 -- an answer with which nothing is stored
-abbrev pub out : NewAnswer → Association → NewOut
+abbrev pub out : Result (Unit {0}) NewRefusal → Association → NewOut
 out r a = record { answer = r; dropped = none_dropped; association = a }
 
 -- with NTS it stores a first cookie list
@@ -38,7 +38,7 @@ first_dropped s list = cond s.nts (dropped_of s.capacity (fresh_of s).stash list
 
 -- promise: no5.5
 abbrev pub new_made : Settings → List ℕ → NewOut
-new_made s list = record { answer = Made; dropped = first_dropped s list; association = made_of s list }
+new_made s list = record { answer = Ok tt; dropped = first_dropped s list; association = made_of s list }
 
 -- in order 30, 33, 38; a rejected call leaves the blank record
 -- promise: whole.4, no14.1
@@ -46,8 +46,8 @@ unfoldable pub new_of : Settings → List ℕ → NewOut
 new_of s list =
     cond (settings_valid s)
     (cond (list_broken s.nts list)
-    (out BrokenList blank_of)
+    (out (Err BrokenList) blank_of)
     (cond (upgrading s.start.kind)
-    (out Retired blank_of)
+    (out (Err Retired) blank_of)
     (new_made s list)))
-    (out BadSettings blank_of)
+    (out (Err BadSettings) blank_of)

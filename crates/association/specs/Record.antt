@@ -57,7 +57,7 @@ blank_of =
 -- a new association has reach 0, tries 0, 8 unanswered polls (RULES, No. 8), stratum 16, reference identifier XNON, both poll values at min, nothing pending,
 -- no reply measured, no denial noted
 -- promise whole.4: `new` answers 30, 33 and 38 in this order. A rejection leaves the blank record.
---     edit: association/a_new_source_has_stratum_0
+--     edit: association/a_new_source_has_stratum_0, association/a_retired_start_is_a_bad_setting
 -- promise no8.2: The unanswered polls are 8 when new.
 -- promise: no3.1
 unfoldable pub fresh_of : Settings → Association

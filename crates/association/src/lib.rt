@@ -3,12 +3,14 @@
 // Rule: RULES, "Settings and a whole record", No. 5, No. 12 and No. 14; definitions in specs/Settings.antt, specs/Record.antt and specs/New.antt.
 #![tactic(auto)]
 
-ghost use Rattle.std.specs.Prelude.{◌≡◌, ◌&&◌, ◌||◌, eqb};
+ghost use Rattle.std.specs.Prelude.{◌≡◌, ◌&&◌, ◌||◌, eqb, Err};
+ghost use Rattle.std.proofs.Common.{rules};
 ghost use Rattle.words.specs.Bytes.{zeros};
-ghost use Rattle.association.specs.Settings.{within, limits_valid, settings_valid};
+ghost use Rattle.association.specs.Settings.{limits_valid, settings_valid};
 ghost use Rattle.association.specs.Record.{no_pending, effort_valid, versions_valid, pending_valid, whole_seen, whole_of, blank_of, fresh_of};
 ghost use Rattle.association.specs.New.{number_of, new_of};
 
+use answers::Refusal;
 use cookiestash::{CookieStash, Dropped, Seen};
 use identifiers::ReferenceId;
 use reach::Reach;
@@ -21,6 +23,7 @@ pub const MAX_POLL: i8 = 17;
 // The longest window that settings may have, in nanoseconds.
 pub const MAX_WINDOW: u64 = 60000000000;
 
+// Kept: `nts` is a setting of its own, and the others count whatever it says.
 #[derive(Clone, Copy)]
 pub struct Settings {
     // The limits of the poll exponent.
@@ -58,6 +61,7 @@ pub struct Polls {
 }
 
 // What the source last reported about itself, and whether it has denied service since.
+// Kept: `denial` is told beside the rest, which counts whatever it says.
 #[derive(Clone, Copy)]
 pub struct Source {
     pub stratum: u8,
@@ -66,6 +70,7 @@ pub struct Source {
 }
 
 // The pending request. If there is none, its numbers are zero.
+// Kept: a flag beside its numbers, since a record may break the rule that an absent request has zeros, and then it is not whole: an Option cannot say so.
 #[derive(Clone, Copy)]
 pub struct Pending {
     pub present: bool,
@@ -94,58 +99,59 @@ pub struct Association {
     pub state: State,
 }
 
-// Whether a number is between two bounds, both included.
-fn between(low: u64, x: u64, high: u64) -> bool
-    ensures { result ≡ within low x high }
-{
-    if low <= x { x <= high } else { false }
-}
-
-// Whether the poll limits are in order, and from 0 to the largest.
-fn limits_valid(min: i8, max: i8) -> bool
-    ensures { result ≡ limits_valid min max }
-{
-    if 0 <= min {
-        if min <= max { max <= MAX_POLL } else { false }
-    } else {
-        false
-    }
-}
-
 impl Settings {
+    // Whether the poll limits are in order, and from 0 to the largest.
+    fn limits_valid(self) -> bool
+        ensures { result ≡ limits_valid self.min.0 self.max.0 }
+    {
+        0 <= self.min.0 && self.min.0 <= self.max.0 && self.max.0 <= MAX_POLL
+    }
+
     // Whether the settings are within their ranges.
     // promise: whole.1, no12.1
+    #[tactic(auto, unfolding(crate::specs::Settings::settings_valid))]
     pub fn valid(self) -> bool
         ensures { result ≡ settings_valid self }
     {
-        let min = self.min;
-        let max = self.max;
-        if !limits_valid(min.0, max.0) {
-            return false;
+        self.limits_valid()
+            && (1..=8).contains(&self.startup)
+            && (1..=MAX_WINDOW).contains(&self.window)
+            && (1..=8).contains(&self.capacity)
+    }
+
+    // What `new` answers for these settings and a first list.
+    // promise: whole.4, no12.1, no14.1
+    #[tactic(auto, unfolding(crate::specs::New::new_of))]
+    pub fn tested(self, list: &[u8]) -> Result<(), NewRefusal>
+        ensures { result ≡ (new_of self list.now).answer }
+    {
+        if !self.valid() {
+            return Err(NewRefusal::BadSettings);
         }
-        if !between(1, self.startup as u64, 8) {
-            return false;
+        if cookielist::list_broken(self.nts, list) {
+            return Err(NewRefusal::BrokenList);
         }
-        if !between(1, self.window, MAX_WINDOW) {
-            return false;
+        if self.start.is_upgrading() {
+            return Err(NewRefusal::Retired);
         }
-        between(1, self.capacity as u64, 8)
+        Ok(())
     }
 }
 
 impl Effort {
     // Whether the number of unanswered polls is the one that the register implies.
     // promise: whole.2, no8.6
+    #[tactic(auto, unfolding(crate::specs::Record::effort_valid))]
     fn valid(self) -> bool
         ensures { result ≡ effort_valid self }
     {
-        let reach = self.reach;
-        self.unanswered == reach.unanswered_polls()
+        self.unanswered == self.reach.unanswered_polls()
     }
 }
 
 impl Pending {
     // No request is pending: one was answered, or none was sent.
+    #[tactic(auto, unfolding(crate::specs::Record::no_pending))]
     pub fn none(answered: bool) -> Pending
         ensures { result ≡ no_pending answered }
     {
@@ -157,6 +163,19 @@ impl Pending {
             answered,
         }
     }
+
+    // Whether a pending request is unanswered, and an absent one is zero. `zero` says whether its identifier is: one test serves this and `idle_valid`.
+    // promise: whole.2, no3.3
+    #[tactic(auto, unfolding(crate::specs::Record::pending_valid))]
+    fn valid(self, zero: bool) -> bool
+        requires { zero ≡ zeros self.uid }
+        ensures { result ≡ pending_valid self }
+    {
+        if self.present {
+            return !self.answered;
+        }
+        self.id == 0 && self.deadline == 0 && zero
+    }
 }
 
 // Whether an identifier is zero.
@@ -166,109 +185,68 @@ fn zero_uid(uid: [u8; 32]) -> bool
     words::zeros_from(&uid, 0)
 }
 
-// Whether a pending request is unanswered, and an absent one is zero. `zero` says whether its identifier is: one test serves this and `idle_valid`.
-// promise: whole.2, no3.3
-fn pending_valid(request: Pending, zero: bool) -> bool
-    requires { zero ≡ zeros request.uid }
-    ensures { result ≡ pending_valid request }
-{
-    if request.present {
-        return !request.answered;
-    }
-    if request.id != 0 {
-        return false;
-    }
-    if request.deadline != 0 {
-        return false;
-    }
-    zero
-}
-
 // Whether what only NTS uses is zero if there is no NTS: the reading place, the count, and the identifier. `zero` says whether the identifier is zero.
 fn idle_valid(nts: bool, read: usize, held: usize, zero: bool) -> bool
     ensures { result ≡ (nts || (eqb read 0 && (eqb held 0 && zero))) }
 {
-    if nts {
-        return true;
-    }
-    if read != 0 {
-        return false;
-    }
-    if held != 0 {
-        return false;
-    }
-    zero
+    nts || (read == 0 && held == 0 && zero)
 }
 
 // Whether neither the start version nor the version is of the retired kind.
+#[tactic(auto, unfolding(crate::specs::Record::versions_valid))]
 fn versions_valid(start: Version, spoken: Version) -> bool
     ensures { result ≡ versions_valid start spoken }
 {
-    if start.is_upgrading() {
-        return false;
-    }
-    !spoken.is_upgrading()
+    !start.is_upgrading() && !spoken.is_upgrading()
 }
 
 impl State {
     // The state of a new association.
+    #[tactic(auto, unfolding(crate::specs::Record::fresh_of))]
     pub fn fresh(settings: Settings) -> State
         ensures { result ≡ (fresh_of settings).state }
     {
-        let version = settings.start;
-        let min = settings.min;
-        let request = Pending::none(false);
         State {
             effort: Effort {
                 reach: Reach::never(),
                 tries: 0,
                 unanswered: 8,
             },
-            version,
+            version: settings.start,
             polls: Polls {
-                last: min,
-                remote: min,
+                last: settings.min,
+                remote: settings.min,
             },
             source: Source {
                 stratum: 16,
                 refid: ReferenceId::NONE,
                 denial: false,
             },
-            request,
+            request: Pending::none(false),
         }
     }
 }
 
 // Whether a record is whole, given its settings, the summary of its stash, and its state.
+// Kept: settings, summary and state apart, as the definition `whole_seen` has them. No caller has the three as one value: the summary is made for the call.
 // promise: whole.2, no8.6, no14.3 (and by it every call)
+#[tactic(auto, unfolding(crate::specs::Record::whole_seen, crate::specs::Record::idle_valid))]
 pub fn whole_seen(settings: Settings, seen: Seen, state: State) -> bool
     ensures { result ≡ whole_seen settings seen state }
 {
-    if !settings.valid() {
-        return false;
-    }
-    if !seen.whole {
-        return false;
-    }
-    let effort = state.effort;
-    if !effort.valid() {
-        return false;
-    }
-    if !versions_valid(settings.start, state.version) {
-        return false;
-    }
-    let request = state.request;
-    let uid = request.uid;
-    let zero = zero_uid(uid);
-    if !pending_valid(request, zero) {
-        return false;
-    }
-    idle_valid(settings.nts, seen.read, seen.held, zero)
+    let zero = zero_uid(state.request.uid);
+    settings.valid()
+        && seen.whole
+        && state.effort.valid()
+        && versions_valid(settings.start, state.version)
+        && state.request.valid(zero)
+        && idle_valid(settings.nts, seen.read, seen.held, zero)
 }
 
 impl Association {
     // The blank record: all zero, V4.
     // promise: whole.4
+    #[tactic(auto, unfolding(crate::specs::Record::blank_of))]
     pub fn blank() -> Association
         ensures { result ≡ blank_of }
     {
@@ -276,8 +254,6 @@ impl Association {
         let version = Version {
             kind: ProtocolVersion::V4,
         };
-        let stash = CookieStash::new();
-        let request = Pending::none(false);
         Association {
             settings: Settings {
                 min: zero,
@@ -290,10 +266,10 @@ impl Association {
                 source: ReferenceId(0),
                 capacity: 0,
             },
-            stash,
+            stash: CookieStash::new(),
             state: State {
                 effort: Effort {
-                    reach: Reach(0),
+                    reach: Reach::never(),
                     tries: 0,
                     unanswered: 0,
                 },
@@ -307,114 +283,94 @@ impl Association {
                     refid: ReferenceId(0),
                     denial: false,
                 },
-                request,
+                request: Pending::none(false),
             },
         }
     }
 
     // promise: whole.2, no12.3
+    #[tactic(auto, unfolding(crate::specs::Record::whole_of))]
     pub fn whole(self) -> bool
         ensures { result ≡ whole_of self }
     {
-        let settings = self.settings;
-        let stash = self.stash;
-        let state = self.state;
-        whole_seen(settings, stash.seen(settings.capacity), state)
+        let seen = self.stash.seen(self.settings.capacity);
+        whole_seen(self.settings, seen, self.state)
     }
 
     // A new association with its settings, before it has a cookie.
+    #[tactic(auto, unfolding(crate::specs::Record::fresh_of))]
     fn fresh(settings: Settings) -> Association
         ensures { result ≡ fresh_of settings }
     {
-        let stash = CookieStash::new();
-        let state = State::fresh(settings);
         Association {
             settings,
-            stash,
-            state,
+            stash: CookieStash::new(),
+            state: State::fresh(settings),
         }
     }
 
     // Makes an association. With NTS it stores a first cookie list, and reports what fell out.
     // promise: whole.4, no5.5, no12.1, no12.2, no14.1
+    #[tactic(auto, unfolding(crate::specs::New::new_of, crate::specs::New::made_of, crate::specs::New::first_dropped))]
     pub fn new(settings: Settings, list: &[u8]) -> NewOut
         ensures { result ≡ new_of settings list.now }
     {
-        let none = Dropped::none();
-        let answer = NewAnswer::tested(settings, list);
-        if answer.number() != 0 {
-            let blank = Association::blank();
+        let answer = settings.tested(list);
+        if answer.is_err() {
             return NewOut {
                 answer,
-                dropped: none,
-                association: blank,
+                dropped: Dropped::none(),
+                association: Association::blank(),
             };
         }
-        let mut made = Association::fresh(settings);
-        if settings.nts {
-            let empty = made.stash;
-            let stored = empty.store_list(settings.capacity, list);
-            let stash = stored.stash;
-            made.stash = stash;
-            let dropped = stored.dropped;
+        let fresh = Association::fresh(settings);
+        if !settings.nts {
             return NewOut {
                 answer,
-                dropped,
-                association: made,
+                dropped: Dropped::none(),
+                association: fresh,
             };
         }
+        let stored = fresh.stash.store_list(settings.capacity, list);
         NewOut {
             answer,
-            dropped: none,
-            association: made,
+            dropped: stored.dropped,
+            association: Association {
+                stash: stored.stash,
+                ..fresh
+            },
         }
     }
 }
 
-#[derive(Clone, Copy)]
-pub enum NewAnswer {
-    Made,
+// Why no association is made.
+#[derive(Clone, Copy, Debug, PartialEq, Eq)]
+pub enum NewRefusal {
     BadSettings,
     BrokenList,
+    // The start version is of the retired kind.
     Retired,
 }
 
-impl NewAnswer {
-    // What `new` answers for settings and first list.
-    // promise: whole.4, no12.1, no14.1
-    pub fn tested(settings: Settings, list: &[u8]) -> NewAnswer
-        ensures { result ≡ (new_of settings list.now).answer }
-    {
-        if !settings.valid() {
-            return NewAnswer::BadSettings;
-        }
-        if cookielist::list_broken(settings.nts, list) {
-            return NewAnswer::BrokenList;
-        }
-        let start = settings.start;
-        if start.is_upgrading() {
-            return NewAnswer::Retired;
-        }
-        NewAnswer::Made
-    }
+impl Refusal for NewRefusal {
+    ghost number_of = { λ e. number_of (Err e) };
 
     // promise: whole.4
-    pub fn number(self) -> u8
-        ensures { result ≡ number_of self }
-    {
+    fn number(self) -> u8 {
         match self {
-            NewAnswer::Made => 0,
-            NewAnswer::BadSettings => 30,
-            NewAnswer::BrokenList => 33,
-            NewAnswer::Retired => 38,
+            NewRefusal::BadSettings => 30,
+            NewRefusal::BrokenList => 33,
+            NewRefusal::Retired => 38,
         }
     }
+
+    ghost never_zero = { Prim.search rules };
 }
 
 // What `new` returns: its answer, what fell out while the first list was stored, and the association, which is blank if it was rejected.
 #[derive(Clone, Copy)]
 pub struct NewOut {
-    pub answer: NewAnswer,
+    pub answer: Result<(), NewRefusal>,
     pub dropped: Dropped,
     pub association: Association,
 }

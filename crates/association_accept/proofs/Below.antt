@@ -1,7 +1,7 @@
 -- RULES, No. 2: below stratum 2 acceptance is the crate's, whatever the source reports; and an identifier is looked for by its place in the list.
 -- Assumes nothing.
 use mathlib.Core.Path.{◌≡◌, refl}
-use mathlib.Core.Bool.{Bool, true, false, ◌||◌}
+use mathlib.Core.Bool.{Bool, true, false}
 use mathlib.Core.List.{List, [], ◌∷◌}
 use mathlib.Core.Logic.{◌↔◌}
 use Prim.Native.Nat.{ℕ, zero, suc, ◌≤◌, ◌<◌}
@@ -12,7 +12,8 @@ use lib.ListN.{length, get_or}
 use Rattle.words.proofs.Tests.{fails}
 use Rattle.association.specs.declared.Association.{Association}
 use Rattle.association_accept.specs.declared.Bloom.{Bloom}
-use Rattle.association_accept.specs.declared.AcceptAnswer.TheVariants.{Accepted}
+use Rattle.std.specs.Prelude.{Ok}
+use Rattle.std.proofs.lemmas.Bool.{or_right}
 use Rattle.association_accept.specs.Accept.{among, accept_of, crate_accept_of}
 use Rattle.association_accept.proofs.Crate.{as_the_crate, never_accepted}
 
@@ -35,14 +36,10 @@ stands id (x ∷ l) e = by (eqb x id) refl (stands id l)
     by true f later = record { place = 0; within = omega arith; there = eqb-true x id f }
     by false f later = let s = later (rw f at e) in record { place = suc s.place; within = omega (arith, s.within); there = s.there }
 
-or_right : (t : Bool) {u : Bool} → u ≡ true → (t || u) ≡ true
-or_right true e = refl
-or_right false e = e
-
 found : (id : ℕ) (l : List ℕ) (k : ℕ) → k < length l → get_or l k 0 ≡ id → among id l ≡ true
 found id [] k h e = absurd (omega arith)
 found id (x ∷ l) zero h e = rw (eq-eqb x id e)
-found id (x ∷ l) (suc k) h e = or_right (eqb x id) (found id l k (omega arith) e)
+found id (x ∷ l) (suc k) h e = or_right (eqb x id) _ (found id l k (omega arith) e)
 
 -- promise: no2.1 (an identifier is among ours exactly if it is at a place of the list)
 pub among_stands : (id : ℕ) (l : List ℕ) → (among id l ≡ true) ↔ Stands id l
@@ -51,5 +48,5 @@ among_stands id l = (stands id l, λ s. found id l s.place s.within s.there)
 -- from stratum 2 up a source that reports an identifier of the list is not accepted
 pub reported_refused : (a : Association) (stratum : ℕ) (local : List ℕ) (bloom : Bloom) → 2 ≤ a.state.source.stratum →
     Stands a.state.source.refid.0 local →
-    accept_of a stratum local bloom ≡ Accepted → ⊥
+    accept_of a stratum local bloom ≡ Ok tt → ⊥
 reported_refused a stratum local bloom h s = never_accepted a stratum local bloom (record { far = h; reported = (among_stands _ local).1 s })

@@ -2,7 +2,7 @@
 -- Assumes nothing.
 use mathlib.Core.Path.{◌∙◌, sym}
 use Rattle.words.specs.Determined.{Determined}
-use Rattle.association_accept.proofs.AcceptAnswer.number.Reads as number
+use Rattle.association_accept.proofs.AcceptRefusalRefusal.number.Reads as number
 use Rattle.association_accept.proofs.accept_seen.Reads as accept-seen
 use Rattle.association_accept.proofs.accept.Reads as accept
 

@@ -11,22 +11,19 @@ use Rattle.reach.specs.Register.{reachable_of}
 use Rattle.association.specs.declared.Association.{Association}
 use Rattle.association.specs.Record.{whole_of}
 use Rattle.association_accept.specs.declared.Bloom.{Bloom}
-use Rattle.association_accept.specs.declared.AcceptAnswer.{AcceptAnswer}
-use Rattle.association_accept.specs.declared.AcceptAnswer.TheVariants.{Loop}
+use Rattle.std.specs.Prelude.{Result, Err}
+use Rattle.std.proofs.lemmas.Bool.{or_right}
+use Rattle.association_accept.specs.declared.AcceptRefusal.{AcceptRefusal}
+use Rattle.association_accept.specs.declared.AcceptRefusal.TheVariants.{Loop}
 use Rattle.association_accept.specs.Accept.{number_of, is_present, is_ours, served_by_us, loops, accept_seen, accept_of}
 use Rattle.association_accept.specs.Numbers as N
 use Rattle.association_accept.specs.Numbers.{not_whole, too_high, ours, served_by_us_lem, in_the_filter, unreached, accepted}
 
--- a later test that hits is enough
-pub or_right : (t : Bool) {u : Bool} → u ≡ true → (t || u) ≡ true
-or_right true e = refl
-or_right false e = e
-
 module _ (a : Association) (stratum : ℕ) (local : List ℕ) (bloom : Bloom) where
-  abbrev Given : ℕ → AcceptAnswer → Type 0
+  abbrev Given : ℕ → Result (Unit {0}) AcceptRefusal → Type 0
   Given = N.Given a stratum local bloom
 
-  abbrev Told : AcceptAnswer → Type 0
+  abbrev Told : Result (Unit {0}) AcceptRefusal → Type 0
   Told r = Given (number_of r) r
 
   abbrev ourself : Bool
@@ -39,7 +36,7 @@ module _ (a : Association) (stratum : ℕ) (local : List ℕ) (bloom : Bloom) wh
   looping = loops a.state.source.stratum a.settings.source.0 a.state.source.refid.0 local bloom
 
   -- the first of the three tests that hits
-  by_test : N.Below a stratum local bloom → (o s p : Bool) → ourself ≡ o → served_back ≡ s → is_present bloom ≡ p → ((o || s) || p) ≡ true → Told Loop
+  by_test : N.Below a stratum local bloom → (o s p : Bool) → ourself ≡ o → served_back ≡ s → is_present bloom ≡ p → ((o || s) || p) ≡ true → Told (Err Loop)
   by_test b true s p eo es ep l = ours b eo
   by_test b false true p eo es ep l = served_by_us_lem b es
   by_test b false false p eo es ep l = in_the_filter b (ep ∙ l)
@@ -59,17 +56,17 @@ module _ (a : Association) (stratum : ℕ) (local : List ℕ) (bloom : Bloom) wh
 
   -- where a number's rule holds, that rule's answer is given
   -- promise: 12.1
-  pub only : {n : ℕ} {r : AcceptAnswer} → Given n r → accept_of a stratum local bloom ≡ r
+  pub only : {n : ℕ} {r : Result (Unit {0}) AcceptRefusal} → Given n r → accept_of a stratum local bloom ≡ r
   unfolding accept_seen whole_of
   only (not_whole w) = rw w
   only (too_high w s) = rw (w, s)
   only (ours b l) = rw (b.whole, b.below, l)
-  only (served_by_us_lem b l) = rw (b.whole, b.below, or_true (is_present bloom) (or_right ourself l))
-  only (in_the_filter b l) = rw (b.whole, b.below, or_right (ourself || served_back) l)
+  only (served_by_us_lem b l) = rw (b.whole, b.below, or_true (is_present bloom) (or_right ourself _ l))
+  only (in_the_filter b l) = rw (b.whole, b.below, or_right (ourself || served_back) _ l)
   only (unreached u e) = rw (u.below.whole, u.below.below, u.free, e)
   only (accepted u e) = rw (u.below.whole, u.below.below, u.free, e)
 
-  numbered : {n : ℕ} {r : AcceptAnswer} → Given n r → number_of r ≡ n
+  numbered : {n : ℕ} {r : Result (Unit {0}) AcceptRefusal} → Given n r → number_of r ≡ n
   numbered (not_whole w) = refl
   numbered (too_high w s) = refl
   numbered (ours b l) = refl
@@ -80,7 +77,7 @@ module _ (a : Association) (stratum : ℕ) (local : List ℕ) (bloom : Bloom) wh
 
   -- so a number is given if and only if its rule holds
   -- promise: 12.1, 12.2 (at 41)
-  pub number : (n : ℕ) → (number_of (accept_of a stratum local bloom) ≡ n) ↔ ((r : AcceptAnswer) × Given n r)
+  pub number : (n : ℕ) → (number_of (accept_of a stratum local bloom) ≡ n) ↔ ((r : Result (Unit {0}) AcceptRefusal) × Given n r)
   number n = (
     λ e. (accept_of a stratum local bloom, subst (λ (k : ℕ). Given k (accept_of a stratum local bloom)) e given),
     λ g. ap number_of (only g.1) ∙ numbered g.1,

@@ -1,6 +1,6 @@
 -- RULES, part 12: acceptance, in order 32, 40, 41, 42, 0.
 -- Assumes nothing.
-use Rattle.std.specs.Prelude.{Bool, true, false, not, ◌&&◌, ◌||◌, cond, List, [], ◌∷◌, ℕ, leb, eqb}
+use Rattle.std.specs.Prelude.{Bool, true, false, not, ◌&&◌, ◌||◌, cond, List, [], ◌∷◌, ℕ, leb, eqb, Result, Ok, Err}
 use Rattle.reach.specs.Register.{reachable_of}
 use Rattle.cookiestash.specs.declared.Seen.{Seen}
 use Rattle.cookiestash.specs.Whole.{seen_of}
@@ -10,16 +10,16 @@ use Rattle.association.specs.declared.Association.{Association}
 use Rattle.association.specs.Record.{whole_seen}
 use Rattle.association_accept.specs.declared.Bloom.{Bloom}
 use Rattle.association_accept.specs.declared.Bloom.TheVariants.{NoFilter, Absent, Present}
-use Rattle.association_accept.specs.declared.AcceptAnswer.{AcceptAnswer}
-use Rattle.association_accept.specs.declared.AcceptAnswer.TheVariants.{Accepted, Stratum, Loop, Unreachable, NotWhole}
+use Rattle.association_accept.specs.declared.AcceptRefusal.{AcceptRefusal}
+use Rattle.association_accept.specs.declared.AcceptRefusal.TheVariants.{Stratum, Loop, Unreachable, NotWhole}
 
 -- 0 accepted; 40 stratum; 41 loop; 42 unreachable; 32 record not whole
-abbrev pub number_of : AcceptAnswer → ℕ
-number_of Accepted = 0
-number_of Stratum = 40
-number_of Loop = 41
-number_of Unreachable = 42
-number_of NotWhole = 32
+abbrev pub number_of : Result (Unit {0}) AcceptRefusal → ℕ
+number_of (Ok accepted) = 0
+number_of (Err Stratum) = 40
+number_of (Err Loop) = 41
+number_of (Err Unreachable) = 42
+number_of (Err NotWhole) = 32
 
 -- an identifier is in a list
 abbrev pub among : ℕ → List ℕ → Bool
@@ -55,19 +55,19 @@ loops stratum id refid local bloom = (is_ours stratum id local || served_by_us s
 -- 40 if stratum ≥ local stratum; 41 for a loop; 42 if reach is 0
 -- promise 12.1: The order of acceptance is 32, 40, 41, 42, 0. Each number is given exactly under its rule.
 --     edit: association_accept/unreachable_is_accepted
-abbrev pub accept_by : Bool → Settings → State → Seen → ℕ → AcceptAnswer
+abbrev pub accept_by : Bool → Settings → State → Seen → ℕ → Result (Unit {0}) AcceptRefusal
 accept_by loop g s v stratum =
     cond (whole_seen g v s)
-    (cond (leb stratum s.source.stratum) Stratum
-    (cond loop Loop
-    (cond (reachable_of s.effort.reach) Accepted Unreachable)))
-    NotWhole
+    (cond (leb stratum s.source.stratum) (Err Stratum)
+    (cond loop (Err Loop)
+    (cond (reachable_of s.effort.reach) (Ok tt) (Err Unreachable))))
+    (Err NotWhole)
 
-unfoldable pub accept_seen : Settings → State → Seen → ℕ → List ℕ → Bloom → AcceptAnswer
+unfoldable pub accept_seen : Settings → State → Seen → ℕ → List ℕ → Bloom → Result (Unit {0}) AcceptRefusal
 accept_seen g s v stratum local bloom = accept_by (loops s.source.stratum g.source.0 s.source.refid.0 local bloom) g s v stratum
 
 -- promise: 12.1, no2.1
-abbrev pub accept_of : Association → ℕ → List ℕ → Bloom → AcceptAnswer
+abbrev pub accept_of : Association → ℕ → List ℕ → Bloom → Result (Unit {0}) AcceptRefusal
 accept_of a stratum local bloom = accept_seen a.settings a.state (seen_of a.settings.capacity a.stash) stratum local bloom
 
 -- the crate's rule, which does not look at what the source reports; only theorems cite it (docs/DIFFERENCES.md)
@@ -76,7 +76,7 @@ crate_loops stratum id local bloom = is_ours stratum id local || is_present bloo
 
 -- promise no2.4: By the crate's rule two connectors that serve each other accept each other, if nothing else prevents it.
 -- promise: no2.1
-unfoldable pub crate_accept_of : Association → ℕ → List ℕ → Bloom → AcceptAnswer
+unfoldable pub crate_accept_of : Association → ℕ → List ℕ → Bloom → Result (Unit {0}) AcceptRefusal
 crate_accept_of a stratum local bloom =
     accept_by (crate_loops a.state.source.stratum a.settings.source.0 local bloom) a.settings a.state
     (seen_of a.settings.capacity a.stash) stratum

@@ -3,104 +3,77 @@
 // Rule: RULES, part 12; definitions in specs/Accept.antt, number by number in specs/Numbers.antt.
 #![tactic(auto)]
 
-ghost use Rattle.std.specs.Prelude.{◌≡◌};
-ghost use Rattle.association_accept.specs.Accept.{among, is_present, is_ours, served_by_us, loops, number_of, accept_seen, accept_of};
+ghost use Rattle.std.specs.Prelude.{◌≡◌, Err};
+ghost use Rattle.std.proofs.Common.{rules};
+ghost use Rattle.association_accept.specs.Accept.{is_ours, served_by_us, loops, number_of, accept_seen, accept_of};
 
-use association::{Association, Settings, State};
+use answers::Refusal;
+use association::{Association, Settings, Source, State};
 use cookiestash::Seen;
+use identifiers::ReferenceId;
 
 // What the caller's Bloom filter says about us: there is no filter, we are absent from it, or we are present in it.
-#[derive(Clone, Copy)]
+#[derive(Clone, Copy, Debug, PartialEq, Eq)]
 pub enum Bloom {
     NoFilter,
     Absent,
     Present,
 }
 
-#[derive(Clone, Copy)]
-pub enum AcceptAnswer {
-    Accepted,
+// Why the source is not accepted.
+#[derive(Clone, Copy, Debug, PartialEq, Eq)]
+pub enum AcceptRefusal {
     Stratum,
     Loop,
     Unreachable,
     NotWhole,
 }
 
-impl AcceptAnswer {
+impl Refusal for AcceptRefusal {
+    ghost number_of = { λ refusal. number_of (Err refusal) };
+
     // promise: 12.1
-    pub fn number(self) -> u8
-        ensures { result ≡ number_of self }
-    {
+    fn number(self) -> u8 {
         match self {
-            AcceptAnswer::Accepted => 0,
-            AcceptAnswer::Stratum => 40,
-            AcceptAnswer::Loop => 41,
-            AcceptAnswer::Unreachable => 42,
-            AcceptAnswer::NotWhole => 32,
+            AcceptRefusal::Stratum => 40,
+            AcceptRefusal::Loop => 41,
+            AcceptRefusal::Unreachable => 42,
+            AcceptRefusal::NotWhole => 32,
         }
     }
-}
 
-// Whether an identifier is in a list.
-fn is_among(id: u32, list: &[u32]) -> bool
-    ensures { result ≡ among id list.now }
-{
-    let mut i: usize = 0;
-    while i < list.len() {
-        if list[i] == id {
-            return true;
-        }
-        i += 1;
-    }
-    false
-}
-
-fn is_present(bloom: Bloom) -> bool
-    ensures { result ≡ is_present bloom }
-{
-    match bloom {
-        Bloom::NoFilter => false,
-        Bloom::Absent => false,
-        Bloom::Present => true,
-    }
+    ghost never_zero = { Prim.search rules };
 }
 
 // Whether the source's identifier is one of ours. A source of stratum 1 has its own clock, so its identifier is not compared.
+#[tactic(auto, using(crate::proofs::Among::contains_is))]
 fn is_ours(stratum: u8, id: u32, local: &[u32]) -> bool
     ensures { result ≡ is_ours stratum id local.now }
 {
-    if stratum != 1 {
-        is_among(id, local)
-    } else {
-        false
-    }
+    stratum != 1 && local.contains(&id)
 }
 
 // Whether the source reports that it gets its time from us. Below stratum 2 it reports a name, not an address.
+#[tactic(auto, using(crate::proofs::Among::contains_is))]
 fn served_by_us(stratum: u8, refid: u32, local: &[u32]) -> bool
     ensures { result ≡ served_by_us stratum refid local.now }
 {
-    if 2 <= stratum {
-        is_among(refid, local)
-    } else {
-        false
-    }
+    2 <= stratum && local.contains(&refid)
 }
 
 // Whether our own time would come back to us.
-fn is_loop(stratum: u8, id: u32, refid: u32, local: &[u32], bloom: Bloom) -> bool
-    ensures { result ≡ loops stratum id refid local.now bloom }
+// Kept: a pattern and no `==`: a derived `==` compares with a constant in memory, and the module for boards has none (boards/module.py refuses them).
+fn is_loop(source: Source, own: ReferenceId, local: &[u32], bloom: Bloom) -> bool
+    ensures { result ≡ loops source.stratum own.0 source.refid.0 local.now bloom }
 {
-    if is_ours(stratum, id, local) {
-        return true;
-    }
-    if served_by_us(stratum, refid, local) {
-        return true;
-    }
-    is_present(bloom)
+    is_ours(source.stratum, own.0, local)
+        || served_by_us(source.stratum, source.refid.0, local)
+        || matches!(bloom, Bloom::Present)
 }
 
 // Whether the source is accepted, from the settings, the state, the summary of the stash, our stratum, our identifiers and what the Bloom filter says.
+// Kept: settings, state and summary apart, as the definition `accept_seen` has them, and the caller's three apart, as C passes them.
+#[tactic(auto, unfolding(crate::specs::Accept::accept_seen))]
 pub fn accept_seen(
     settings: Settings,
     state: State,
@@ -108,43 +81,30 @@ pub fn accept_seen(
     stratum: u8,
     local: &[u32],
     bloom: Bloom,
-) -> AcceptAnswer
+) -> Result<(), AcceptRefusal>
     ensures { result ≡ accept_seen settings state seen stratum local.now bloom }
 {
     if !association::whole_seen(settings, seen, state) {
-        return AcceptAnswer::NotWhole;
+        return Err(AcceptRefusal::NotWhole);
     }
-    let source = state.source;
-    if stratum <= source.stratum {
-        return AcceptAnswer::Stratum;
+    if stratum <= state.source.stratum {
+        return Err(AcceptRefusal::Stratum);
     }
-    let own = settings.source;
-    let reported = source.refid;
-    if is_loop(source.stratum, own.0, reported.0, local, bloom) {
-        return AcceptAnswer::Loop;
+    if is_loop(state.source, settings.source, local, bloom) {
+        return Err(AcceptRefusal::Loop);
     }
-    let effort = state.effort;
-    let reach = effort.reach;
-    if !reach.is_reachable() {
-        return AcceptAnswer::Unreachable;
+    if !state.effort.reach.is_reachable() {
+        return Err(AcceptRefusal::Unreachable);
     }
-    AcceptAnswer::Accepted
+    Ok(())
 }
 
 // The same for an association passed by value.
+// Kept: stratum, identifiers and filter apart, as C passes them and the definition `accept_of` has them.
 // promise: 12.1, 12.2
-pub fn accept(a: Association, stratum: u8, local: &[u32], bloom: Bloom) -> AcceptAnswer
+pub fn accept(a: Association, stratum: u8, local: &[u32], bloom: Bloom) -> Result<(), AcceptRefusal>
     ensures { result ≡ accept_of a stratum local.now bloom }
 {
-    let settings = a.settings;
-    let stash = a.stash;
-    let state = a.state;
-    accept_seen(
-        settings,
-        state,
-        stash.seen(settings.capacity),
-        stratum,
-        local,
-        bloom,
-    )
+    let seen = a.stash.seen(a.settings.capacity);
+    accept_seen(a.settings, a.state, seen, stratum, local, bloom)
 }

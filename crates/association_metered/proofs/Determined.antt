@@ -2,7 +2,7 @@
 -- Assumes nothing.
 use mathlib.Core.Path.{◌∙◌, sym}
 use Rattle.words.specs.Determined.{Determined}
-use Rattle.association_metered.proofs.ProfileAnswer.number.Reads as number
+use Rattle.association_metered.proofs.ProfileRefusalRefusal.number.Reads as number
 use Rattle.association_metered.proofs.profile.Reads as profile
 use Rattle.association_metered.proofs.metered.Reads as metered
 

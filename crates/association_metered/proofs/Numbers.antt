@@ -9,16 +9,17 @@ use Rattle.cookielist.specs.List.{list_broken}
 use Rattle.version.specs.Upgrade.{upgrading}
 use Rattle.association.specs.declared.Settings.{Settings}
 use Rattle.association.specs.Settings.{settings_valid}
-use Rattle.association_metered.specs.declared.ProfileAnswer.{ProfileAnswer}
+use Rattle.std.specs.Prelude.{Result}
+use Rattle.association_metered.specs.declared.ProfileRefusal.{ProfileRefusal}
 use Rattle.association_metered.specs.Profile.{number_of, low_poll_min, high_startup, long_cookie, profile_of}
 use Rattle.association_metered.specs.Numbers as N
 use Rattle.association_metered.specs.Numbers.{bad_settings, broken_list, low_poll_min_lem, high_startup_lem, upgrading_start, long_cookie_lem, met}
 
 module _ (s : Settings) (list : List ℕ) where
-  abbrev Given : ℕ → ProfileAnswer → Type 0
+  abbrev Given : ℕ → Result (Unit {0}) ProfileRefusal → Type 0
   Given = N.Given s list
 
-  abbrev Told : ProfileAnswer → Type 0
+  abbrev Told : Result (Unit {0}) ProfileRefusal → Type 0
   Told r = Given (number_of r) r
 
   -- what is given is given under the rule of its number
@@ -40,7 +41,7 @@ module _ (s : Settings) (list : List ℕ) where
 
   -- where a number's rule holds, that rule's answer is given
   -- promise: no11.1
-  pub only : {n : ℕ} {r : ProfileAnswer} → Given n r → profile_of s list ≡ r
+  pub only : {n : ℕ} {r : Result (Unit {0}) ProfileRefusal} → Given n r → profile_of s list ≡ r
   unfolding profile_of
   only (bad_settings v) = rw v
   only (broken_list v b) = rw (v, b)
@@ -50,7 +51,7 @@ module _ (s : Settings) (list : List ℕ) where
   only (long_cookie_lem d e) = let f = d.brief in let w = f.slow in rw (w.plain.valid, w.plain.unbroken, w.min, f.startup, d.start, e)
   only (met d e) = let f = d.brief in let w = f.slow in rw (w.plain.valid, w.plain.unbroken, w.min, f.startup, d.start, e)
 
-  numbered : {n : ℕ} {r : ProfileAnswer} → Given n r → number_of r ≡ n
+  numbered : {n : ℕ} {r : Result (Unit {0}) ProfileRefusal} → Given n r → number_of r ≡ n
   numbered (bad_settings v) = refl
   numbered (broken_list v b) = refl
   numbered (low_poll_min_lem p e) = refl
@@ -61,7 +62,7 @@ module _ (s : Settings) (list : List ℕ) where
 
   -- so a number is given if and only if its rule holds
   -- promise: no11.1, no14.2 (at 36)
-  pub number : (n : ℕ) → (number_of (profile_of s list) ≡ n) ↔ ((r : ProfileAnswer) × Given n r)
+  pub number : (n : ℕ) → (number_of (profile_of s list) ≡ n) ↔ ((r : Result (Unit {0}) ProfileRefusal) × Given n r)
   number n = (
     λ e. (profile_of s list, subst (λ (k : ℕ). Given k (profile_of s list)) e given),
     λ g. ap number_of (only g.1) ∙ numbered g.1,

@@ -21,7 +21,8 @@ use Rattle.association.specs.Whole.{Whole}
 use Rattle.association.specs.New as new
 use Rattle.association.proofs.New.{new_gives}
 use Rattle.association.proofs.Numbers as plain
-use Rattle.association_metered.specs.declared.ProfileAnswer.{ProfileAnswer}
+use Rattle.std.specs.Prelude.{Result}
+use Rattle.association_metered.specs.declared.ProfileRefusal.{ProfileRefusal}
 use Rattle.association_metered.specs.Profile.{number_of, profile_of, metered_of}
 use Rattle.association_metered.specs.Numbers as N
 use Rattle.association_metered.specs.Numbers.{bad_settings, broken_list, low_poll_min_lem, high_startup_lem, upgrading_start, long_cookie_lem, met}
@@ -52,7 +53,7 @@ module _ (s : Settings) (list : List ℕ) where
   refused_blank u = unless _ _ (ne_eqb _ _ u)
 
   -- what was tested before a 0
-  passed : {n : ℕ} {r : ProfileAnswer} → N.Given s list n r → n ≡ 0 → N.Settled s list
+  passed : {n : ℕ} {r : Result (Unit {0}) ProfileRefusal} → N.Given s list n r → n ≡ 0 → N.Settled s list
   passed (bad_settings v) e = absurd (omega arith)
   passed (broken_list v b) e = absurd (omega arith)
   passed (low_poll_min_lem p t) e = absurd (omega arith)

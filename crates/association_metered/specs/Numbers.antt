@@ -1,13 +1,12 @@
 -- RULES, "The numbers" and No. 11: when the check returns each number, in the order of the tests.
 -- Assumes nothing.
-use Rattle.std.specs.Prelude.{◌≡◌, true, false, List, ℕ}
+use Rattle.std.specs.Prelude.{◌≡◌, true, false, List, ℕ, Result, Ok, Err}
 use Rattle.cookielist.specs.List.{list_broken}
 use Rattle.version.specs.Upgrade.{upgrading}
 use Rattle.association.specs.declared.Settings.{Settings}
 use Rattle.association.specs.Settings.{settings_valid}
-use Rattle.association_metered.specs.declared.ProfileAnswer.{ProfileAnswer}
-use Rattle.association_metered.specs.declared.ProfileAnswer.TheVariants.{
-  Met,
+use Rattle.association_metered.specs.declared.ProfileRefusal.{ProfileRefusal}
+use Rattle.association_metered.specs.declared.ProfileRefusal.TheVariants.{
   BadSettings,
   BrokenList,
   LowPollMin,
@@ -42,11 +41,11 @@ module _ (s : Settings) (list : List ℕ) where
 
   -- ---- the numbers, each with its answer
   -- promise: no11.1
-  pub data Given : ℕ → ProfileAnswer → Type 0 where
-    bad_settings : settings_valid s ≡ false → Given 30 BadSettings
-    broken_list : settings_valid s ≡ true → list_broken s.nts list ≡ true → Given 33 BrokenList
-    low_poll_min_lem : Plain → low_poll_min s ≡ true → Given 34 LowPollMin
-    high_startup_lem : Slow → high_startup s ≡ true → Given 35 HighStartup
-    upgrading_start : Brief → upgrading s.start.kind ≡ true → Given 36 UpgradingStart
-    long_cookie_lem : Settled → long_cookie s.nts list ≡ true → Given 37 LongCookie
-    met : Settled → long_cookie s.nts list ≡ false → Given 0 Met
+  pub data Given : ℕ → Result (Unit {0}) ProfileRefusal → Type 0 where
+    bad_settings : settings_valid s ≡ false → Given 30 (Err BadSettings)
+    broken_list : settings_valid s ≡ true → list_broken s.nts list ≡ true → Given 33 (Err BrokenList)
+    low_poll_min_lem : Plain → low_poll_min s ≡ true → Given 34 (Err LowPollMin)
+    high_startup_lem : Slow → high_startup s ≡ true → Given 35 (Err HighStartup)
+    upgrading_start : Brief → upgrading s.start.kind ≡ true → Given 36 (Err UpgradingStart)
+    long_cookie_lem : Settled → long_cookie s.nts list ≡ true → Given 37 (Err LongCookie)
+    met : Settled → long_cookie s.nts list ≡ false → Given 0 (Ok tt)

@@ -3,12 +3,14 @@
 // Rule: RULES, No. 11, and No. 5 for what fell out; definitions in specs/Profile.antt, number by number in specs/Numbers.antt.
 #![tactic(auto)]
 
-ghost use Rattle.std.specs.Prelude.{◌≡◌};
-ghost use Rattle.cookielist.specs.List.{cookies_in};
-ghost use Rattle.association_metered.specs.Profile.{number_of, longer_in, long_cookie, profile_of, metered_of};
+ghost use Rattle.std.specs.Prelude.{◌≡◌, Err, false};
+ghost use Rattle.std.proofs.Common.{rules};
+ghost use Rattle.cookielist.specs.List.{list_broken};
+ghost use Rattle.association_metered.specs.Profile.{number_of, long_cookie, profile_of, metered_of};
 
+use answers::Refusal;
 use association::{Association, Settings};
-use cookielist::Entry;
+use cookielist::Cookies;
 use cookiestash::Dropped;
 
 // The least value of the lower poll limit: a poll every four minutes or so.
@@ -20,10 +22,9 @@ pub const MOST_STARTUP: u8 = 3;
 // The longest cookie that the first list may have.
 pub const LONGEST_COOKIE: usize = 100;
 
-// The profile is met, or the first rule that is broken.
-#[derive(Clone, Copy)]
-pub enum ProfileAnswer {
-    Met,
+// The first rule of the profile that is broken.
+#[derive(Clone, Copy, Debug, PartialEq, Eq)]
+pub enum ProfileRefusal {
     BadSettings,
     BrokenList,
     LowPollMin,
@@ -32,114 +33,85 @@ pub enum ProfileAnswer {
     LongCookie,
 }
 
-impl ProfileAnswer {
-    pub fn number(self) -> u8
-        ensures { result ≡ number_of self }
-    {
+impl Refusal for ProfileRefusal {
+    ghost number_of = { λ refusal. number_of (Err refusal) };
+
+    fn number(self) -> u8 {
         match self {
-            ProfileAnswer::Met => 0,
-            ProfileAnswer::BadSettings => 30,
-            ProfileAnswer::BrokenList => 33,
-            ProfileAnswer::LowPollMin => 34,
-            ProfileAnswer::HighStartup => 35,
-            ProfileAnswer::UpgradingStart => 36,
-            ProfileAnswer::LongCookie => 37,
+            ProfileRefusal::BadSettings => 30,
+            ProfileRefusal::BrokenList => 33,
+            ProfileRefusal::LowPollMin => 34,
+            ProfileRefusal::HighStartup => 35,
+            ProfileRefusal::UpgradingStart => 36,
+            ProfileRefusal::LongCookie => 37,
         }
     }
+
+    ghost never_zero = { Prim.search rules };
 }
 
-// Whether a whole cookie list has a cookie of more than `most` bytes.
-fn has_longer(most: usize, list: &[u8]) -> bool
-    ensures { result ≡ longer_in most (cookies_in list.now) }
-{
-    let mut at: usize = 0;
-    let mut longer = false;
-    loop {
-        match cookielist::entry_at(list, at) {
-            Entry::Cookie { start, end } => {
-                if most < end - start {
-                    longer = true;
-                }
-                at = end;
-            }
-            Entry::End => {
-                return longer;
-            }
-            Entry::Broken => {
-                return false;
-            }
-        }
-    }
-}
-
-// Whether a list has a cookie over the profile's length, which matters with NTS only.
+// Whether a first cookie list, which is not broken, has a cookie over the profile's length. That matters with NTS only.
 fn has_long_cookie(nts: bool, list: &[u8]) -> bool
+    requires { list_broken nts list.now ≡ false }
     ensures { result ≡ long_cookie nts list.now }
 {
-    if nts {
-        has_longer(LONGEST_COOKIE, list)
-    } else {
-        false
-    }
+    nts && Cookies::new(list).any(|cookie| LONGEST_COOKIE < cookie.len())
 }
 
 // Whether settings and first cookie list meet the profile, and if not, which rule is the first that they break. The list counts with NTS only.
 // promise: no11.1, no12.1, no14.2
-pub fn profile(settings: Settings, list: &[u8]) -> ProfileAnswer
+#[tactic(auto, unfolding(crate::specs::Profile::profile_of))]
+pub fn profile(settings: Settings, list: &[u8]) -> Result<(), ProfileRefusal>
     ensures { result ≡ profile_of settings list.now }
 {
     if !settings.valid() {
-        return ProfileAnswer::BadSettings;
+        return Err(ProfileRefusal::BadSettings);
     }
     if cookielist::list_broken(settings.nts, list) {
-        return ProfileAnswer::BrokenList;
+        return Err(ProfileRefusal::BrokenList);
     }
-    let min = settings.min;
-    if min.0 < LEAST_POLL {
-        return ProfileAnswer::LowPollMin;
+    if settings.min.0 < LEAST_POLL {
+        return Err(ProfileRefusal::LowPollMin);
     }
     if MOST_STARTUP < settings.startup {
-        return ProfileAnswer::HighStartup;
+        return Err(ProfileRefusal::HighStartup);
     }
-    let start = settings.start;
-    if start.is_upgrading() {
-        return ProfileAnswer::UpgradingStart;
+    if settings.start.is_upgrading() {
+        return Err(ProfileRefusal::UpgradingStart);
     }
     if has_long_cookie(settings.nts, list) {
-        return ProfileAnswer::LongCookie;
+        return Err(ProfileRefusal::LongCookie);
     }
-    ProfileAnswer::Met
+    Ok(())
 }
 
+// Kept: beside `NewOut`: no function of the library is over both, so that one over any refusal would only add its type to each definition and law of `new`.
 // What `metered` returns: the profile's answer, what fell out while the first list was stored, and the association, which is blank if it was rejected.
 #[derive(Clone, Copy)]
 pub struct MeteredOut {
-    pub answer: ProfileAnswer,
+    pub answer: Result<(), ProfileRefusal>,
     pub dropped: Dropped,
     pub association: Association,
 }
 
 // Makes an association that meets the profile: `Association::new` makes it, and reports what fell out of the list.
 // promise: no5.5, no11.2, no12.1
+#[tactic(auto, unfolding(crate::specs::Profile::metered_of))]
 pub fn metered(settings: Settings, list: &[u8]) -> MeteredOut
     ensures { result ≡ metered_of settings list.now }
 {
     let answer = profile(settings, list);
-    if answer.number() != 0 {
-        let blank = Association::blank();
-        let none = Dropped::none();
+    if answer.is_err() {
         return MeteredOut {
             answer,
-            dropped: none,
-            association: blank,
+            dropped: Dropped::none(),
+            association: Association::blank(),
         };
     }
     let made = Association::new(settings, list);
-    let dropped = made.dropped;
-    let association = made.association;
     MeteredOut {
         answer,
-        dropped,
-        association,
+        dropped: made.dropped,
+        association: made.association,
     }
 }

@@ -1,6 +1,6 @@
 -- Laws of the loop that adds an entry's polls to a day's loads.
 -- Assumes nothing.
-use mathlib.Core.Path.{◌≡◌, refl, sym, subst, ◌∙◌}
+use mathlib.Core.Path.{◌≡◌, sym, subst, ◌∙◌}
 use mathlib.Core.List.{List}
 use mathlib.Core.Logic.{⊎_elim}
 use Prim.Native.Nat.{ℕ, ◌+◌, ◌%◌, ◌≤◌, ◌<◌}
@@ -12,7 +12,7 @@ use lib.Seq.{get_or-set_same, get_or-set_other}
 use Rattle.words.proofs.Tests.{when, unless}
 use Rattle.calendar.specs.Loads.{one_more}
 use Rattle.calendar.proofs.Search.{split}
-use Rattle.calendar.proofs.Minutes.{first, none_before, next, none_between, polled}
+use Rattle.calendar.proofs.Minutes.{next, none_between, polled}
 
 -- the minutes before m have their polls, those from m on are as they were
 pub record Adding (start repeat : ℕ) (before after : List ℕ) (m : ℕ) : Type 0 where
@@ -22,14 +22,6 @@ pub record Adding (start repeat : ℕ) (before after : List ℕ) (m : ℕ) : Typ
   pub ahead : (j : ℕ) → m ≤ j → get_or after j 0 ≡ get_or before j 0
 
 module _ (start repeat : ℕ) (h : start < repeat) (before : List ℕ) where
-  pub begin : Adding start repeat before before start
-  begin = record {
-    long = refl;
-    phase = first start repeat h;
-    done = λ j l k. sym (unless _ _ (none_before start repeat h j l));
-    ahead = λ j l. refl;
-  }
-
   module _ (after : List ℕ) (m : ℕ) (i : Adding start repeat before after m) (inside : m < length before) where
     here : get_or (set after m (get_or after m 0 + 1)) m 0 ≡ one_more start repeat before m
     here =

@@ -2,8 +2,8 @@
 -- Assumes nothing.
 use mathlib.Core.Path.{◌∙◌, sym}
 use Rattle.words.specs.Determined.{Determined, DeterminedLent}
-use Rattle.calendar.proofs.CheckAnswer.number.Reads as checknumber
-use Rattle.calendar.proofs.PlanAnswer.number.Reads as plannumber
+use Rattle.calendar.proofs.CheckRefusalRefusal.number.Reads as checknumber
+use Rattle.calendar.proofs.PlanRefusalRefusal.number.Reads as plannumber
 use Rattle.calendar.proofs.check.Reads as check
 use Rattle.calendar.proofs.plan.Reads as plan
 

@@ -3,18 +3,18 @@
 -- Assumes nothing.
 use mathlib.Core.Path.{◌≡◌, refl}
 use mathlib.Core.List.{[], ◌∷◌}
-use Rattle.calendar.specs.declared.CheckAnswer.TheVariants.{Accepted}
-use Rattle.calendar.specs.declared.PlanAnswer.TheVariants.{NoFit}
+use Rattle.std.specs.Prelude.{Ok, Err}
+use Rattle.calendar.specs.declared.PlanRefusal.TheVariants.{NoFit}
 use Rattle.calendar.specs.Lowest.{lowest}
 use Rattle.calendar.specs.Calendar.{load, check_of}
 use Rattle.calendar.specs.Plan.{earliest_of, plan_from, plan_of}
 
 -- promise: no13.7
-pub stops_at_the_third : plan_of 1 (4 ∷ 4 ∷ 2 ∷ []) 3 ≡ NoFit 2
+pub stops_at_the_third : plan_of 1 (4 ∷ 4 ∷ 2 ∷ []) 3 ≡ Err (NoFit 2)
 unfolding plan_of plan_from earliest_of lowest load
 stops_at_the_third = refl
 
 -- promise: no13.7 (both computed)
-pub would_fit : check_of 1 (0 ∷ 2 ∷ 1 ∷ []) (4 ∷ 4 ∷ 2 ∷ []) ≡ Accepted
+pub would_fit : check_of 1 (0 ∷ 2 ∷ 1 ∷ []) (4 ∷ 4 ∷ 2 ∷ []) ≡ Ok tt
 unfolding check_of lowest load
 would_fit = refl

@@ -11,9 +11,8 @@ use borrow.Author.Tests.{ltb-false, le-ltb, eqb-true, eqb-false, not-true, not-f
 use lib.Dec.{eqb}
 use lib.ListN.{length, take, length-append, get_or-append}
 use lib.Seq.{get_or_at, get_or-take, length-take-le}
+use Rattle.std.specs.Prelude.{None, Ok}
 use Rattle.words.proofs.Tests.{both}
-use Rattle.calendar.specs.declared.Found.TheVariants.{Nothing}
-use Rattle.calendar.specs.declared.CheckAnswer.TheVariants.{Accepted}
 use Rattle.calendar.specs.Lowest.{is_nothing}
 use Rattle.calendar.specs.Calendar.{entries_of, start_of, repeat_of, divides_day, load, over, check_of}
 use Rattle.calendar.specs.Plan.{fits}
@@ -81,17 +80,17 @@ module _ (cap : ℕ) (repeats placed : List ℕ) (start : ℕ) (d : M.Divided ca
         under = λ m l. rw (count, load_is m) (u m l);
       }
 
-  pub fits_exactly : (fits cap repeats placed start ≡ true) ↔ (check_of cap starts those ≡ Accepted)
+  pub fits_exactly : (fits cap repeats placed start ≡ true) ↔ (check_of cap starts those ≡ Ok tt)
   fits_exactly = (into, from)
     where
-      into : fits cap repeats placed start ≡ true → check_of cap starts those ≡ Accepted
+      into : fits cap repeats placed start ≡ true → check_of cap starts those ≡ Ok tt
       into e =
           let none = nothing (over cap starts repeats (suc (length placed))) 1440 (is_nothing_true _ e) in
           (accepts cap starts those).1 (fine (λ m l. ltb-false cap (load starts repeats (suc (length placed)) m) (none m l)))
 
-      from : check_of cap starts those ≡ Accepted → fits cap repeats placed start ≡ true
+      from : check_of cap starts those ≡ Ok tt → fits cap repeats placed start ≡ true
       from e =
           let f = (accepts cap starts those).0 e in
           ap is_nothing
-          (is (over cap starts repeats (suc (length placed))) 1440 Nothing
+          (is (over cap starts repeats (suc (length placed))) 1440 None
           (λ m l. le-ltb cap (load starts repeats (suc (length placed)) m) (rw (count, load_is m) at (f.under m l))))

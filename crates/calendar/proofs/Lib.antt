@@ -1,14 +1,13 @@
 -- Laws that belong to no one function.
 pub mod Search
+pub mod Searching
 pub mod Minutes
 pub mod Repeats
 pub mod Adding
 pub mod Passing
-pub mod Copying
 pub mod Loaded
 pub mod Placing
 pub mod Checking
-pub mod Planning
 pub mod Numbers
 pub mod PlanNumbers
 pub mod Plans

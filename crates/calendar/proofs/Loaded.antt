@@ -1,6 +1,6 @@
 -- Laws of a day's loads: they have the polls of the first k entries, minute by minute, and an entry more makes them those of k + 1.
 -- Assumes nothing.
-use mathlib.Core.Path.{◌≡◌, sym, ◌∙◌}
+use mathlib.Core.Path.{◌≡◌, ◌∙◌}
 use mathlib.Core.List.{List}
 use mathlib.Core.Logic.{⊎_elim}
 use Prim.Native.Nat.{ℕ, zero, suc, ◌+◌, ◌≤◌, ◌<◌}
@@ -37,10 +37,8 @@ module _ (starts repeats loads : List ℕ) where
         (λ l. omega (arith, get_or-eq_default loads 0 {n = m} (omega (arith, i.long))))
         (split m 1440)
 
-    pub of_more : (start repeat : ℕ) → start ≡ start_of starts k → repeat ≡ repeat_of repeats k → (after : List ℕ) → length after ≡ length loads
+    pub of_more : (start repeat : ℕ) → start ≡ start_of starts k → repeat ≡ repeat_of repeats k → (after : List ℕ)
+        → length after ≡ length loads
         → ((m : ℕ) → m < 1440 → get_or after m 0 ≡ one_more start repeat loads m) → Loaded starts repeats after (k + 1)
     unfolding load
     of_more start repeat s r after e h = record { long = e ∙ i.long; counted = λ m l. h m l ∙ rw (i.counted m l, s, r, add-one) }
-
-    pub of_all : (n : ℕ) → k ≤ n → n ≤ k → (m : ℕ) → m < 1440 → get_or loads m 0 ≡ load starts repeats n m
-    of_all n a b m l = let e : k ≡ n = omega arith in rw (sym e) (i.counted m l)

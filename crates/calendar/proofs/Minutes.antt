@@ -15,9 +15,6 @@ module _ (start repeat : ℕ) (h : start < repeat) where
   pub first : start % repeat ≡ start
   first = mod-eq_of_lt h
 
-  pub none_before : (j : ℕ) → j < start → polls start repeat j ≡ false
-  none_before j l = ne_eqb (j % repeat) start (λ e. let q : j % repeat ≡ j = mod-eq_of_lt (omega arith) in omega arith)
-
   -- promise: no13.2
   pub next : (m : ℕ) → m % repeat ≡ start → (m + repeat) % repeat ≡ start
   next m e = add-mod_right m repeat ∙ e

@@ -5,13 +5,11 @@ use mathlib.Core.Bool.{not}
 use mathlib.Core.List.{List}
 use mathlib.Core.Logic.{◌↔◌}
 use Prim.Native.Nat.{ℕ}
-use native.Mathlib.Omega.{arith}
 use lib.Dec.{ltb}
 use borrow.Author.Tests.{ltb-false, leb-false, le-ltb, lt-leb, eq-eqb, ne_eqb, not-false}
+use Rattle.std.specs.Prelude.{Some, None, Result, Ok}
 use Rattle.words.proofs.Tests.{either, passes}
-use Rattle.calendar.specs.declared.Found.TheVariants.{At, Nothing}
-use Rattle.calendar.specs.declared.CheckAnswer.{CheckAnswer}
-use Rattle.calendar.specs.declared.CheckAnswer.TheVariants.{Accepted}
+use Rattle.calendar.specs.declared.CheckRefusal.{CheckRefusal}
 use Rattle.calendar.specs.Calendar.{entries_of, repeat_of, start_of, divides_day, bad_repeat, late_start, load, over, check_of, number_of}
 use Rattle.calendar.specs.Numbers as N
 use Rattle.calendar.specs.Numbers.{too_many, bad_repeat_lem, late_start_lem, over_cap, accepted}
@@ -19,10 +17,10 @@ use Rattle.calendar.proofs.Search.{is, either_way}
 use Rattle.calendar.proofs.Repeats.{divides, not_zero}
 
 module _ (cap : ℕ) (starts repeats : List ℕ) where
-  abbrev Given : ℕ → CheckAnswer → Type 0
+  abbrev Given : ℕ → Result (Unit {0}) CheckRefusal → Type 0
   Given = N.Given cap starts repeats
 
-  abbrev Told : CheckAnswer → Type 0
+  abbrev Told : Result (Unit {0}) CheckRefusal → Type 0
   Told r = Given (number_of r) r
 
   -- what is given is given under the rule of its number
@@ -39,32 +37,32 @@ module _ (cap : ℕ) (starts repeats : List ℕ) where
 
   -- where a number's rule holds, that rule's answer is given
   -- promise: no13.3
-  pub only : {n : ℕ} {r : CheckAnswer} → Given n r → check_of cap starts repeats ≡ r
+  pub only : {n : ℕ} {r : Result (Unit {0}) CheckRefusal} → Given n r → check_of cap starts repeats ≡ r
   unfolding check_of
   only (too_many h) = rw h
-  only (bad_repeat_lem k f b) = rw (f, is (bad_repeat repeats) (entries_of starts repeats) (At k) b)
+  only (bad_repeat_lem k f b) = rw (f, is (bad_repeat repeats) (entries_of starts repeats) (Some k) b)
   only (late_start_lem k d l) = rw (
     d.few,
-    is (bad_repeat repeats) (entries_of starts repeats) Nothing d.divide,
+    is (bad_repeat repeats) (entries_of starts repeats) None d.divide,
     is (late_start starts repeats)
-        (entries_of starts repeats) (At k) l,
+        (entries_of starts repeats) (Some k) l,
   )
   only (over_cap m e o) =
       rw (
         e.divided.few,
-        is (bad_repeat repeats) (entries_of starts repeats) Nothing e.divided.divide,
-        is (late_start starts repeats) (entries_of starts repeats) Nothing e.early,
-        is (over cap starts repeats (entries_of starts repeats)) 1440 (At m) o,
+        is (bad_repeat repeats) (entries_of starts repeats) None e.divided.divide,
+        is (late_start starts repeats) (entries_of starts repeats) None e.early,
+        is (over cap starts repeats (entries_of starts repeats)) 1440 (Some m) o,
       )
   only (accepted e o) =
       rw (
         e.divided.few,
-        is (bad_repeat repeats) (entries_of starts repeats) Nothing e.divided.divide,
-        is (late_start starts repeats) (entries_of starts repeats) Nothing e.early,
-        is (over cap starts repeats (entries_of starts repeats)) 1440 Nothing o,
+        is (bad_repeat repeats) (entries_of starts repeats) None e.divided.divide,
+        is (late_start starts repeats) (entries_of starts repeats) None e.early,
+        is (over cap starts repeats (entries_of starts repeats)) 1440 None o,
       )
 
-  numbered : {n : ℕ} {r : CheckAnswer} → Given n r → number_of r ≡ n
+  numbered : {n : ℕ} {r : Result (Unit {0}) CheckRefusal} → Given n r → number_of r ≡ n
   numbered (too_many h) = refl
   numbered (bad_repeat_lem k f b) = refl
   numbered (late_start_lem k d l) = refl
@@ -73,7 +71,7 @@ module _ (cap : ℕ) (starts repeats : List ℕ) where
 
   -- so a number is given if and only if its rule holds
   -- promise: no13.3
-  pub number : (n : ℕ) → (number_of (check_of cap starts repeats) ≡ n) ↔ ((r : CheckAnswer) × Given n r)
+  pub number : (n : ℕ) → (number_of (check_of cap starts repeats) ≡ n) ↔ ((r : Result (Unit {0}) CheckRefusal) × Given n r)
   number n = (
     λ e. (check_of cap starts repeats, subst (λ (k : ℕ). Given k (check_of cap starts repeats)) e given),
     λ g. ap number_of (only g.1) ∙ numbered g.1,
@@ -81,19 +79,19 @@ module _ (cap : ℕ) (starts repeats : List ℕ) where
 
   -- ---- accepted exactly if up to 64 entries, each repeat dividing 1440, each start below its repeat, no minute with more polls than the cap
 
-  fine_of : {n : ℕ} {r : CheckAnswer} → Given n r → r ≡ Accepted → N.Fine cap starts repeats
+  fine_of : {n : ℕ} {r : Result (Unit {0}) CheckRefusal} → Given n r → r ≡ Ok tt → N.Fine cap starts repeats
   fine_of (accepted e o) q = record {
     few = ltb-false 64 (entries_of starts repeats) e.divided.few;
     divide = λ k l. divides (repeat_of repeats k) (not-false (divides_day (repeat_of repeats k)) (e.divided.divide k l));
     early = λ k l. leb-false (repeat_of repeats k) (start_of starts k) (e.early k l);
     under = λ m l. ltb-false cap (load starts repeats (entries_of starts repeats) m) (o m l);
   }
-  fine_of (too_many h) q = let z : ◌≡◌ {A = ℕ} 0 1 = cc in absurd (omega arith)
-  fine_of (bad_repeat_lem k f b) q = let z : ◌≡◌ {A = ℕ} 0 1 = cc in absurd (omega arith)
-  fine_of (late_start_lem k d l) q = let z : ◌≡◌ {A = ℕ} 0 1 = cc in absurd (omega arith)
-  fine_of (over_cap m e o) q = let z : ◌≡◌ {A = ℕ} 0 1 = cc in absurd (omega arith)
+  fine_of (too_many h) q = cc
+  fine_of (bad_repeat_lem k f b) q = cc
+  fine_of (late_start_lem k d l) q = cc
+  fine_of (over_cap m e o) q = cc
 
-  of_fine : N.Fine cap starts repeats → Given 0 Accepted
+  of_fine : N.Fine cap starts repeats → Given 0 (Ok tt)
   of_fine f =
       accepted
       (record {
@@ -108,5 +106,5 @@ module _ (cap : ℕ) (starts repeats : List ℕ) where
       (λ m l. le-ltb cap (load starts repeats (entries_of starts repeats) m) (f.under m l))
 
   -- promise: no13.4
-  pub accepts : (check_of cap starts repeats ≡ Accepted) ↔ N.Fine cap starts repeats
+  pub accepts : (check_of cap starts repeats ≡ Ok tt) ↔ N.Fine cap starts repeats
   accepts = (λ e. fine_of given e, λ f. only (of_fine f))

@@ -10,22 +10,19 @@ use native.Mathlib.Nat.{eq-or-lt_of_le}
 use lib.Dec.{leb}
 use lib.ListN.{get_or}
 use borrow.Author.Tests.{le-leb, lt-leb}
+use Rattle.std.specs.Prelude.{Some, None}
 use Rattle.words.proofs.Tests.{passes, fails}
-use Rattle.calendar.specs.Lowest.{None, is_nothing}
+use Rattle.calendar.specs.Lowest.{NonePasses, is_nothing}
 use Rattle.calendar.specs.Loads.{taken, free}
-use Rattle.calendar.specs.declared.Found.TheVariants.{At, Nothing}
 use Rattle.calendar.proofs.Search.{split, is}
-use Rattle.calendar.proofs.Minutes.{first, none_before, next, none_between, polled}
+use Rattle.calendar.proofs.Minutes.{next, none_between, polled}
 
 -- m is a minute of the entry, or the one behind its last, and none before it is taken
 pub record Passing (cap : ℕ) (loads : List ℕ) (start repeat m : ℕ) : Type 0 where
   pub phase : m % repeat ≡ start
-  pub clear : None (taken cap loads start repeat) m
+  pub clear : NonePasses (taken cap loads start repeat) m
 
 module _ (cap : ℕ) (loads : List ℕ) (start repeat : ℕ) (h : start < repeat) where
-  pub begin : Passing cap loads start repeat start
-  begin = record { phase = first start repeat h; clear = λ j l. fails (leb cap (get_or loads j 0)) (none_before start repeat h j l) }
-
   module _ (m : ℕ) (i : Passing cap loads start repeat m) where
     taken_here : taken cap loads start repeat m ≡ leb cap (get_or loads m 0)
     taken_here = passes (leb cap (get_or loads m 0)) (polled start repeat m i.phase)
@@ -45,7 +42,7 @@ module _ (cap : ℕ) (loads : List ℕ) (start repeat : ℕ) (h : start < repeat
     pub is_taken : cap ≤ get_or loads m 0 → m < 1440 → free cap loads repeat start ≡ false
     is_taken q l =
         ap is_nothing
-        (is (taken cap loads start repeat) 1440 (At m) (record { below = l; passes = taken_here ∙ le-leb cap (get_or loads m 0) q; first = i.clear }))
+        (is (taken cap loads start repeat) 1440 (Some m) (record { below = l; passes = taken_here ∙ le-leb cap (get_or loads m 0) q; first = i.clear }))
 
     pub is_free : 1440 ≤ m → free cap loads repeat start ≡ true
-    is_free l = ap is_nothing (is (taken cap loads start repeat) 1440 Nothing (λ j k. i.clear j (omega arith)))
+    is_free l = ap is_nothing (is (taken cap loads start repeat) 1440 None (λ j k. i.clear j (omega arith)))

@@ -10,9 +10,8 @@ use lib.Dec.{ltb, leb, leb-suc-suc}
 use lib.ListN.{length, get_or, take, set, get_or-append}
 use lib.Seq.{get_or_at, length-take-le, take-suc-set}
 use borrow.Author.Tests.{le-ltb, ltb-false}
-use Rattle.calendar.specs.declared.Found.{Found}
-use Rattle.calendar.specs.declared.Found.TheVariants.{At, Nothing}
-use Rattle.calendar.specs.Lowest.{lowest, is_nothing, None}
+use Rattle.std.specs.Prelude.{Option, Some, None}
+use Rattle.calendar.specs.Lowest.{lowest, is_nothing, NonePasses}
 use Rattle.calendar.specs.Calendar.{start_of, repeat_of, polls, load, over}
 use Rattle.calendar.specs.Loads.{taken, free, one_more}
 use Rattle.calendar.specs.Plan.{whole, stuck, fits, earliest_of, plan_from}
@@ -45,7 +44,7 @@ taken_or_over cap x true h = sym (leb-suc-suc cap x)
 taken_or_over cap x false h = sym (le-ltb cap x h)
 
 module _ (cap : ℕ) (repeats placed loads : List ℕ) (i : Loaded placed repeats loads (length placed))
-    (under : None (over cap placed repeats (length placed)) 1440) where
+    (under : NonePasses (over cap placed repeats (length placed)) 1440) where
   free_is_fits : (start : ℕ) → free cap loads (repeat_of repeats (length placed)) start ≡ fits cap repeats placed start
   free_is_fits start =
       ap is_nothing
@@ -57,19 +56,17 @@ module _ (cap : ℕ) (repeats placed loads : List ℕ) (i : Loaded placed repeat
 
   pub earliest_is : lowest (free cap loads (repeat_of repeats (length placed))) (repeat_of repeats (length placed)) ≡ earliest_of cap repeats placed
   unfolding earliest_of
-  earliest_is = agree (free cap loads (repeat_of repeats (length placed))) (fits cap repeats placed) (repeat_of repeats (length placed)) (λ s l. free_is_fits s)
+  earliest_is =
+      agree (free cap loads (repeat_of repeats (length placed))) (fits cap repeats placed) (repeat_of repeats (length placed))
+      (λ s l. free_is_fits s)
 
-pub is_nothing_true : (f : Found) → is_nothing f ≡ true → f ≡ Nothing
-is_nothing_true (At k) e = let z : ◌≡◌ {A = ℕ} 0 1 = cc in absurd (omega arith)
-is_nothing_true Nothing e = refl
+pub is_nothing_true : (f : Option ℕ) → is_nothing f ≡ true → f ≡ None
+is_nothing_true (Some k) e = cc
+is_nothing_true None e = refl
 
--- the earliest start fits, and is below the repeat
-module _ (cap : ℕ) (repeats placed : List ℕ) (start : ℕ) (e : earliest_of cap repeats placed ≡ At start) where
-  pub earliest_below : start < repeat_of repeats (length placed)
-  unfolding earliest_of
-  earliest_below = (found (fits cap repeats placed) (repeat_of repeats (length placed)) start e).below
-
-  pub earliest_under : None (over cap (placed ++ start ∷ []) repeats (suc (length placed))) 1440
+-- the earliest start fits
+module _ (cap : ℕ) (repeats placed : List ℕ) (start : ℕ) (e : earliest_of cap repeats placed ≡ Some start) where
+  pub earliest_under : NonePasses (over cap (placed ++ start ∷ []) repeats (suc (length placed))) 1440
   unfolding earliest_of
   earliest_under =
       nothing (over cap (placed ++ start ∷ []) repeats (suc (length placed))) 1440
@@ -79,17 +76,17 @@ module _ (cap : ℕ) (repeats placed : List ℕ) (start : ℕ) (e : earliest_of 
 -- ---- how a plan goes on
 
 module _ (cap : ℕ) (repeats placed : List ℕ) (n k : ℕ) where
-  one_more_lem : k < n → n - k ≡ suc (n - (k + 1))
-  one_more_lem l = omega arith
+  one_less_to_place : k < n → n - k ≡ suc (n - (k + 1))
+  one_less_to_place l = omega arith
 
-  pub plan_on : k < n → (start : ℕ) → earliest_of cap repeats placed ≡ At start →
+  pub plan_on : k < n → (start : ℕ) → earliest_of cap repeats placed ≡ Some start →
       plan_from cap repeats (n - k) placed ≡ plan_from cap repeats (n - (k + 1)) (placed ++ start ∷ [])
   unfolding plan_from
-  plan_on l start e = rw (one_more_lem l, e)
+  plan_on l start e = rw (one_less_to_place l, e)
 
-  pub plan_stuck : k < n → earliest_of cap repeats placed ≡ Nothing → plan_from cap repeats (n - k) placed ≡ stuck (length placed)
+  pub plan_stuck : k < n → earliest_of cap repeats placed ≡ None → plan_from cap repeats (n - k) placed ≡ stuck (length placed)
   unfolding plan_from
-  plan_stuck l e = rw (one_more_lem l, e)
+  plan_stuck l e = rw (one_less_to_place l, e)
 
   pub plan_whole : n ≤ k → plan_from cap repeats (n - k) placed ≡ whole placed
   unfolding plan_from
@@ -100,7 +97,7 @@ module _ (cap : ℕ) (repeats placed : List ℕ) (n k : ℕ) where
 pub record Placing (cap : ℕ) (repeats loads placed : List ℕ) (k : ℕ) : Type 0 where
   pub upto : k ≤ length repeats
   pub loaded : Loaded (take k placed) repeats loads k
-  pub under : None (over cap (take k placed) repeats k) 1440
+  pub under : NonePasses (over cap (take k placed) repeats k) 1440
   pub rest : plan_from cap repeats (length repeats - k) (take k placed) ≡ plan_from cap repeats (length repeats) []
 
 module _ (cap : ℕ) (repeats loads placed : List ℕ) where
@@ -122,20 +119,20 @@ module _ (cap : ℕ) (repeats loads placed : List ℕ) where
       pub finds : lowest (free cap loads repeat) repeat ≡ earliest_of cap repeats (take k placed)
       finds =
           let l : Loaded (take k placed) repeats loads (length (take k placed)) = rw long i.loaded in
-          let u : None (over cap (take k placed) repeats (length (take k placed))) 1440 = rw long i.under in
+          let u : NonePasses (over cap (take k placed) repeats (length (take k placed))) 1440 = rw long i.under in
           rw r (rw long at (earliest_is cap repeats (take k placed) loads l u))
 
       module _ (inside : k < length repeats) where
-        pub stops : lowest (free cap loads repeat) repeat ≡ Nothing → stuck k ≡ plan_from cap repeats (length repeats) []
+        pub stops : lowest (free cap loads repeat) repeat ≡ None → stuck k ≡ plan_from cap repeats (length repeats) []
         stops e =
             let s = plan_stuck cap repeats (take k placed) (length repeats) k inside (sym finds ∙ e) in
             sym (sym i.rest ∙ s ∙ ap stuck long)
 
         -- an entry is placed, and its polls are added
-        pub step : (start : ℕ) → lowest (free cap loads repeat) repeat ≡ At start → (after : List ℕ) → length after ≡ length loads
+        pub step : (start : ℕ) → lowest (free cap loads repeat) repeat ≡ Some start → (after : List ℕ) → length after ≡ length loads
             → ((m : ℕ) → m < 1440 → get_or after m 0 ≡ one_more start repeat loads m) → Placing cap repeats after (set placed k start) (k + 1)
         step start e after a h =
-            let f : earliest_of cap repeats (take k placed) ≡ At start = sym finds ∙ e in
+            let f : earliest_of cap repeats (take k placed) ≡ Some start = sym finds ∙ e in
             let t : take (k + 1) (set placed k start) ≡ take k placed ++ start ∷ [] = rw add-one (take-suc-set placed k start room) in
             let s : start ≡ start_of (take k placed ++ start ∷ []) k = sym (get_or_at (take k placed) start [] 1440 k long) in
             let l : Loaded (take k placed ++ start ∷ []) repeats loads k = record {
@@ -150,7 +147,8 @@ module _ (cap : ℕ) (repeats loads placed : List ℕ) where
               rest = rw t (sym (plan_on cap repeats (take k placed) (length repeats) k inside start f) ∙ i.rest);
             }
 
-  pub ends : (k : ℕ) → Placing cap repeats loads placed k → length repeats ≤ k → whole (take (length repeats) placed) ≡ plan_from cap repeats (length repeats) []
+  pub ends : (k : ℕ) → Placing cap repeats loads placed k → length repeats ≤ k →
+      whole (take (length repeats) placed) ≡ plan_from cap repeats (length repeats) []
   ends k i l =
       let e : k ≡ length repeats = omega (arith, i.upto) in
       let w = plan_whole cap repeats (take k placed) (length repeats) k l in

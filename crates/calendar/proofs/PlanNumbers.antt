@@ -8,10 +8,10 @@ use native.Mathlib.Omega.{arith}
 use lib.Dec.{ltb}
 use lib.ListN.{length, length-append}
 use borrow.Author.Tests.{lt-ltb, le-ltb, ltb-true, ltb-false}
+use Rattle.std.specs.Prelude.{Some, None, Result}
 use Rattle.words.proofs.Tests.{either}
-use Rattle.calendar.specs.declared.Found.TheVariants.{At, Nothing}
-use Rattle.calendar.specs.declared.PlanAnswer.{PlanAnswer}
-use Rattle.calendar.specs.Lowest.{None}
+use Rattle.calendar.specs.declared.PlanRefusal.{PlanRefusal}
+use Rattle.calendar.specs.Lowest.{NonePasses}
 use Rattle.calendar.specs.Calendar.{repeat_of, bad_repeat}
 use Rattle.calendar.specs.Plan.{Plan, whole, stuck, fits, earliest_of, plan_from, answer_to, plan_of, plan_number_of}
 use Rattle.calendar.specs.PlanNumbers as N
@@ -29,19 +29,20 @@ module _ (cap : ℕ) (repeats : List ℕ) where
   -- ---- a plan goes as the starts are placed
 
   -- promise: no13.5
-  pub along : (n : ℕ) (placed : List ℕ) → Placed placed → length placed ≤ n → plan_from cap repeats n [] ≡ plan_from cap repeats (n - length placed) placed
+  pub along : (n : ℕ) (placed : List ℕ) → Placed placed → length placed ≤ n →
+      plan_from cap repeats n [] ≡ plan_from cap repeats (n - length placed) placed
   unfolding earliest_of
   along n [] none l = let z : n - 0 ≡ n = omega arith in rw z
   along n _ (next placed start p f) l =
       let len = one_longer placed start in
       rw len
       (along n placed p (omega arith)
-      ∙ plan_on cap repeats placed n (length placed) (omega arith) start (is (fits cap repeats placed) (repeat_of repeats (length placed)) (At start) f))
+      ∙ plan_on cap repeats placed n (length placed) (omega arith) start (is (fits cap repeats placed) (repeat_of repeats (length placed)) (Some start) f))
 
   -- what a plan is: all the entries are placed, or those before the one for which none fits
   pub data Made (n : ℕ) : Plan → Type 0 where
     all : (starts : List ℕ) → Placed starts → length starts ≡ n → Made n (whole starts)
-    some : (placed : List ℕ) → Placed placed → length placed < n → None (fits cap repeats placed) (repeat_of repeats (length placed)) →
+    some : (placed : List ℕ) → Placed placed → length placed < n → NonePasses (fits cap repeats placed) (repeat_of repeats (length placed)) →
         Made n (stuck (length placed))
 
   -- promise: no13.5
@@ -60,10 +61,10 @@ module _ (cap : ℕ) (repeats : List ℕ) where
       subst (λ (n : ℕ). Made n (plan_from cap repeats (length repeats) [])) z (made (length repeats) [] none)
 
   module _ (room : ℕ) where
-    abbrev Given : ℕ → PlanAnswer → Type 0
+    abbrev Given : ℕ → Result (Unit {0}) PlanRefusal → Type 0
     Given = N.Given cap repeats room
 
-    abbrev Told : PlanAnswer → Type 0
+    abbrev Told : Result (Unit {0}) PlanRefusal → Type 0
     Told r = Given (plan_number_of r) r
 
     placed_told : N.Divided cap repeats → (p : Plan) → Made (length repeats) p → Told (answer_to p room)
@@ -87,23 +88,23 @@ module _ (cap : ℕ) (repeats : List ℕ) where
 
     -- where a number's rule holds, that rule's answer is given
     -- promise: no13.6
-    pub only : {n : ℕ} {r : PlanAnswer} → Given n r → plan_of cap repeats room ≡ r
+    pub only : {n : ℕ} {r : Result (Unit {0}) PlanRefusal} → Given n r → plan_of cap repeats room ≡ r
     unfolding plan_of earliest_of
     only (too_many h) = rw h
-    only (bad_repeat_lem k f b) = rw (f, is (bad_repeat repeats) (length repeats) (At k) b)
+    only (bad_repeat_lem k f b) = rw (f, is (bad_repeat repeats) (length repeats) (Some k) b)
     only (no_fit placed d p l h) =
         rw (
           d.few,
-          is (bad_repeat repeats) (length repeats) Nothing d.divide,
+          is (bad_repeat repeats) (length repeats) None d.divide,
           along (length repeats) placed p (omega arith)
-              ∙ plan_stuck cap repeats placed (length repeats) (length placed) l (is (fits cap repeats placed) (repeat_of repeats (length placed)) Nothing h),
+              ∙ plan_stuck cap repeats placed (length repeats) (length placed) l (is (fits cap repeats placed) (repeat_of repeats (length placed)) None h),
         )
     only (no_room starts d p e l) =
-        rw (d.few, is (bad_repeat repeats) (length repeats) Nothing d.divide, whole_plan starts p e, lt-ltb room (length starts) (omega arith))
+        rw (d.few, is (bad_repeat repeats) (length repeats) None d.divide, whole_plan starts p e, lt-ltb room (length starts) (omega arith))
     only (planned starts d p e l) =
-        rw (d.few, is (bad_repeat repeats) (length repeats) Nothing d.divide, whole_plan starts p e, le-ltb room (length starts) (omega arith))
+        rw (d.few, is (bad_repeat repeats) (length repeats) None d.divide, whole_plan starts p e, le-ltb room (length starts) (omega arith))
 
-    numbered : {n : ℕ} {r : PlanAnswer} → Given n r → plan_number_of r ≡ n
+    numbered : {n : ℕ} {r : Result (Unit {0}) PlanRefusal} → Given n r → plan_number_of r ≡ n
     numbered (too_many h) = refl
     numbered (bad_repeat_lem k f b) = refl
     numbered (no_fit placed d p l h) = refl
@@ -112,7 +113,7 @@ module _ (cap : ℕ) (repeats : List ℕ) where
 
     -- so a number is given if and only if its rule holds
     -- promise: no13.6
-    pub number : (n : ℕ) → (plan_number_of (plan_of cap repeats room) ≡ n) ↔ ((r : PlanAnswer) × Given n r)
+    pub number : (n : ℕ) → (plan_number_of (plan_of cap repeats room) ≡ n) ↔ ((r : Result (Unit {0}) PlanRefusal) × Given n r)
     number n = (
       λ e. (plan_of cap repeats room, subst (λ (k : ℕ). Given k (plan_of cap repeats room)) e given),
       λ g. ap plan_number_of (only g.1) ∙ numbered g.1,

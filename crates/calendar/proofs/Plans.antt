@@ -10,15 +10,14 @@ use native.Mathlib.Omega.{arith}
 use native.Mathlib.Nat.{eq-or-lt_of_le}
 use lib.Dec.{ltb}
 use lib.ListN.{length, take, drop, get_or-append, get_or-eq_default, length-append}
-use lib.Seq.{get_or_at, take_at, drop_at, take-append-le}
+use lib.Seq.{get_or_at, take_at, take-append-le}
 use borrow.Author.Tests.{le-ltb, lt-leb}
-use Rattle.calendar.specs.declared.CheckAnswer.{CheckAnswer}
-use Rattle.calendar.specs.declared.CheckAnswer.TheVariants.{Accepted}
-use Rattle.calendar.specs.declared.CheckAnswer.TheVariants as C
-use Rattle.calendar.specs.declared.PlanAnswer.{PlanAnswer}
-use Rattle.calendar.specs.declared.PlanAnswer.TheVariants as P
-use Rattle.calendar.specs.declared.PlanAnswer.TheVariants.{Planned, NoFit}
-use Rattle.calendar.specs.Lowest.{None, First}
+use Rattle.std.specs.Prelude.{Result, Ok, Err}
+use Rattle.calendar.specs.declared.CheckRefusal.{CheckRefusal}
+use Rattle.calendar.specs.declared.CheckRefusal.TheVariants as C
+use Rattle.calendar.specs.declared.PlanRefusal.{PlanRefusal}
+use Rattle.calendar.specs.declared.PlanRefusal.TheVariants as P
+use Rattle.calendar.specs.Lowest.{NonePasses, First}
 use Rattle.calendar.specs.Calendar.{entries_of, start_of, repeat_of, bad_repeat, load, over, check_of}
 use Rattle.calendar.specs.Plan.{fits, plan_from, plan_of, left_in, starts_in, buffer_of, plan_number_of}
 use Rattle.calendar.specs.Numbers as N
@@ -56,14 +55,14 @@ module _ (cap : ℕ) (repeats : List ℕ) where
       rw (s, t) (each placed p k h))
       (eq-or-lt_of_le (before_last (length placed) k (rw length-append at l)))
 
-  pub under : (starts : List ℕ) → M.Placed cap repeats starts → None (over cap starts repeats (length starts)) 1440
+  pub under : (starts : List ℕ) → M.Placed cap repeats starts → NonePasses (over cap starts repeats (length starts)) 1440
   under [] none m l = no_polls cap repeats m
   under _ (next placed start p f) m l =
       let e : length (placed ++ start ∷ []) ≡ suc (length placed) = omega (arith, length-append placed (start ∷ [])) in
       rw e (nothing (over cap (placed ++ start ∷ []) repeats (suc (length placed))) 1440 (is_nothing_true _ f.passes) m l)
 
   pub accepted_plan : (starts : List ℕ) → M.Divided cap repeats → M.Placed cap repeats starts → length starts ≡ length repeats →
-      check_of cap starts repeats ≡ Accepted
+      check_of cap starts repeats ≡ Ok tt
   accepted_plan starts d p e =
       let n : entries_of starts repeats ≡ length repeats = omega arith in
       check.only cap starts repeats
@@ -84,16 +83,16 @@ module _ (cap : ℕ) (repeats : List ℕ) where
     pub long : length starts ≡ length repeats
 
   module _ (out : List ℕ) where
-    whole_of_lem : {n : ℕ} {r : PlanAnswer} → M.Given cap repeats (length out) n r → r ≡ Planned → Whole
-    whole_of_lem (M.planned starts d p e l) q = record { starts = starts; divided = d; placed = p; long = e }
-    whole_of_lem (M.too_many h) q = let z : ◌≡◌ {A = ℕ} 0 1 = cc in absurd (omega arith)
-    whole_of_lem (M.bad_repeat_lem k f b) q = let z : ◌≡◌ {A = ℕ} 0 1 = cc in absurd (omega arith)
-    whole_of_lem (M.no_fit placed d p l h) q = let z : ◌≡◌ {A = ℕ} 0 1 = cc in absurd (omega arith)
-    whole_of_lem (M.no_room starts d p e l) q = let z : ◌≡◌ {A = ℕ} 0 1 = cc in absurd (omega arith)
+    whole_of : {n : ℕ} {r : Result (Unit {0}) PlanRefusal} → M.Given cap repeats (length out) n r → r ≡ Ok tt → Whole
+    whole_of (M.planned starts d p e l) q = record { starts = starts; divided = d; placed = p; long = e }
+    whole_of (M.too_many h) q = cc
+    whole_of (M.bad_repeat_lem k f b) q = cc
+    whole_of (M.no_fit placed d p l h) q = cc
+    whole_of (M.no_room starts d p e l) q = cc
 
-    module _ (e : plan_of cap repeats (length out) ≡ Planned) where
+    module _ (e : plan_of cap repeats (length out) ≡ Ok tt) where
       pub plan_given : Whole
-      plan_given = whole_of_lem (plan.given cap repeats (length out)) e
+      plan_given = whole_of (plan.given cap repeats (length out)) e
 
       buffer_is : buffer_of cap repeats out ≡ plan_given.starts ++ drop (length plan_given.starts) out
       unfolding buffer_of
@@ -101,18 +100,12 @@ module _ (cap : ℕ) (repeats : List ℕ) where
 
       -- THE LAW: what it gives is accepted
       -- promise: no13.8
-      pub given_is_accepted : check_of cap (take (length repeats) (buffer_of cap repeats out)) repeats ≡ Accepted
+      pub given_is_accepted : check_of cap (take (length repeats) (buffer_of cap repeats out)) repeats ≡ Ok tt
       given_is_accepted =
           let w = plan_given in
           let t : take (length repeats) (buffer_of cap repeats out) ≡ w.starts =
           rw buffer_is (take_at w.starts (drop (length w.starts) out) (length repeats) w.long) in
           rw t (accepted_plan w.starts w.divided w.placed w.long)
-
-      -- and behind the starts the buffer is as it was
-      pub rest_untouched : drop (length repeats) (buffer_of cap repeats out) ≡ drop (length repeats) out
-      rest_untouched =
-          let w = plan_given in
-          rw (buffer_is, drop_at w.starts (drop (length w.starts) out) (length repeats) w.long, w.long)
 
     -- where it refuses, nothing is written
     -- promise: no13.9
@@ -120,12 +113,10 @@ module _ (cap : ℕ) (repeats : List ℕ) where
     unfolding buffer_of
     refused_untouched h = go (plan_of cap repeats (length out)) h
       where
-        go : (r : PlanAnswer) → (plan_number_of r ≡ 0 → ⊥) → left_in (starts_in (plan_from cap repeats (length repeats) [])) out r ≡ out
-        go Planned h = absurd (h refl)
-        go P.TooMany h = refl
-        go (P.BadRepeat k) h = refl
-        go (NoFit k) h = refl
-        go P.NoRoom h = refl
+        go : (r : Result (Unit {0}) PlanRefusal) → (plan_number_of r ≡ 0 → ⊥)
+            → left_in (starts_in (plan_from cap repeats (length repeats) [])) out r ≡ out
+        go (Ok tt) h = absurd (h refl)
+        go (Err e) h = refl
 
   -- ---- 80 and 81 are the check's, whatever starts stand beside the repeats
 
@@ -133,22 +124,22 @@ module _ (cap : ℕ) (repeats : List ℕ) where
     count : entries_of starts repeats ≡ length repeats
     count = omega arith
 
-    check_80 : {n : ℕ} {r : CheckAnswer} → N.Given cap starts repeats n r → r ≡ C.TooMany → ltb 64 (length repeats) ≡ true
+    check_80 : {n : ℕ} {r : Result (Unit {0}) CheckRefusal} → N.Given cap starts repeats n r → r ≡ Err C.TooMany → ltb 64 (length repeats) ≡ true
     check_80 (N.too_many h) q = rw count at h
-    check_80 (N.bad_repeat_lem k f b) q = let z : ◌≡◌ {A = ℕ} 0 1 = cc in absurd (omega arith)
-    check_80 (N.late_start_lem k d l) q = let z : ◌≡◌ {A = ℕ} 0 1 = cc in absurd (omega arith)
-    check_80 (N.over_cap m e o) q = let z : ◌≡◌ {A = ℕ} 0 1 = cc in absurd (omega arith)
-    check_80 (N.accepted e o) q = let z : ◌≡◌ {A = ℕ} 0 1 = cc in absurd (omega arith)
+    check_80 (N.bad_repeat_lem k f b) q = cc
+    check_80 (N.late_start_lem k d l) q = cc
+    check_80 (N.over_cap m e o) q = cc
+    check_80 (N.accepted e o) q = cc
 
-    plan_80 : {n : ℕ} {r : PlanAnswer} → M.Given cap repeats room n r → r ≡ P.TooMany → ltb 64 (length repeats) ≡ true
+    plan_80 : {n : ℕ} {r : Result (Unit {0}) PlanRefusal} → M.Given cap repeats room n r → r ≡ Err P.TooMany → ltb 64 (length repeats) ≡ true
     plan_80 (M.too_many h) q = h
-    plan_80 (M.bad_repeat_lem k f b) q = let z : ◌≡◌ {A = ℕ} 0 1 = cc in absurd (omega arith)
-    plan_80 (M.no_fit placed d p l h) q = let z : ◌≡◌ {A = ℕ} 0 1 = cc in absurd (omega arith)
-    plan_80 (M.no_room starts d p e l) q = let z : ◌≡◌ {A = ℕ} 0 1 = cc in absurd (omega arith)
-    plan_80 (M.planned starts d p e l) q = let z : ◌≡◌ {A = ℕ} 0 1 = cc in absurd (omega arith)
+    plan_80 (M.bad_repeat_lem k f b) q = cc
+    plan_80 (M.no_fit placed d p l h) q = cc
+    plan_80 (M.no_room starts d p e l) q = cc
+    plan_80 (M.planned starts d p e l) q = cc
 
     -- promise: no13.6
-    pub same_80 : (check_of cap starts repeats ≡ C.TooMany) ↔ (plan_of cap repeats room ≡ P.TooMany)
+    pub same_80 : (check_of cap starts repeats ≡ Err C.TooMany) ↔ (plan_of cap repeats room ≡ Err P.TooMany)
     same_80 = (
       λ e. plan.only cap repeats room (M.too_many (check_80 (check.given cap starts repeats) e)),
       λ e. check.only cap starts repeats (N.too_many (rw count (plan_80 (plan.given cap repeats room) e))),
@@ -157,22 +148,22 @@ module _ (cap : ℕ) (repeats : List ℕ) where
     abbrev Bad : ℕ → Type 0
     Bad k = (ltb 64 (length repeats) ≡ false) × First (bad_repeat repeats) (length repeats) k
 
-    check_81 : (k : ℕ) {n : ℕ} {r : CheckAnswer} → N.Given cap starts repeats n r → r ≡ C.BadRepeat k → Bad k
+    check_81 : (k : ℕ) {n : ℕ} {r : Result (Unit {0}) CheckRefusal} → N.Given cap starts repeats n r → r ≡ Err (C.BadRepeat k) → Bad k
     check_81 k (N.bad_repeat_lem j f b) q = let s : j ≡ k = cc in subst Bad s (rw count at f, rw count at b)
-    check_81 k (N.too_many h) q = let z : ◌≡◌ {A = ℕ} 0 1 = cc in absurd (omega arith)
-    check_81 k (N.late_start_lem j d l) q = let z : ◌≡◌ {A = ℕ} 0 1 = cc in absurd (omega arith)
-    check_81 k (N.over_cap m e o) q = let z : ◌≡◌ {A = ℕ} 0 1 = cc in absurd (omega arith)
-    check_81 k (N.accepted e o) q = let z : ◌≡◌ {A = ℕ} 0 1 = cc in absurd (omega arith)
+    check_81 k (N.too_many h) q = cc
+    check_81 k (N.late_start_lem j d l) q = cc
+    check_81 k (N.over_cap m e o) q = cc
+    check_81 k (N.accepted e o) q = cc
 
-    plan_81 : (k : ℕ) {n : ℕ} {r : PlanAnswer} → M.Given cap repeats room n r → r ≡ P.BadRepeat k → Bad k
+    plan_81 : (k : ℕ) {n : ℕ} {r : Result (Unit {0}) PlanRefusal} → M.Given cap repeats room n r → r ≡ Err (P.BadRepeat k) → Bad k
     plan_81 k (M.bad_repeat_lem j f b) q = let s : j ≡ k = cc in subst Bad s (f, b)
-    plan_81 k (M.too_many h) q = let z : ◌≡◌ {A = ℕ} 0 1 = cc in absurd (omega arith)
-    plan_81 k (M.no_fit placed d p l h) q = let z : ◌≡◌ {A = ℕ} 0 1 = cc in absurd (omega arith)
-    plan_81 k (M.no_room starts d p e l) q = let z : ◌≡◌ {A = ℕ} 0 1 = cc in absurd (omega arith)
-    plan_81 k (M.planned starts d p e l) q = let z : ◌≡◌ {A = ℕ} 0 1 = cc in absurd (omega arith)
+    plan_81 k (M.too_many h) q = cc
+    plan_81 k (M.no_fit placed d p l h) q = cc
+    plan_81 k (M.no_room starts d p e l) q = cc
+    plan_81 k (M.planned starts d p e l) q = cc
 
     -- promise: no13.6
-    pub same_81 : (k : ℕ) → (check_of cap starts repeats ≡ C.BadRepeat k) ↔ (plan_of cap repeats room ≡ P.BadRepeat k)
+    pub same_81 : (k : ℕ) → (check_of cap starts repeats ≡ Err (C.BadRepeat k)) ↔ (plan_of cap repeats room ≡ Err (P.BadRepeat k))
     same_81 k = (
       λ e. let b = check_81 k (check.given cap starts repeats) e in plan.only cap repeats room (M.bad_repeat_lem k b.0 b.1),
       λ e. let b = plan_81 k (plan.given cap repeats room) e in check.only cap starts repeats (N.bad_repeat_lem k (rw count b.0) (rw count b.1)),
@@ -180,7 +171,7 @@ module _ (cap : ℕ) (repeats : List ℕ) where
 
 -- ---- lists of unequal length are never accepted
 -- promise: no13.1 (lists of unequal length are never accepted)
-pub unequal : (cap : ℕ) (starts repeats : List ℕ) → check_of cap starts repeats ≡ Accepted → length starts ≡ length repeats
+pub unequal : (cap : ℕ) (starts repeats : List ℕ) → check_of cap starts repeats ≡ Ok tt → length starts ≡ length repeats
 unequal cap starts repeats e =
     let f = (check.accepts cap starts repeats).0 e in
     ⊎_elim

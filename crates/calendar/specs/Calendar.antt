@@ -1,9 +1,9 @@
 -- RULES, No. 13: a calendar, and the check of it. An entry is a start and a repeat, in minutes; a calendar is a list of starts beside a list of repeats.
 -- Assumes nothing.
-use Rattle.std.specs.Prelude.{Bool, not, ◌&&◌, cond, List, ℕ, zero, suc, ◌%◌, max, ltb, leb, eqb, length, get_or}
+use Rattle.std.specs.Prelude.{Bool, not, ◌&&◌, cond, List, ℕ, zero, suc, ◌%◌, max, ltb, leb, eqb, length, get_or, Result, Ok, Err}
 use Rattle.calendar.specs.Lowest.{lowest, named}
-use Rattle.calendar.specs.declared.CheckAnswer.{CheckAnswer}
-use Rattle.calendar.specs.declared.CheckAnswer.TheVariants.{Accepted, TooMany, BadRepeat, LateStart, OverCap}
+use Rattle.calendar.specs.declared.CheckRefusal.{CheckRefusal}
+use Rattle.calendar.specs.declared.CheckRefusal.TheVariants.{TooMany, BadRepeat, LateStart, OverCap}
 
 -- ---- the entries
 
@@ -59,17 +59,17 @@ over cap starts repeats n m = ltb cap (load starts repeats n m)
 -- 80 more than 64 entries; 81, 82, 83, each with the lowest entry or minute; otherwise accepted
 -- promise no13.8: The check accepts what the planner returns.
 -- promise: no13.3, no13.7
-unfoldable pub check_of : ℕ → List ℕ → List ℕ → CheckAnswer
+unfoldable pub check_of : ℕ → List ℕ → List ℕ → Result (Unit {0}) CheckRefusal
 check_of cap starts repeats =
-    cond (ltb 64 (entries_of starts repeats)) TooMany
-    (named (lowest (bad_repeat repeats) (entries_of starts repeats)) BadRepeat
-    (named (lowest (late_start starts repeats) (entries_of starts repeats)) LateStart
-    (named (lowest (over cap starts repeats (entries_of starts repeats)) 1440) OverCap
-    Accepted)))
+    cond (ltb 64 (entries_of starts repeats)) (Err TooMany)
+    (named (lowest (bad_repeat repeats) (entries_of starts repeats)) (λ k. Err (BadRepeat k))
+    (named (lowest (late_start starts repeats) (entries_of starts repeats)) (λ k. Err (LateStart k))
+    (named (lowest (over cap starts repeats (entries_of starts repeats)) 1440) (λ m. Err (OverCap m))
+    (Ok tt))))
 
-abbrev pub number_of : CheckAnswer → ℕ
-number_of Accepted = 0
-number_of TooMany = 80
-number_of (BadRepeat k) = 81
-number_of (LateStart k) = 82
-number_of (OverCap m) = 83
+abbrev pub number_of : Result (Unit {0}) CheckRefusal → ℕ
+number_of (Ok _) = 0
+number_of (Err TooMany) = 80
+number_of (Err (BadRepeat k)) = 81
+number_of (Err (LateStart k)) = 82
+number_of (Err (OverCap m)) = 83

@@ -1,12 +1,10 @@
 -- RULES, No. 13: the planner. It places entries one by one at the earliest start that fits, and stops at the first for which none fits.
 -- Assumes nothing.
-use Rattle.std.specs.Prelude.{Bool, cond, List, [], ◌∷◌, ◌++◌, ℕ, zero, suc, ltb, length, drop}
+use Rattle.std.specs.Prelude.{Bool, cond, List, [], ◌∷◌, ◌++◌, ℕ, zero, suc, ltb, length, drop, Option, Some, None, Result, Ok, Err}
 use Rattle.calendar.specs.Lowest.{lowest, named, is_nothing}
 use Rattle.calendar.specs.Calendar.{repeat_of, bad_repeat, over}
-use Rattle.calendar.specs.declared.Found.{Found}
-use Rattle.calendar.specs.declared.Found.TheVariants.{At, Nothing}
-use Rattle.calendar.specs.declared.PlanAnswer.{PlanAnswer}
-use Rattle.calendar.specs.declared.PlanAnswer.TheVariants.{Planned, TooMany, BadRepeat, NoFit, NoRoom}
+use Rattle.calendar.specs.declared.PlanRefusal.{PlanRefusal}
+use Rattle.calendar.specs.declared.PlanRefusal.TheVariants.{TooMany, BadRepeat, NoFit, NoRoom}
 
 -- a start fits the next entry if, with the entries placed before, no minute of the day gets more polls than the cap
 -- promise no13.5: The planner places the entries one by one, each at the earliest start that fits with those before.
@@ -15,7 +13,7 @@ fits cap repeats placed start = is_nothing (lowest (over cap (placed ++ start �
 
 -- the earliest start of the next entry that fits, below its repeat
 -- promise: no13.5
-unfoldable pub earliest_of : ℕ → List ℕ → List ℕ → Found
+unfoldable pub earliest_of : ℕ → List ℕ → List ℕ → Option ℕ
 earliest_of cap repeats placed = lowest (fits cap repeats placed) (repeat_of repeats (length placed))
 
 -- the starts of all entries, or the first entry for which none fits
@@ -31,22 +29,22 @@ plan_from cap repeats (suc n) placed =
     named (earliest_of cap repeats placed) (λ start. plan_from cap repeats n (placed ++ start ∷ [])) (stuck (length placed))
 
 -- a plan as the code has it: the entry for which none fits, or the starts
-abbrev pub planned : Found → List ℕ → Plan
-planned (At k) starts = stuck k
-planned Nothing starts = whole starts
+abbrev pub planned : Option ℕ → List ℕ → Plan
+planned (Some k) starts = stuck k
+planned None starts = whole starts
 
 -- the answer to a plan, given how many entries fit the buffer: 84 with the entry; 31 if the plan is longer than the buffer
-abbrev pub answer_to : Plan → ℕ → PlanAnswer
-answer_to (whole starts) room = cond (ltb room (length starts)) NoRoom Planned
-answer_to (stuck k) room = NoFit k
+abbrev pub answer_to : Plan → ℕ → Result (Unit {0}) PlanRefusal
+answer_to (whole starts) room = cond (ltb room (length starts)) (Err NoRoom) (Ok tt)
+answer_to (stuck k) room = Err (NoFit k)
 
 -- 80, 81 as the check has them, then 84
 -- promise no13.6: The planner answers 84 exactly at the first entry for which no start fits, and 80 and 81 as the check does.
 -- promise no13.7: 84 is given even where another plan exists: repeats 4, 4, 2 with cap 1 stop at the third, although 0, 2, 1 would fit.
-unfoldable pub plan_of : ℕ → List ℕ → ℕ → PlanAnswer
+unfoldable pub plan_of : ℕ → List ℕ → ℕ → Result (Unit {0}) PlanRefusal
 plan_of cap repeats room =
-    cond (ltb 64 (length repeats)) TooMany
-    (named (lowest (bad_repeat repeats) (length repeats)) BadRepeat
+    cond (ltb 64 (length repeats)) (Err TooMany)
+    (named (lowest (bad_repeat repeats) (length repeats)) (λ k. Err (BadRepeat k))
     (answer_to (plan_from cap repeats (length repeats) []) room))
 
 -- the starts, if there are any
@@ -56,21 +54,18 @@ starts_in (stuck k) = []
 
 -- what is left in the buffer: the plan at its start and the rest unchanged, or nothing written
 -- promise: no13.9
-abbrev pub left_in : List ℕ → List ℕ → PlanAnswer → List ℕ
-left_in starts out Planned = starts ++ drop (length starts) out
-left_in starts out TooMany = out
-left_in starts out (BadRepeat k) = out
-left_in starts out (NoFit k) = out
-left_in starts out NoRoom = out
+abbrev pub left_in : List ℕ → List ℕ → Result (Unit {0}) PlanRefusal → List ℕ
+left_in starts out (Ok _) = starts ++ drop (length starts) out
+left_in starts out (Err _) = out
 
 -- promise no13.9: The starts are written to the buffer's beginning, and the rest stays. A rejection writes nothing. 31 if a plan has no room.
 -- promise: no13.8
 unfoldable pub buffer_of : ℕ → List ℕ → List ℕ → List ℕ
 buffer_of cap repeats out = left_in (starts_in (plan_from cap repeats (length repeats) [])) out (plan_of cap repeats (length out))
 
-abbrev pub plan_number_of : PlanAnswer → ℕ
-plan_number_of Planned = 0
-plan_number_of TooMany = 80
-plan_number_of (BadRepeat k) = 81
-plan_number_of (NoFit k) = 84
-plan_number_of NoRoom = 31
+abbrev pub plan_number_of : Result (Unit {0}) PlanRefusal → ℕ
+plan_number_of (Ok _) = 0
+plan_number_of (Err TooMany) = 80
+plan_number_of (Err (BadRepeat k)) = 81
+plan_number_of (Err (NoFit k)) = 84
+plan_number_of (Err NoRoom) = 31

@@ -36,7 +36,8 @@ pub entry_end : (l : List ℕ) (at : ℕ) → at ≡ length l → entry_at l at 
 unfolding entry_at
 entry_end l at e = simp (le-ltb (length l) at (omega arith), eq-eqb (length l - at) 0 (omega arith))
 
-entry_cookie : (l : List ℕ) (at n : ℕ) → at + 4 + n ≤ length l → record_mark_at l at ≡ 0xC00E → length_at l at ≡ n → entry_at l at ≡ Cookie (at + 4) (at + 4 + n)
+entry_cookie : (l : List ℕ) (at n : ℕ) → at + 4 + n ≤ length l → record_mark_at l at ≡ 0xC00E → length_at l at ≡ n →
+    entry_at l at ≡ Cookie (at + 4) (at + 4 + n)
 unfolding entry_at
 entry_cookie l at n h m e =
     simp (

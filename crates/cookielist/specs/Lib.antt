@@ -1,2 +1,3 @@
 -- The definitions that the contracts of `cookielist` cite.
 pub mod List
+pub mod Cookies

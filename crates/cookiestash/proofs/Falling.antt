@@ -1,6 +1,6 @@
 -- What falls out: one cookie after the other it is what the definition says of all; nothing is lost unseen; and the sums are small.
 -- Assumes nothing.
-use Prim.Native.Nat.{ℕ, zero, suc, ◌+◌, ◌*◌, ◌-◌, ◌≤◌, ◌<◌}
+use Prim.Native.Nat.{ℕ, zero, suc, ◌+◌, ◌*◌, ◌-◌, ◌≤◌, ◌<◌, min}
 use mathlib.Core.Path.{◌≡◌, refl, sym, ap, ◌∙◌}
 use mathlib.Core.Bool.{Bool, true, false, cond}
 use mathlib.Core.List.{List, [], ◌∷◌, ◌++◌, map, append_assoc}
@@ -8,14 +8,11 @@ use native.Mathlib.Decide.{dec_lt}
 use native.Mathlib.Omega.{arith}
 use borrow.Author.Tests.{le-leb, lt-leb}
 use lib.ListN.{length, take, drop, take-append-drop, length-append, length-take, length-map, get_or-eq_default}
-use Rattle.words.specs.Bytes.{part}
 use Rattle.words.proofs.Bytes.{Bytes}
-use Rattle.cookielist.specs.declared.Entry.{Entry}
-use Rattle.cookielist.specs.declared.Entry.TheVariants.{Cookie, End, Broken}
 use Rattle.words.specs.Put.{record_of}
-use Rattle.cookielist.specs.List.{AllShort, list_of, entry_at, Listed, whole, broken, is_whole, before, cookies_from, cookies_in}
-use Rattle.cookielist.proofs.Reader.{placed, read_cookie, read_end, read_broken}
-use Rattle.cookielist.proofs.RoundTrip.{short_again, list_written, list_short}
+use Rattle.std.proofs.Common.{Option, None, Some}
+use Rattle.cookielist.specs.List.{AllShort, list_of, Listed, whole, broken, is_whole, cookies_in}
+use Rattle.cookielist.proofs.RoundTrip.{list_written, list_short}
 use Rattle.cookiestash.specs.declared.Slot.{Slot}
 use Rattle.cookiestash.specs.declared.CookieStash.{CookieStash}
 use Rattle.cookiestash.specs.declared.Dropped.{Dropped}
@@ -23,7 +20,7 @@ use Rattle.cookiestash.specs.Stash.{slot_at, wrap, full, in_range, store_of}
 use Rattle.cookiestash.specs.Queue.{walk, queue, cookie_of, seen, cookies, store_all}
 use Rattle.cookiestash.specs.Queue as Q
 use Rattle.cookiestash.specs.Whole.{Typed}
-use Rattle.cookiestash.specs.Falling.{none_fallen, oldest_of, fallen_of, fallen_all, fallen_listed, lengths, tally_of, dropped_of, plus_of, Fit}
+use Rattle.cookiestash.specs.Falling.{none_fallen, oldest_of, fallen_of, fallen_all, fallen_listed, lengths, tally_of, dropped_of, plus_of, counted_of, Fit}
 use Rattle.cookiestash.proofs.Range.{within, InRange, store_range}
 use Rattle.cookiestash.proofs.Cookies.{length_cookies, store_room, store_full, held_room, held_full, store_all_lem}
 
@@ -118,7 +115,7 @@ added d cs = record { count = d.count + length cs; bytes = d.bytes + lengths cs 
 
 -- one cookie that fell out, or none, beside those before
 added_oldest : (s : CookieStash) (d : Dropped) (cs : List Q.Cookie) (b : Bool) → let x = slot_at s.slots s.read in
-    added d (cond b (seen x ∷ []) [] ++ cs) ≡ added (plus_of d (cond b (record { fell = true; len = x.len }) none_fallen)) cs
+    added d (cond b (seen x ∷ []) [] ++ cs) ≡ added (plus_of d (cond b (Some x.len) none_fallen)) cs
 unfolding seen
 added_oldest s d cs true =
     λ i. record {
@@ -152,12 +149,9 @@ module _ (cap : ℕ) (s : CookieStash) where
   nothing_by true i = none_falls cap s i
   nothing_by false i = refl
 
-  -- an answer that is no cookie ends the storing
-  pub falls_stop : (l : List ℕ) (at : ℕ) (e : Entry) (d : Dropped) → entry_at l at ≡ e → ((start end : ℕ) → e ≡ Cookie start end → ⊥) →
-      added d (fallen_listed cap s (cookies_from l at)) ≡ d
-  falls_stop l at (Cookie start end) d p h = absurd (h start end refl)
-  falls_stop l at End d p h = rw (read_end l at p, nothing_by (in_range cap s) refl) (added_none d)
-  falls_stop l at Broken d p h = rw (read_broken l at p) (added_none d)
+  -- with no cookie left nothing more falls out
+  pub falls_none : (d : Dropped) → added d (fallen_listed cap s (whole [])) ≡ d
+  falls_none d = rw (nothing_by (in_range cap s) refl) (added_none d)
 
   module _ (eight : length s.slots ≡ 8) (d : Dropped) (c : List ℕ) (h : length c ≤ 65535) where
     -- it pushes the oldest out
@@ -185,19 +179,18 @@ module _ (cap : ℕ) (s : CookieStash) where
         absurd (omega arith)
     falls_by cs false false i j = rw (out_none i).1
 
-    falls_listed : (r : Listed) → is_whole r ≡ true →
-        added d (fallen_listed cap s (before c r)) ≡ added (plus_of d (fallen_of cap s c)) (fallen_listed cap (store_of cap s c) r)
-    falls_listed (whole cs) e = falls_by cs (in_range cap s) (in_range cap (store_of cap s c)) refl refl
-    falls_listed broken e = let z : ◌≡◌ {A = ℕ} 0 1 = cc in absurd (omega arith)
+    -- what falls out by a cookie, and then by those behind it
+    pub falls_cookie : (cs : List (List ℕ)) →
+        added d (fallen_listed cap s (whole (c ∷ cs))) ≡ added (plus_of d (fallen_of cap s c)) (fallen_listed cap (store_of cap s c) (whole cs))
+    falls_cookie cs = falls_by cs (in_range cap s) (in_range cap (store_of cap s c)) refl refl
 
-  -- what falls out by a cookie, and then by those behind it
-  pub falls_cookie : length s.slots ≡ 8 → (d : Dropped) (l : List ℕ) → Bytes l → (at start end : ℕ) → entry_at l at ≡ Cookie start end →
-      is_whole (cookies_from l end) ≡ true →
-      let c = part l start (end - start) in added d (fallen_listed cap s (cookies_from l at))
-      ≡ added (plus_of d (fallen_of cap s c)) (fallen_listed cap (store_of cap s c) (cookies_from l end))
-  falls_cookie n d l bytes at start end e k =
-      rw (read_cookie l at start end e) (falls_listed n d (part l start (end - start)) (short_again l bytes at start end (placed l at start end e))
-      (cookies_from l end) k)
+-- the code's sum of what fits is the sum
+pub counted_fits : (d : Dropped) (f : Option ℕ) → Fit (plus_of d f) → counted_of d f ≡ plus_of d f
+counted_fits d None h = refl
+counted_fits d (Some len) h =
+    let c : min (d.count + 1) 18446744073709551615 ≡ d.count + 1 = omega (arith, h.0) in
+    let b : min (d.bytes + len) 18446744073709551615 ≡ d.bytes + len = omega (arith, h.1) in
+    λ i. record { count = c i; bytes = b i }
 
 -- ---- the sums are small
 

@@ -8,12 +8,14 @@ use native.Mathlib.Omega.{arith}
 use borrow.Author.Tests.{ltb-true}
 use lib.Dec.{ltb, eqb}
 use lib.ListN.{get_or, drop, get_or-map}
+use Rattle.std.proofs.Common.{None, Some}
+use Rattle.std.specs.Option.{option_map}
 use Rattle.words.specs.Bytes.{zeros}
 use Rattle.words.proofs.Tests.{both}
 use Rattle.cookiestash.specs.declared.Slot.{Slot}
 use Rattle.cookiestash.specs.declared.CookieStash.{CookieStash}
 use Rattle.cookiestash.specs.declared.Taken.{Taken}
-use Rattle.cookiestash.specs.Stash.{empty_slot, slot_at, wrap, range_of, in_range, gap_of, rest_of, get_of}
+use Rattle.cookiestash.specs.Stash.{slot_at, wrap, range_of, in_range, gap_of, rest_of, get_of, is_found}
 use Rattle.cookiestash.specs.Queue.{walk}
 use Rattle.cookiestash.specs.Whole.{all_padded, all_free, free_slots, whole_of, seen_of, lens_of, round_free, has_of, seen_from}
 use Rattle.cookiestash.proofs.Range.{within}
@@ -55,16 +57,11 @@ free_lens cap s =
 -- what a take finds, by whether there is a cookie
 abbrev taking : ℕ → CookieStash → Bool → Taken
 taking cap s b =
-    cond b (record { found = true; slot = slot_at s.slots s.read; stash = rest_of cap s }) (record { found = false; slot = empty_slot; stash = s })
+    cond b (record { cookie = Some (slot_at s.slots s.read); stash = rest_of cap s }) (record { cookie = None; stash = s })
 
-take_found : (cap : ℕ) (s : CookieStash) (b : Bool) → b ≡ (taking cap s b).found
-take_found cap s true = refl
-take_found cap s false = refl
-
-take_len : (cap : ℕ) (s : CookieStash) (b : Bool) → cond b (slot_at s.slots s.read).len 0 ≡ (taking cap s b).slot.len
-unfolding empty_slot
-take_len cap s true = refl
-take_len cap s false = refl
+take_oldest : (cap : ℕ) (s : CookieStash) (b : Bool) → cond b (Some (slot_at s.slots s.read).len) None ≡ option_map (λ x. x.len) (taking cap s b).cookie
+take_oldest cap s true = refl
+take_oldest cap s false = refl
 
 take_gap : (cap : ℕ) (s : CookieStash) (b : Bool) → cap - cond b (s.held - 1) s.held ≡ gap_of cap (taking cap s b).stash
 unfolding gap_of rest_of
@@ -76,8 +73,7 @@ unfolding seen_from whole_of in_range get_of lens_of
 seen_from_lem cap s = λ j.
     record {
       whole = range_of cap s.read s.held && (all_padded s.slots && sym (free_lens cap s) j);
-      found = take_found cap s b j;
-      len = len j;
+      oldest = oldest j;
       gap = take_gap cap s b j;
       read = s.read;
       held = s.held;
@@ -86,17 +82,17 @@ seen_from_lem cap s = λ j.
     b : Bool
     b = has_of cap s.read s.held
 
-    len : cond b (get_or (lens_of s) s.read 0) 0 ≡ (taking cap s b).slot.len
-    len = ap (λ (n : ℕ). cond b n 0) (len_at s.slots s.read) ∙ take_len cap s b
+    oldest : cond b (Some (get_or (lens_of s) s.read 0)) None ≡ option_map (λ x. x.len) (taking cap s b).cookie
+    oldest = ap (λ (n : ℕ). cond b (Some n) None) (len_at s.slots s.read) ∙ take_oldest cap s b
 
 -- where there is a cookie the take leaves room for one
-found_by : (cap : ℕ) (s : CookieStash) (b : Bool) → has_of cap s.read s.held ≡ b → (taking cap s b).found ≡ true → 0 < gap_of cap (taking cap s b).stash
+found_by : (cap : ℕ) (s : CookieStash) (b : Bool) → has_of cap s.read s.held ≡ b → is_found (taking cap s b) ≡ true → 0 < gap_of cap (taking cap s b).stash
 unfolding gap_of rest_of
 found_by cap s true e f =
     let k = both (range_of cap s.read s.held) (ltb 0 s.held) e in
     omega (arith, within cap s.read s.held k.0, ltb-true 0 s.held k.1)
 found_by cap s false e f = let z : ◌≡◌ {A = ℕ} 0 1 = cc in absurd (omega arith)
 
-pub found_gap : (cap : ℕ) (s : CookieStash) → (get_of cap s).found ≡ true → 0 < gap_of cap (get_of cap s).stash
+pub found_gap : (cap : ℕ) (s : CookieStash) → is_found (get_of cap s) ≡ true → 0 < gap_of cap (get_of cap s).stash
 unfolding get_of in_range
 found_gap cap s f = found_by cap s (has_of cap s.read s.held) refl f

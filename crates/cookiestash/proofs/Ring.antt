@@ -3,7 +3,8 @@
 use mathlib.Core.Path.{◌≡◌, refl, sym, ap, ◌∙◌}
 use mathlib.Core.Bool.{Bool, true, false, cond}
 use mathlib.Core.List.{List, [], ◌∷◌, map}
-use mathlib.Core.Option.{none, some}
+use Rattle.std.proofs.Common.{Some}
+use Rattle.std.specs.Option.{option_map}
 use Prim.Native.Nat.{ℕ, zero, suc, ◌+◌, ◌-◌, ◌%◌, ◌≤◌, ◌<◌}
 use native.Mathlib.Omega.{arith}
 use native.Mathlib.Nat.{mod-eq_of_lt}
@@ -68,7 +69,7 @@ module _ (s : CookieStash) (w : Whole 8 s) where
           let f : leb 8 s.held ≡ true = le-leb 8 s.held (ltb-false s.held 8 e) in
           ring_same at (when _ _ f ∙ round (s.read + 1) (omega (arith, w.reads))) (when _ _ f) ∙ sym (unless _ _ e)
 
-  pub ring_get : got (cond (get_of 8 s).found (some (kept_in (get_of 8 s).slot)) none) (ring_of (get_of 8 s).stash) ≡ get (ring_of s)
+  pub ring_get : got (option_map kept_in (get_of 8 s).cookie) (ring_of (get_of 8 s).stash) ≡ get (ring_of s)
   unfolding get_of rest_of
   ring_get = by (ltb 0 s.held) refl
     where
@@ -78,10 +79,10 @@ module _ (s : CookieStash) (w : Whole 8 s) where
       rest : ring_of (rest_of 8 s) ≡ record { cookies = set (map kept_in s.slots) s.read []; read = (s.read + 1) % 8; valid = s.held - 1 }
       rest = ring_same (map_set kept_in s.slots s.read empty_slot ∙ rw kept_none) (round (s.read + 1) (omega (arith, w.reads))) refl
 
-      by : (t : Bool) → ltb 0 s.held ≡ t → got (cond (get_of 8 s).found (some (kept_in (get_of 8 s).slot)) none) (ring_of (get_of 8 s).stash) ≡ get (ring_of s)
+      by : (t : Bool) → ltb 0 s.held ≡ t → got (option_map kept_in (get_of 8 s).cookie) (ring_of (get_of 8 s).stash) ≡ get (ring_of s)
       by true e =
           let n : eqb s.held 0 ≡ false = ne_eqb s.held 0 (λ z. absurd (omega (arith, ltb-true 0 s.held e))) in
-          rw (in_range_lem 8 s w, e, n) (λ i. got (some (first i)) (rest i))
+          rw (in_range_lem 8 s w, e, n) (λ i. got (Some (first i)) (rest i))
       by false e =
           let n : eqb s.held 0 ≡ true = eq-eqb s.held 0 (omega (arith, ltb-false 0 s.held e)) in
           rw (in_range_lem 8 s w, e, n)

@@ -61,8 +61,8 @@ module _ (cap : ℕ) (s t : CookieStash) (v : Whole cap s) (w : Whole cap t) (n 
             let m : j < t.held = omega (arith, held_same) in
             let d : Slot = record { bytes = []; len = 0 } in
             let e : seen (slot_at s.slots (wrap cap (s.read + j))) ≡ seen (slot_at t.slots (wrap cap (t.read + j)))
-            = ap seen (sym (queue_at cap s v j l)) ∙ sym (held_at_lem cap s v d j l) ∙ ap (λ (q : List Cookie). get_or q j (seen d)) c ∙ held_at_lem cap t w d j m
-            ∙ ap seen (queue_at cap t w j m) in
+            = ap seen (sym (queue_at cap s v j l)) ∙ sym (held_at_lem cap s v d j l) ∙ ap (λ (q : List Cookie). get_or q j (seen d)) c
+            ∙ held_at_lem cap t w d j m ∙ ap seen (queue_at cap t w j m) in
             slot_same _ _
             (v.each _ (omega (arith, wrap_lt cap (s.read + j) (omega (arith, v.reads)), v.room)))
             (w.each _ (omega (arith, wrap_lt cap (t.read + j) (omega (arith, w.reads)), w.room))) e

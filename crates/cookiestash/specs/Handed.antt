@@ -6,6 +6,7 @@ use Rattle.cookiestash.specs.Stash.{stored}
 
 -- a cookie's bytes at the start of a buffer, the rest of the buffer unchanged
 -- promise 3.11: What is handed out of a slot.
+--     edit: cookiestash/the_handed_bytes_end_one_early
 -- promise: 10.8
 abbrev pub wrote : List ℕ → ℕ → List ℕ → List ℕ
 wrote cookie len buffer = take len cookie ++ drop len buffer

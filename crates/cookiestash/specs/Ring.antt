@@ -1,8 +1,7 @@
 -- The crate's stash on values, as its file cookiestash.rs has it (RULES, No. 12): an array of eight cookies, a place to read and a count; places wrap modulo
 -- 8.
 -- Assumes nothing.
-use Rattle.std.specs.Prelude.{cond, List, [], map, ℕ, ◌+◌, ◌-◌, ◌%◌, ltb, eqb, get_or, take, set, replicate}
-use Rattle.std.proofs.Math.Option.{Option, none, some}
+use Rattle.std.specs.Prelude.{cond, List, [], map, ℕ, ◌+◌, ◌-◌, ◌%◌, ltb, eqb, get_or, take, set, replicate, Option, None, Some}
 use Rattle.cookiestash.specs.declared.Slot.{Slot}
 use Rattle.cookiestash.specs.declared.CookieStash.{CookieStash}
 
@@ -21,7 +20,7 @@ store r c =
     (record { cookies = set r.cookies ((r.read + r.valid) % 8) c; read = r.read; valid = r.valid + 1 })
     (record { cookies = set r.cookies ((r.read + r.valid) % 8) c; read = (r.read + 1) % 8; valid = r.valid })
 
--- none if none is valid; otherwise the one at the place to read, which is left empty
+-- `None` if none is valid; otherwise the one at the place to read, which is left empty
 pub record Got : Type 0 where
   pub cookie : Option (List ℕ)
   pub ring : Ring
@@ -31,8 +30,8 @@ got c r = record { cookie = c; ring = r }
 
 abbrev pub get : Ring → Got
 get r =
-    cond (eqb r.valid 0) (got none r)
-    (got (some (get_or r.cookies r.read [])) (record { cookies = set r.cookies r.read []; read = (r.read + 1) % 8; valid = r.valid - 1 }))
+    cond (eqb r.valid 0) (got None r)
+    (got (Some (get_or r.cookies r.read [])) (record { cookies = set r.cookies r.read []; read = (r.read + 1) % 8; valid = r.valid - 1 }))
 
 abbrev pub gap : Ring → ℕ
 gap r = 8 - r.valid

@@ -1,6 +1,8 @@
 -- When a stash is whole (RULES, "Settings and a whole record"): as the test that the code makes, and as a statement.
 -- Assumes nothing.
-use Rattle.std.specs.Prelude.{ℕ, zero, suc, ◌+◌, ◌-◌, ◌≤◌, ◌<◌, ◌≡◌, List, [], ◌∷◌, ◌++◌, map, Bool, true, ◌&&◌, cond, length, get_or, drop, replicate, ltb, eqb}
+use Rattle.std.specs.Prelude.{ℕ, zero, suc, ◌+◌, ◌-◌, ◌≤◌, ◌<◌, ◌≡◌, List, [], ◌∷◌, ◌++◌, map, Bool, true, ◌&&◌, cond, ltb, eqb, Some, None}
+use Rattle.std.specs.Prelude.{length, get_or, drop, replicate}
+use Rattle.std.specs.Option.{option_map}
 use Rattle.words.specs.Bytes.{zeros}
 use Rattle.cookiestash.specs.declared.Slot.{Slot}
 use Rattle.cookiestash.specs.declared.CookieStash.{CookieStash}
@@ -35,14 +37,13 @@ whole_of cap s = in_range cap s && (all_padded s.slots && all_free (free_slots c
 -- the summary that the rules read: whether the stash is whole; whether it has a cookie, the length of the oldest, and the gap, counted after the take; the
 -- place and the count
 -- promise 3.7: What the rules read of a stash.
---     edit: cookiestash/the_gap_before_the_take
+--     edit: cookiestash/the_gap_before_the_take, cookiestash/a_cookie_is_seen_in_an_empty_stash
 -- promise: 10.4, no12.3
 abbrev pub seen_of : ℕ → CookieStash → Seen
 seen_of cap s =
     record {
       whole = whole_of cap s;
-      found = (get_of cap s).found;
-      len = (get_of cap s).slot.len;
+      oldest = option_map (λ x. x.len) (get_of cap s).cookie;
       gap = gap_of cap (get_of cap s).stash;
       read = s.read;
       held = s.held;
@@ -67,8 +68,7 @@ unfoldable pub seen_from : ℕ → ℕ → ℕ → Bool → List ℕ → Seen
 seen_from cap read held padded lens =
     record {
       whole = range_of cap read held && (padded && (zeros (drop cap lens) && round_free cap lens (wrap cap (read + held)) (cap - held)));
-      found = has_of cap read held;
-      len = cond (has_of cap read held) (get_or lens read 0) 0;
+      oldest = cond (has_of cap read held) (Some (get_or lens read 0)) None;
       gap = cap - cond (has_of cap read held) (held - 1) held;
       read = read;
       held = held;

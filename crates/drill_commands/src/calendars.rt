@@ -1,104 +1,48 @@
 // The calls calendar and plan.
-use calendar::{CheckAnswer, PlanAnswer};
-use drill_text::keys::Values;
-use drill_text::value::MAX_ENTRIES;
-use drill_text::{keys, print, value};
+use calendar::{CheckRefusal, PlanRefusal};
+use drill_text::fault::Fault;
+use drill_text::keys::Pairs;
+use drill_text::print::Joined;
+use drill_text::value::{self, MAX_ENTRIES};
+use std::alloc::Global;
 
-// The keys of each call, by their places in its table.
-mod calendar_key {
-    pub const CAP: usize = 0;
-
-    pub const ENTRIES: usize = 1;
+// An entry of a calendar: its start and its repeat, with a slash between them.
+fn entry(text: &[u8]) -> Option<(u16, u16)> {
+    let (start, repeat) = value::split_once(text, b'/')?;
+    Some((value::number(start)?, value::number(repeat)?))
 }
 
-mod plan_key {
-    pub const CAP: usize = 0;
-
-    pub const REPEATS: usize = 1;
+pub fn calendar(alloc: Global, line: &[u8]) -> Result<String, Fault> {
+    let pairs = Pairs::read(alloc, line, &["cap", "entries"])?;
+    let cap = pairs.value("cap").parse(value::number)?;
+    let entries = pairs.value("entries").list(alloc, MAX_ENTRIES, entry)?;
+    let starts: Vec<u16> = entries.iter().map(|(start, _)| *start).collect(alloc)?;
+    let repeats: Vec<u16> = entries.iter().map(|(_, repeat)| *repeat).collect(alloc)?;
+    let answer = calendar::check(cap, &starts, &repeats);
+    let number = answers::number(answer);
+    Ok(match answer {
+        Err(CheckRefusal::BadRepeat(k) | CheckRefusal::LateStart(k)) => {
+            format!(in alloc; "calendar {number} entry={k}")?
+        }
+        Err(CheckRefusal::OverCap(m)) => format!(in alloc; "calendar {number} minute={m}")?,
+        Err(CheckRefusal::TooMany) | Ok(()) => format!(in alloc; "calendar {number}")?,
+    })
 }
 
-// The entry that an answer names.
-fn put_entry(out: &mut [u8], at: usize, k: usize) -> usize {
-    print::number(out, at, b" entry=", k as u64)
-}
-
-fn put_minute(out: &mut [u8], at: usize, m: usize) -> usize {
-    print::number(out, at, b" minute=", m as u64)
-}
-
-fn put_checked(out: &mut [u8], answer: CheckAnswer) -> usize {
-    let at = print::number(out, 0, b"calendar ", answer.number() as u64);
-    match answer {
-        CheckAnswer::BadRepeat(k) => put_entry(out, at, k),
-        CheckAnswer::LateStart(k) => put_entry(out, at, k),
-        CheckAnswer::OverCap(m) => put_minute(out, at, m),
-        CheckAnswer::TooMany => at,
-        CheckAnswer::Accepted => at,
-    }
-}
-
-// The answer to a calendar whose line is read.
-fn checked(v: Values, line: &[u8], out: &mut [u8]) -> usize {
-    let mut starts = [0u16; MAX_ENTRIES];
-    let mut repeats = [0u16; MAX_ENTRIES];
-    value::entries(
-        v.text(calendar_key::ENTRIES, line),
-        &mut starts,
-        &mut repeats,
-    );
-    let count = value::at_most(v.number(calendar_key::ENTRIES), MAX_ENTRIES);
-    let answer = calendar::check(
-        v.unsigned8(calendar_key::CAP),
-        &starts[0..count],
-        &repeats[0..count],
-    );
-    put_checked(out, answer)
-}
-
-pub fn calendar(line: &[u8], number: u64, out: &mut [u8]) -> usize {
-    let v = keys::read(line, number, b"cap:u entries:j", out);
-    if v.refused {
-        return v.end;
-    }
-    checked(v, line, out)
-}
-
-fn put_starts(out: &mut [u8], at: usize, starts: &[u16]) -> usize {
-    let at = print::text(out, at, b" starts=");
-    print::joined(out, at, starts)
-}
-
-// Writes the planner's answer. The lent buffer has as many starts as there are repeats.
-fn put_planned(out: &mut [u8], cap: u8, repeats: &[u16], starts: &mut [u16]) -> usize {
-    let answer = calendar::plan(cap, repeats, starts);
-    let at = print::number(out, 0, b"plan ", answer.number() as u64);
-    match answer {
-        PlanAnswer::Planned => put_starts(out, at, starts),
-        PlanAnswer::BadRepeat(k) => put_entry(out, at, k),
-        PlanAnswer::NoFit(k) => put_entry(out, at, k),
-        PlanAnswer::TooMany => at,
-        PlanAnswer::NoRoom => at,
-    }
-}
-
-// The answer to a plan whose line is read.
-fn planned(v: Values, line: &[u8], out: &mut [u8]) -> usize {
-    let mut repeats = [0u16; MAX_ENTRIES];
-    value::repeats(v.text(plan_key::REPEATS, line), &mut repeats);
-    let count = value::at_most(v.number(plan_key::REPEATS), MAX_ENTRIES);
-    let mut starts = [0u16; MAX_ENTRIES];
-    put_planned(
-        out,
-        v.unsigned8(plan_key::CAP),
-        &repeats[0..count],
-        &mut starts[0..count],
-    )
-}
-
-pub fn plan(line: &[u8], number: u64, out: &mut [u8]) -> usize {
-    let v = keys::read(line, number, b"cap:u repeats:z", out);
-    if v.refused {
-        return v.end;
-    }
-    planned(v, line, out)
+pub fn plan(alloc: Global, line: &[u8]) -> Result<String, Fault> {
+    let pairs = Pairs::read(alloc, line, &["cap", "repeats"])?;
+    let cap = pairs.value("cap").parse(value::number)?;
+    let repeats: Vec<u16> = pairs
+        .value("repeats")
+        .list(alloc, MAX_ENTRIES, value::number)?;
+    let mut starts = vec![in alloc; 0; repeats.len()]?;
+    let answer = calendar::plan(cap, &repeats, &mut starts);
+    let number = answers::number(answer);
+    Ok(match answer {
+        Ok(()) => format!(in alloc; "plan {number} starts={}", Joined(&starts))?,
+        Err(PlanRefusal::BadRepeat(k) | PlanRefusal::NoFit(k)) => format!(in alloc;
+            "plan {number} entry={k}"
+        )?,
+        Err(PlanRefusal::TooMany | PlanRefusal::NoRoom) => format!(in alloc; "plan {number}")?,
+    })
 }

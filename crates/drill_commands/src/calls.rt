@@ -1,139 +1,147 @@
 // The calls new and accept.
-use crate::replies;
+ghost use Rattle.std.specs.Prelude.{◌≡◌, MatchResult, string_bytes};
+ghost use Rattle.drill_text.specs.Lines.{words_of};
+ghost use Rattle.drill_commands.specs.Made.{made_text};
+ghost use Rattle.drill_commands.specs.Settings.{EndsWanted};
+
+use crate::replies::Fell;
+use answers::Refusal;
 use association::{Association, Settings};
 use association_accept::Bloom;
 use cookiestash::Dropped;
-use drill_text::keys::Values;
-use drill_text::run::Ran;
-use drill_text::value::MAX_BYTES;
-use drill_text::{keys, names, print, run, text, value};
+use drill_text::fault::Fault;
+use drill_text::keys::Pairs;
+use drill_text::value::{self, MAX_BYTES};
 use identifiers::ReferenceId;
+use std::alloc::Global;
 use time_types::PollInterval;
 
 // More identifiers than a line has room for.
 const MAX_IDENTIFIERS: usize = 4096;
 
-// The keys of each call, by their places in its table; those of new are metered's and profile's too.
-pub mod new_key {
-    pub const MIN: usize = 0;
-
-    pub const MAX: usize = 1;
-
-    pub const STARTUP: usize = 2;
-
-    pub const WINDOW: usize = 3;
-
-    pub const MARK: usize = 4;
-
-    pub const START: usize = 5;
-
-    pub const NTS: usize = 6;
-
-    pub const SOURCE: usize = 7;
-
-    pub const LIST: usize = 8;
-
-    pub const CAPACITY: usize = 9;
-}
-
-mod accept_key {
-    pub const STRATUM: usize = 0;
-
-    pub const LOCAL: usize = 1;
-
-    pub const BLOOM: usize = 2;
-}
-
-pub fn settings_of(v: Values) -> Settings {
-    Settings {
-        min: PollInterval(v.signed8(new_key::MIN)),
-        max: PollInterval(v.signed8(new_key::MAX)),
-        startup: v.unsigned8(new_key::STARTUP),
-        window: v.number(new_key::WINDOW),
-        upgrademark: v.number(new_key::MARK),
-        start: run::version_of(v.number(new_key::START)),
-        nts: v.number(new_key::NTS) == names::choice::YES,
-        source: ReferenceId(v.unsigned32(new_key::SOURCE)),
-        capacity: v.unsigned8(new_key::CAPACITY),
-    }
-}
-
 // What a line says about an association to be made: its settings and its first cookie list.
-pub fn new_values(line: &[u8], number: u64, out: &mut [u8]) -> Values {
-    keys::read(
-        line,
-        number,
-        b"min:b max:b startup:u window:n mark:x start:v nts:y source:f list:h=- capacity:u=8",
-        out,
-    )
+#[derive(Drop)]
+pub struct Wanted {
+    pub settings: Settings,
+    pub list: Vec<u8>,
 }
 
-// Writes the number of new or metered, after its word; with 0, also what fell out of the first list.
-pub fn put_made(out: &mut [u8], word: &[u8], number: u8, dropped: Dropped) -> usize {
-    let at = print::number(out, 0, word, number as u64);
-    if number != 0 {
-        return at;
-    }
-    replies::put_dropped(out, at, dropped)
-}
-
-fn made(settings: Settings, list: &[u8], out: &mut [u8]) -> Ran {
-    let new = Association::new(settings, list);
-    let answer = new.answer;
-    let dropped = new.dropped;
-    let end = put_made(out, b"new ", answer.number(), dropped);
-    let association = new.association;
-    Ran { association, end }
-}
-
-pub fn new(a: Association, line: &[u8], number: u64, out: &mut [u8]) -> Ran {
-    let v = new_values(line, number, out);
-    if v.refused {
-        return Ran {
-            association: a,
-            end: v.end,
+impl Wanted {
+    // promise: drill.8
+    pub fn read(alloc: Global, line: &[u8]) -> Result<Wanted, Fault>
+        ensures { EndsWanted (words_of line.now) result }
+    {
+        let pairs = Pairs::read(
+            alloc,
+            line,
+            &[
+                "min", "max", "startup", "window", "mark", "start", "nts", "source", "list",
+                "capacity",
+            ],
+        )?;
+        let min = PollInterval(pairs.value("min").parse(value::number)?);
+        let max = PollInterval(pairs.value("max").parse(value::number)?);
+        let startup = pairs.value("startup").parse(value::number)?;
+        let window = pairs.value("window").parse(value::number)?;
+        let upgrademark = pairs.value("mark").parse(value::id)?;
+        let start = pairs.value("start").parse(value::version)?;
+        let nts = pairs.value("nts").parse(value::yes_or_no)?;
+        let source = ReferenceId(pairs.value("source").parse(value::identifier)?);
+        let list = pairs.value("list").or(b"-").bytes(alloc, MAX_BYTES)?;
+        let capacity = pairs.value("capacity").or(b"8").parse(value::number)?;
+        let settings = Settings {
+            min,
+            max,
+            startup,
+            window,
+            upgrademark,
+            start,
+            nts,
+            source,
+            capacity,
         };
-    }
-    let mut list = [0u8; MAX_BYTES];
-    let len = v.bytes(new_key::LIST, line, &mut list);
-    made(settings_of(v), text::part(&list, 0, len), out)
-}
-
-fn bloom_of(n: u64) -> Bloom {
-    match n {
-        names::bloom::NO_FILTER => Bloom::NoFilter,
-        names::bloom::ABSENT => Bloom::Absent,
-        _ => Bloom::Present,
+        Ok(Wanted { settings, list })
     }
 }
 
-// The answer to a line that has been read.
-fn accepted(a: Association, v: Values, line: &[u8], out: &mut [u8]) -> usize {
-    let mut local = [0u32; MAX_IDENTIFIERS];
-    value::identifiers(v.text(accept_key::LOCAL, line), &mut local);
-    let count = v.number(accept_key::LOCAL) as usize;
-    let answer = association_accept::accept(
-        a,
-        v.unsigned8(accept_key::STRATUM),
-        part32(&local, count),
-        bloom_of(v.number(accept_key::BLOOM)),
-    );
-    print::number(out, 0, b"accept ", answer.number() as u64)
+// The answer of new or metered; of an association that is made, also what fell out of the first list.
+// promise: drill.9
+pub fn made<E: Refusal>(
+    alloc: Global,
+    word: &str,
+    answer: Result<(), E>,
+    dropped: Dropped,
+) -> Result<String, Fault>
+    ensures { MatchResult result
+        (λ text. string_bytes text ≡ made_text E.number_of word.now answer dropped)
+        (λ fault. fault ≡ Fault.OutOfMemory) }
+{
+    Ok(match answer {
+        Ok(()) => format!(in alloc; "{word} 0 {}", Fell(dropped))?,
+        Err(refusal) => format!(in alloc; "{word} {}", refusal.number())?,
+    })
 }
 
-pub fn accept(a: Association, line: &[u8], number: u64, out: &mut [u8]) -> usize {
-    let v = keys::read(line, number, b"stratum:u local:d=- bloom:m=none", out);
-    if v.refused {
-        return v.end;
+pub fn new(alloc: Global, a: &mut Association, line: &[u8]) -> Result<String, Fault> {
+    let wanted = Wanted::read(alloc, line)?;
+    let new = Association::new(wanted.settings, &wanted.list);
+    *a = new.association;
+    made(alloc, "new", new.answer, new.dropped)
+}
+
+// Kept: the words are the drill's (docs/DRILL.md), and the kind a library's, which knows no words: std's traits would have to be written there.
+fn bloom(text: &[u8]) -> Option<Bloom> {
+    match text {
+        b"none" => Some(Bloom::NoFilter),
+        b"absent" => Some(Bloom::Absent),
+        b"present" => Some(Bloom::Present),
+        _ => None,
     }
-    accepted(a, v, line, out)
 }
 
-// The first `count` numbers of a list.
-fn part32(s: &[u32], count: usize) -> &[u32] {
-    if count <= s.len() {
-        &s[0..count]
-    } else {
-        &s[0..0]
+pub fn accept(alloc: Global, a: &Association, line: &[u8]) -> Result<String, Fault> {
+    let pairs = Pairs::read(alloc, line, &["stratum", "local", "bloom"])?;
+    let stratum = pairs.value("stratum").parse(value::number)?;
+    let local = pairs
+        .value("local")
+        .or(b"-")
+        .list(alloc, MAX_IDENTIFIERS, value::identifier)?;
+    let bloom = pairs.value("bloom").or(b"none").parse(bloom)?;
+    let answer = association_accept::accept(*a, stratum, &local, bloom);
+    Ok(format!(in alloc; "accept {}", answers::number(answer))?)
+}
+
+#[cfg(test)]
+mod tests {
+    use super::*;
+    use association::NewRefusal;
+    use std::test::Fail;
+
+    // The first line of the example of docs/DRILL.md, in plain numbers.
+    const LINE: &[u8] =
+        b"new min=4 max=10 startup=3 window=5000000000 mark=4e54503544524654 start=v4 nts=no source=c0000201";
+
+    #[test]
+    fn settings_are_read(rt: HostRuntime) -> Result<(), Fail> {
+        let wanted = Wanted::read(rt.alloc(), LINE)?;
+        assert_eq!(rt; wanted.settings.max.0, 10);
+        assert_eq!(rt; wanted.settings.window, 5_000_000_000);
+        assert_eq!(rt; wanted.settings.source.0, 0xC000_0201);
+        assert_eq!(rt; wanted.settings.capacity, 8);
+        assert!(rt; wanted.list.is_empty());
+        Ok(())
+    }
+
+    #[test]
+    fn an_answer_is_made(rt: HostRuntime) -> Result<(), Fail> {
+        let none = Dropped { count: 0, bytes: 0 };
+        let made_it: Result<(), NewRefusal> = Ok(());
+        assert_eq!(rt;
+            made(rt.alloc(), "new", made_it, none)?.as_str(),
+            "new 0 dropped=0 lost=0"
+        );
+        let refused: Result<(), NewRefusal> = Err(NewRefusal::Retired);
+        assert_eq!(rt; made(rt.alloc(), "new", refused, none)?.as_str(), "new 38");
+        Ok(())
     }
 }

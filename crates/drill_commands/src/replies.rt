@@ -1,270 +1,186 @@
 // The calls reply and reply5.
+ghost use Rattle.std.specs.Prelude.{Some};
+ghost use Rattle.drill_commands.specs.Made.{fell};
+
 use association::Association;
 use cookiestash::Dropped;
-use drill_text::keys::Values;
-use drill_text::names::{kiss, leap, mode, uid};
-use drill_text::run::Ran;
-use drill_text::value::{COLLECT, MAX_BYTES};
-use drill_text::{keys, print, text};
-use reply::{Replied, ReplyOut};
-use reply_clauses::Measurement;
-use reply_rules::ReplyAnswer;
+use drill_text::fault::Fault;
+use drill_text::keys::{Pairs, Value};
+use drill_text::value::{self, MAX_BYTES};
+use reply::Replied;
+use reply_clauses::Stamps;
+use reply_rules::{Packet, ReplyAnswer};
+use std::alloc::Global;
+use std::fmt;
 use time_types::{NtpDuration, NtpTimestamp, PollInterval};
-use wire_collector::Collected;
-use wire_groups::Uid;
 use wire_header::Kisses;
 use wire_incoming::{DecodedMode, DecodedReply, NtpLeapIndicator};
 
-// The keys that both calls have, and those of each, by their places in its table.
-mod key {
-    pub const NOW: usize = 0;
-
-    pub const T1: usize = 1;
-
-    pub const T4: usize = 2;
-}
-
-mod reply_key {
-    pub const PACKET: usize = 3;
-
-    pub const AUTH: usize = 4;
-
-    pub const PLAIN: usize = 5;
-
-    pub const LIST: usize = 6;
-}
-
-mod reply5_key {
-    pub const LEAP: usize = 3;
-
-    pub const MODE: usize = 4;
-
-    pub const STRATUM: usize = 5;
-
-    pub const POLL: usize = 6;
-
-    pub const PRECISION: usize = 7;
-
-    pub const ROOTDELAY: usize = 8;
-
-    pub const ROOTDISP: usize = 9;
-
-    pub const RECEIVE: usize = 10;
-
-    pub const TRANSMIT: usize = 11;
-
-    pub const COOKIE: usize = 12;
-
-    pub const KISS: usize = 13;
-
-    pub const AUTH: usize = 14;
-
-    pub const ENC: usize = 15;
-
-    pub const UNTRUSTED: usize = 16;
-
-    pub const LIST: usize = 17;
-}
-
-fn put_clocks(out: &mut [u8], at: usize, m: Measurement) -> usize {
-    let delay = m.delay;
-    let at = print::duration(out, at, b" delay=", delay.0);
-    let offset = m.offset;
-    let at = print::duration(out, at, b" offset=", offset.0);
-    let local = m.local;
-    let at = print::number(out, at, b" local=", local.0);
-    print::number(out, at, b" mono=", m.mono)
-}
-
-fn put_root(out: &mut [u8], at: usize, m: Measurement) -> usize {
-    let at = print::number(out, at, b" stratum=", m.stratum as u64);
-    let rootdelay = m.rootdelay;
-    let at = print::duration(out, at, b" rootdelay=", rootdelay.0);
-    let rootdisp = m.rootdisp;
-    print::duration(out, at, b" rootdisp=", rootdisp.0)
-}
-
-fn put_quality(out: &mut [u8], at: usize, m: Measurement) -> usize {
-    let leap = m.leap;
-    let at = print::number(out, at, b" leap=", leap.code() as u64);
-    print::small(out, at, b" precision=", m.precision)
-}
+// The word in place of a cookie list that runs the collector.
+const COLLECT: &[u8] = b"collect";
 
 // What fell out of the stash while a list was stored.
-pub fn put_dropped(out: &mut [u8], at: usize, dropped: Dropped) -> usize {
-    let at = print::number(out, at, b" dropped=", dropped.count);
-    print::number(out, at, b" lost=", dropped.bytes)
+#[derive(Clone, Copy)]
+pub struct Fell(pub Dropped);
+
+impl fmt::Display for Fell {
+    ghost output = { λ it. Some (fell it.0) };
+
+    fn fmt<W: fmt::Write>(&self, f: &mut fmt::Formatter<W>) -> fmt::Result {
+        write!(f, "dropped={} lost={}", self.0.count, self.0.bytes)
+    }
 }
 
-// Writes the answer to either form, after its word.
-fn put_reply(out: &mut [u8], word: &[u8], replied: Replied) -> usize {
-    let answer = replied.answer;
-    let at = print::number(out, 0, word, answer.number() as u64);
-    let ReplyAnswer::Measured(m) = answer else {
-        return at;
+// The answer to either form, after its word.
+fn answered(alloc: Global, word: &str, replied: Replied) -> Result<String, Fault> {
+    let mut out = format!(in alloc; "{word} {}", replied.answer.number())?;
+    if let ReplyAnswer::Measured(m) = replied.answer {
+        write!(
+            out,
+            " delay={} offset={} local={} mono={}",
+            m.delay.0, m.offset.0, m.local.0, m.mono
+        )?;
+        write!(
+            out,
+            " stratum={} rootdelay={} rootdisp={}",
+            m.stratum, m.rootdelay.0, m.rootdisp.0
+        )?;
+        write!(
+            out,
+            " leap={} precision={} {}",
+            m.leap.code(),
+            m.precision,
+            Fell(replied.dropped)
+        )?;
+    }
+    Ok(out)
+}
+
+fn stamps(pairs: &Pairs) -> Result<Stamps, Fault> {
+    Ok(Stamps {
+        time: pairs.value("now").parse(value::number)?,
+        t1: NtpTimestamp(pairs.value("t1").parse(value::number)?),
+        t4: NtpTimestamp(pairs.value("t4").parse(value::number)?),
+    })
+}
+
+// The cookie list of a reply: bytes of the line, or what the collector makes of the decrypted bytes; nothing if it rejects them.
+fn cookie_list(alloc: Global, value: Value, decrypted: &[u8]) -> Result<Vec<u8>, Fault> {
+    if value.text()? != COLLECT {
+        return value.bytes(alloc, MAX_BYTES);
+    }
+    let mut list = vec![in alloc; 0; MAX_BYTES]?;
+    let len = wire_collector::collect(decrypted, &mut list).unwrap_or(0);
+    list.truncate(len);
+    Ok(list)
+}
+
+pub fn reply(alloc: Global, a: &mut Association, line: &[u8]) -> Result<String, Fault> {
+    let pairs = Pairs::read(
+        alloc,
+        line,
+        &["now", "t1", "t4", "packet", "auth", "plain", "list"],
+    )?;
+    let stamps = stamps(&pairs)?;
+    let packet = pairs.value("packet").bytes(alloc, MAX_BYTES)?;
+    let end = pairs.value("auth").or(b"48").parse(value::number)?;
+    let decrypted = pairs.value("plain").or(b"-").bytes(alloc, MAX_BYTES)?;
+    let list = cookie_list(alloc, pairs.value("list").or(b"-"), &decrypted)?;
+    let form = Packet {
+        packet: &packet,
+        end,
+        decrypted: &decrypted,
     };
-    let at = put_clocks(out, at, m);
-    let at = put_root(out, at, m);
-    let at = put_quality(out, at, m);
-    let dropped = replied.dropped;
-    put_dropped(out, at, dropped)
+    answered(alloc, "reply", reply::reply(a, form, &list, stamps))
 }
 
-fn answered(done: ReplyOut, word: &[u8], out: &mut [u8]) -> Ran {
-    let replied = done.replied;
-    let end = put_reply(out, word, replied);
-    let association = done.association;
-    Ran { association, end }
+// A leap indicator by its number in the language.
+fn leap(text: &[u8]) -> Option<NtpLeapIndicator> {
+    NtpLeapIndicator::try_from(value::number::<u8>(text)?).ok()
 }
 
-// The length of the list that the collector makes of decrypted bytes; 0 if it rejects them.
-fn collected(decrypted: &[u8], list: &mut [u8]) -> usize {
-    match wire_collector::collect(decrypted, list) {
-        Collected::Done(len) => len,
-        Collected::Broken => 0,
-        Collected::TooLong => 0,
+// A mode by its number in the language.
+// Kept: the numbers are the drill's, as at `leap`: 3 and 4 are those of a packet's mode, of which C has other numbers.
+fn mode(text: &[u8]) -> Option<DecodedMode> {
+    match value::number(text)? {
+        3u8 => Some(DecodedMode::Request),
+        4 => Some(DecodedMode::Response),
+        _ => None,
     }
 }
 
-// The cookie list of a reply: bytes of the line, or what the collector makes of the decrypted bytes.
-fn list_of(v: Values, line: &[u8], decrypted: &[u8], list: &mut [u8]) -> usize {
-    if v.number(reply_key::LIST) == COLLECT {
-        collected(decrypted, list)
-    } else {
-        v.bytes(reply_key::LIST, line, list)
+// Names of kisses joined by commas, or '-' for none.
+fn kisses(text: &[u8]) -> Option<Kisses> {
+    let mut kisses = Kisses {
+        rate: false,
+        deny: false,
+        rstr: false,
+        ntsn: false,
+        any: false,
+    };
+    if let b"-" = text {
+        return Some(kisses);
     }
+    for name in text.split(|b| *b == b',') {
+        match name {
+            b"rate" => kisses.rate = true,
+            b"deny" => kisses.deny = true,
+            b"rstr" => kisses.rstr = true,
+            b"ntsn" => kisses.ntsn = true,
+            b"any" => kisses.any = true,
+            _ => return None,
+        }
+    }
+    Some(kisses)
 }
 
-// The answer to a reply whose bytes are read.
-fn judged(
-    a: Association,
-    v: Values,
-    packet: &[u8],
-    decrypted: &[u8],
-    list: &[u8],
-    out: &mut [u8],
-) -> Ran {
-    let t1 = NtpTimestamp(v.number(key::T1));
-    let t4 = NtpTimestamp(v.number(key::T4));
-    let end = v.number(reply_key::AUTH) as usize;
-    let done = reply::reply_core(a, packet, end, decrypted, list, t1, t4, v.number(key::NOW));
-    answered(done, b"reply ", out)
+// The reply that a line of the decoded form says.
+fn decoded(pairs: &Pairs) -> Result<DecodedReply, Fault> {
+    Ok(DecodedReply {
+        leap: pairs.value("leap").parse(leap)?,
+        mode: pairs.value("mode").parse(mode)?,
+        stratum: pairs.value("stratum").parse(value::number)?,
+        poll: PollInterval(pairs.value("poll").parse(value::number)?),
+        precision: pairs.value("precision").parse(value::number)?,
+        rootdelay: NtpDuration(pairs.value("rootdelay").parse(value::number)?),
+        rootdisp: NtpDuration(pairs.value("rootdisp").parse(value::number)?),
+        receive: NtpTimestamp(pairs.value("receive").parse(value::number)?),
+        transmit: NtpTimestamp(pairs.value("transmit").parse(value::number)?),
+        cookie: pairs.value("cookie").parse(value::id)?,
+        kisses: pairs.value("kiss").or(b"-").parse(kisses)?,
+        authenticated: pairs.value("auth").or(b"absent").parse(value::group)?,
+        encrypted: pairs.value("enc").or(b"absent").parse(value::group)?,
+        untrusted: pairs.value("untrusted").or(b"absent").parse(value::group)?,
+    })
 }
 
-fn with_list(
-    a: Association,
-    line: &[u8],
-    v: Values,
-    packet: &[u8],
-    decrypted: &[u8],
-    out: &mut [u8],
-) -> Ran {
-    let mut list = [0u8; MAX_BYTES];
-    let len = list_of(v, line, decrypted, &mut list);
-    judged(a, v, packet, decrypted, text::part(&list, 0, len), out)
-}
-
-fn with_decrypted(a: Association, line: &[u8], v: Values, packet: &[u8], out: &mut [u8]) -> Ran {
-    let mut decrypted = [0u8; MAX_BYTES];
-    let len = v.bytes(reply_key::PLAIN, line, &mut decrypted);
-    with_list(a, line, v, packet, text::part(&decrypted, 0, len), out)
-}
-
-pub fn reply(a: Association, line: &[u8], number: u64, out: &mut [u8]) -> Ran {
-    let v = keys::read(
+pub fn reply5(alloc: Global, a: &mut Association, line: &[u8]) -> Result<String, Fault> {
+    let pairs = Pairs::read(
+        alloc,
         line,
-        number,
-        b"now:n t1:n t4:n packet:h auth:n=48 plain:h=- list:c=-",
-        out,
-    );
-    if v.refused {
-        return Ran {
-            association: a,
-            end: v.end,
-        };
-    }
-    let mut packet = [0u8; MAX_BYTES];
-    let len = v.bytes(reply_key::PACKET, line, &mut packet);
-    with_decrypted(a, line, v, text::part(&packet, 0, len), out)
-}
-
-fn leap_of(n: u64) -> NtpLeapIndicator {
-    match n {
-        leap::NO_WARNING => NtpLeapIndicator::NoWarning,
-        leap::LEAP61 => NtpLeapIndicator::Leap61,
-        leap::LEAP59 => NtpLeapIndicator::Leap59,
-        leap::UNKNOWN => NtpLeapIndicator::Unknown,
-        _ => NtpLeapIndicator::Unsynchronized,
-    }
-}
-
-fn mode_of(n: u64) -> DecodedMode {
-    match n {
-        mode::REQUEST => DecodedMode::Request,
-        _ => DecodedMode::Response,
-    }
-}
-
-fn uid_of(n: u64) -> Uid {
-    match n {
-        uid::ABSENT => Uid::Absent,
-        uid::AGREE => Uid::Agree,
-        _ => Uid::Disagree,
-    }
-}
-
-// The kisses that a number names: each has its bit.
-fn kisses_of(n: u64) -> Kisses {
-    Kisses {
-        rate: n & kiss::RATE != 0,
-        deny: n & kiss::DENY != 0,
-        rstr: n & kiss::RSTR != 0,
-        ntsn: n & kiss::NTSN != 0,
-        any: n & kiss::ANY != 0,
-    }
-}
-
-fn decoded_of(v: Values) -> DecodedReply {
-    DecodedReply {
-        leap: leap_of(v.number(reply5_key::LEAP)),
-        mode: mode_of(v.number(reply5_key::MODE)),
-        stratum: v.unsigned8(reply5_key::STRATUM),
-        poll: PollInterval(v.signed8(reply5_key::POLL)),
-        precision: v.signed8(reply5_key::PRECISION),
-        rootdelay: NtpDuration(v.signed64(reply5_key::ROOTDELAY)),
-        rootdisp: NtpDuration(v.signed64(reply5_key::ROOTDISP)),
-        receive: NtpTimestamp(v.number(reply5_key::RECEIVE)),
-        transmit: NtpTimestamp(v.number(reply5_key::TRANSMIT)),
-        cookie: v.number(reply5_key::COOKIE),
-        kisses: kisses_of(v.number(reply5_key::KISS)),
-        authenticated: uid_of(v.number(reply5_key::AUTH)),
-        encrypted: uid_of(v.number(reply5_key::ENC)),
-        untrusted: uid_of(v.number(reply5_key::UNTRUSTED)),
-    }
-}
-
-fn reply5_over(a: Association, v: Values, list: &[u8], out: &mut [u8]) -> Ran {
-    let t1 = NtpTimestamp(v.number(key::T1));
-    let t4 = NtpTimestamp(v.number(key::T4));
-    let done = reply::reply_decoded_core(a, decoded_of(v), list, t1, t4, v.number(key::NOW));
-    answered(done, b"reply5 ", out)
-}
-
-pub fn reply5(a: Association, line: &[u8], number: u64, out: &mut [u8]) -> Ran {
-    let v = keys::read(
-        line,
-        number,
-        b"now:n t1:n t4:n leap:l mode:o stratum:u poll:b precision:b rootdelay:s rootdisp:s receive:n transmit:n cookie:x \
-          kiss:k=- auth:g=absent enc:g=absent untrusted:g=absent list:h=-",
-        out,
-    );
-    if v.refused {
-        return Ran {
-            association: a,
-            end: v.end,
-        };
-    }
-    let mut list = [0u8; MAX_BYTES];
-    let len = v.bytes(reply5_key::LIST, line, &mut list);
-    reply5_over(a, v, text::part(&list, 0, len), out)
+        &[
+            "now",
+            "t1",
+            "t4",
+            "leap",
+            "mode",
+            "stratum",
+            "poll",
+            "precision",
+            "rootdelay",
+            "rootdisp",
+            "receive",
+            "transmit",
+            "cookie",
+            "kiss",
+            "auth",
+            "enc",
+            "untrusted",
+            "list",
+        ],
+    )?;
+    let stamps = stamps(&pairs)?;
+    let decoded = decoded(&pairs)?;
+    let list = pairs.value("list").or(b"-").bytes(alloc, MAX_BYTES)?;
+    answered(alloc, "reply5", reply::reply(a, decoded, &list, stamps))
 }

@@ -1,252 +1,186 @@
-// Reading the keys of a command by its table.
+// Reading the pairs of a line by the keys of its command.
 //
-// An entry of a table is KEY:KIND, or KEY:KIND=DEFAULT if the key is optional, in the order of the command's description.
 // A line is rejected for the first fault in this order: its length; its command; then from left to right the first thing that is not key=value, an unknown key
-// or a repeated one; then, key by key in the table's order, a missing key or a bad value.
-use crate::text::Found;
-use crate::value::Number;
-use crate::{print, text, value};
+// or a repeated one; then, key by key in the order of the command's description, a missing key or a bad value. So a command first reads the line's pairs, and
+// then the values in that order.
+ghost use Rattle.std.specs.Prelude.{◌≡◌, ◌==◌, ok_or, option_copied};
+ghost use Rattle.std.specs.Fn.{FnReturnsAt};
+ghost use Rattle.std.specs.Option.{option_or};
+ghost use Rattle.drill_text.specs.Lines.{command_of, words_of};
+ghost use Rattle.drill_text.specs.Pairs.{value_at};
+ghost use Rattle.drill_text.specs.Reads.{EndsAs, IsRead, IsParsed, IsList, bytes_read};
 
-// How many keys a command may have.
-const MAX_KEYS: usize = 20;
+use crate::fault::Fault;
+use crate::value::{self, NONE};
+use std::alloc::Global;
+use std::collections::BTreeMap;
 
-// How far after its colon an entry has its kind, and its default.
-const TO_KIND: usize = 1;
-
-const TO_DEFAULT: usize = 3;
-
-#[derive(Clone, Copy)]
-pub enum Fault {
-    Fine,
-    NoPair,
-    Unknown,
-    Repeated(usize),
-    Missing(usize),
-    Bad(usize),
+fn is_space(b: &u8) -> bool
+    ensures { result ≡ (b.now == 32) }
+{
+    *b == b' '
 }
 
-// Where a key's value is in the line, if the line has it, and the value as a number.
-#[derive(Clone, Copy)]
-pub struct Value {
-    pub given: bool,
-    pub start: usize,
-    pub end: usize,
-    pub number: u64,
+// The first word of a line.
+// promise: drill.6
+pub fn command(line: &[u8]) -> &[u8]
+    ensures { result.now ≡ command_of line.now }
+{
+    line.split(is_space).next().unwrap_or(line)
 }
 
-// The values of a command's keys, by the keys' places in its table, or what is wrong with the line.
-#[derive(Clone, Copy)]
-pub struct Values {
-    pub all: [Value; MAX_KEYS],
-    pub fault: Fault,
-    // Whether the line was rejected, and where the error ends in the answer.
-    pub refused: bool,
-    pub end: usize,
-}
+// The pairs of a line, each key with its value.
+#[derive(Drop)]
+pub struct Pairs<'a>(BTreeMap<&'static str, &'a [u8]>);
 
-fn no_values() -> [Value; MAX_KEYS] {
-    let none = Value {
-        given: false,
-        start: 0,
-        end: 0,
-        number: 0,
-    };
-    [none; MAX_KEYS]
-}
-
-fn ended(all: [Value; MAX_KEYS], fault: Fault) -> Values {
-    Values {
-        all,
-        fault,
-        refused: false,
-        end: 0,
-    }
-}
-
-// The place of a word among the table's keys, or MAX_KEYS if it is not a key.
-fn key_of(table: &[u8], word: &[u8]) -> usize {
-    match text::index_of(table, word) {
-        Found::At(key) => key,
-        Found::Nowhere => MAX_KEYS,
-    }
-}
-
-// Finds the values of a line's pairs.
-fn pairs(line: &[u8], table: &[u8]) -> Values {
-    let mut all = no_values();
-    let mut at = text::find(line, 0, b' ', b' ');
-    while at < line.len() {
-        let start = at + 1;
-        let end = text::find(line, start, b' ', b' ');
-        let equals = text::find(line, start, b'=', b' ');
-        if end <= equals {
-            return ended(all, Fault::NoPair);
-        }
-        let key = key_of(table, text::part(line, start, equals));
-        if MAX_KEYS <= key {
-            return ended(all, Fault::Unknown);
-        }
-        let old = all[key];
-        if old.given {
-            return ended(all, Fault::Repeated(key));
-        }
-        all[key] = Value {
-            given: true,
-            start: equals + 1,
-            end,
-            number: 0,
-        };
-        at = end;
-    }
-    ended(all, Fault::Fine)
-}
-
-#[derive(Clone, Copy)]
-enum Filled {
-    Is(u64),
-    Missing,
-    Bad,
-}
-
-fn filled_of(number: Number) -> Filled {
-    match number {
-        Number::Is(n) => Filled::Is(n),
-        Number::Bad => Filled::Bad,
-    }
-}
-
-// The number of the entry that ends at `end` and whose word ends at `colon`: the line's value, or the table's default.
-fn entry(line: &[u8], old: Value, table: &[u8], colon: usize, end: usize) -> Filled {
-    if table.len() <= colon {
-        return Filled::Missing;
-    }
-    let kind = text::byte_at(table, colon + TO_KIND);
-    if old.given {
-        return filled_of(value::parse(kind, text::part(line, old.start, old.end)));
-    }
-    let default = text::part(table, colon + TO_DEFAULT, end);
-    if default.len() == 0 {
-        return Filled::Missing;
-    }
-    filled_of(value::parse(kind, default))
-}
-
-// The values as numbers, if the pairs had no fault.
-fn numbers(line: &[u8], table: &[u8], found: [Value; MAX_KEYS]) -> Values {
-    let mut all = found;
-    let mut at = 0;
-    let mut key = 0;
-    while key < MAX_KEYS {
-        if table.len() <= at {
-            return ended(all, Fault::Fine);
-        }
-        let colon = text::find(table, at, b':', b':');
-        let end = text::find(table, at, b' ', b' ');
-        let old = all[key];
-        match entry(line, old, table, colon, end) {
-            Filled::Is(number) => {
-                all[key] = Value {
-                    given: old.given,
-                    start: old.start,
-                    end: old.end,
-                    number,
-                };
-            }
-            Filled::Missing => {
-                return ended(all, Fault::Missing(key));
-            }
-            Filled::Bad => {
-                return ended(all, Fault::Bad(key));
+impl<'a> Pairs<'a> {
+    // The pairs behind a line's command, which takes these keys.
+    // promise: drill.6
+    pub fn read(alloc: Global, line: &'a [u8], keys: &[&'static str]) -> Result<Pairs<'a>, Fault>
+        ensures { IsRead keys.now (words_of line.now) result }
+    {
+        let mut pairs = BTreeMap::new(alloc);
+        for word in line.split(is_space).skip(1) {
+            let (name, value) = value::split_once(word, b'=').ok_or(Fault::NoPair)?;
+            let key = keys
+                .iter()
+                .copied()
+                .find(|key| key.as_bytes() == name)
+                .ok_or(Fault::UnknownKey)?;
+            if pairs.insert(key, value)?.is_some() {
+                return Err(Fault::Repeated(key));
             }
         }
-        key += 1;
-        if table.len() <= end {
-            return ended(all, Fault::Fine);
+        Ok(Pairs(pairs))
+    }
+
+    // promise: drill.7
+    pub fn value(&self, key: &'static str) -> Value<'a>
+        ensures { result ≡ record { key = key.entry; text = value_at self.now key.now } }
+    {
+        Value {
+            key,
+            text: self.0.get(key).copied(),
         }
-        at = end + 1;
-    }
-    ended(all, Fault::Fine)
-}
-
-// The kind of a key's values in the table.
-pub fn kind_of(table: &[u8], key: usize) -> u8 {
-    let colon = text::find(table, text::entry_at(table, key), b':', b':');
-    if colon < table.len() {
-        text::byte_at(table, colon + TO_KIND)
-    } else {
-        0
     }
 }
 
-fn refusal(out: &mut [u8], number: u64, table: &[u8], fault: Fault) -> usize {
-    match fault {
-        Fault::Fine => 0,
-        Fault::NoPair => print::error(out, number, b"no pair", b""),
-        Fault::Unknown => print::error(out, number, b"unknown key", b""),
-        Fault::Repeated(key) => print::error(out, number, b"repeated ", text::word(table, key)),
-        Fault::Missing(key) => print::error(out, number, b"missing ", text::word(table, key)),
-        Fault::Bad(key) => print::error(out, number, b"bad ", text::word(table, key)),
-    }
+// A key, and its value if the line has it.
+#[derive(Clone, Copy)]
+pub struct Value<'a> {
+    key: &'static str,
+    text: Option<&'a [u8]>,
 }
 
-fn is_fine(fault: Fault) -> bool {
-    if let Fault::Fine = fault { true } else { false }
-}
-
-// Reads the values of a line's keys. If that fails, it writes the error.
-pub fn read(line: &[u8], number: u64, table: &[u8], out: &mut [u8]) -> Values {
-    let mut v = pairs(line, table);
-    let first = v.fault;
-    if is_fine(first) {
-        let found = v.all;
-        v = numbers(line, table, found);
-    }
-    let fault = v.fault;
-    if !is_fine(fault) {
-        v.refused = true;
-        v.end = refusal(out, number, table, fault);
-    }
-    v
-}
-
-impl Values {
-    pub fn number(self, key: usize) -> u64 {
-        if key < MAX_KEYS {
-            let v = self.all[key];
-            v.number
-        } else {
-            0
+impl<'a> Value<'a> {
+    // The value, with a text for a line that does not have it.
+    // promise: drill.7
+    pub fn or(self, default: &'static [u8]) -> Value<'a>
+        ensures { result ≡ record self.entry { text = option_or self.entry.text (Some default.entry) } }
+    {
+        Value {
+            text: self.text.or(Some(default)),
+            ..self
         }
     }
 
-    pub fn unsigned8(self, key: usize) -> u8 {
-        value::low8(self.number(key))
+    // The value as the line has it.
+    // promise: drill.7
+    pub fn text(self) -> Result<&'a [u8], Fault>
+        ensures { result ≡ ok_or self.entry.text (Fault.Missing self.entry.key) }
+    {
+        self.text.ok_or(Fault::Missing(self.key))
     }
 
-    pub fn unsigned32(self, key: usize) -> u32 {
-        value::low32(self.number(key))
+    // What a parser makes of the value.
+    // promise: drill.7
+    pub fn parse<T, P: Fn(&[u8]) -> Option<T>>(self, parse: P) -> Result<T, Fault>
+        requires { P.IsAlwaysCallable parse }
+        ensures { IsParsed (FnReturnsAt P.Fn parse) self.entry.key self.entry.text result }
+    {
+        parse(self.text()?).ok_or(Fault::Bad(self.key))
     }
 
-    pub fn signed8(self, key: usize) -> i8 {
-        words::u8_as_i8(self.unsigned8(key))
-    }
-
-    pub fn signed64(self, key: usize) -> i64 {
-        words::u64_as_i64(self.number(key))
-    }
-
-    // The value as the line has it, or empty if the line does not have it.
-    pub fn text(self, key: usize, line: &[u8]) -> &[u8] {
-        if key < MAX_KEYS {
-            let v = self.all[key];
-            text::part(line, v.start, v.end)
-        } else {
-            text::part(line, 0, 0)
+    // The parts of the value between its commas, at most `most`; '-' is none.
+    // promise: drill.4
+    pub fn list<T: Drop, P: Fn(&[u8]) -> Option<T>>(
+        self,
+        alloc: Global,
+        most: usize,
+        parse: P,
+    ) -> Result<Vec<T>, Fault>
+        requires { P.IsAlwaysCallable parse }
+        ensures { IsList (FnReturnsAt P.Fn parse) self.entry.key most self.entry.text result }
+    {
+        let text = self.text()?;
+        let mut items = Vec::new(alloc);
+        if text == NONE {
+            return Ok(items);
         }
+        // Kept: the parts of `split`, taken by hand. A `for` over them was tried: in generic code it gets no proof.
+        let mut rest = Some(text);
+        while let Some(left) = rest {
+            if items.len() == most {
+                return Err(Fault::Bad(self.key));
+            }
+            let (part, after) = value::first_part(left, b',');
+            items.push(parse(part).ok_or(Fault::Bad(self.key))?)?;
+            rest = after;
+        }
+        Ok(items)
     }
 
-    // Writes the value's bytes to the start of a buffer.
-    pub fn bytes(self, key: usize, line: &[u8], out: &mut [u8]) -> usize {
-        value::write_bytes(self.text(key, line), out)
+    // The bytes of a value of hexadecimal digits, two each, at most `most`; '-' is none.
+    // promise: drill.3
+    pub fn bytes(self, alloc: Global, most: usize) -> Result<Vec<u8>, Fault>
+        ensures { EndsAs (λ bytes. bytes.items) (bytes_read self.entry.key most self.entry.text) result }
+    {
+        let text = self.text()?;
+        let mut bytes = Vec::new(alloc);
+        if text == NONE {
+            return Ok(bytes);
+        }
+        if text.is_empty() || text.len() % 2 != 0 || most < text.len() / 2 {
+            return Err(Fault::Bad(self.key));
+        }
+        for digits in text.chunks_exact(2) {
+            bytes.push(value::byte(digits).ok_or(Fault::Bad(self.key))?)?;
+        }
+        Ok(bytes)
+    }
+}
+
+#[cfg(test)]
+mod tests {
+    use super::*;
+    use std::test::Fail;
+
+    // A line with a default, with bytes in either case and with identifiers, as docs/DRILL.md, "The language", has them.
+    const LINE: &[u8] = b"reply plain=0aFF packet=- local=c0000201,0A000001";
+
+    #[test]
+    fn pairs_are_read(rt: HostRuntime) -> Result<(), Fail> {
+        let pairs = Pairs::read(rt.alloc(), LINE, &["packet", "auth", "plain", "local"])?;
+        assert_eq!(rt; pairs.value("plain").text()?, &b"0aFF"[..]);
+        assert_eq!(rt; pairs.value("auth").or(b"48").text()?, &b"48"[..]);
+        Ok(())
+    }
+
+    #[test]
+    fn bytes_are_read(rt: HostRuntime) -> Result<(), Fail> {
+        let pairs = Pairs::read(rt.alloc(), LINE, &["plain", "packet", "local"])?;
+        let plain = pairs.value("plain").bytes(rt.alloc(), 2)?;
+        assert_eq!(rt; plain.as_slice(), &[0x0A, 0xFF][..]);
+        let packet = pairs.value("packet").bytes(rt.alloc(), 4096)?;
+        assert!(rt; packet.is_empty());
+        Ok(())
+    }
+
+    #[test]
+    fn a_list_is_read(rt: HostRuntime) -> Result<(), Fail> {
+        let pairs = Pairs::read(rt.alloc(), LINE, &["plain", "packet", "local"])?;
+        let local = pairs.value("local").list(rt.alloc(), 2, value::identifier)?;
+        assert_eq!(rt; local.as_slice(), &[0xC000_0201, 0x0A00_0001][..]);
+        Ok(())
     }
 }

@@ -9,6 +9,8 @@ use native.Mathlib.Omega.{arith}
 use borrow.Author.Tests.{eqb-true, eq-eqb}
 use lib.Dec.{T, leb, eqb, ltb}
 use lib.ListN.{length, replicate}
+use Rattle.std.specs.Prelude.{Option, Result, Ok, Err}
+use Rattle.answers.specs.Answers.{number_in}
 use Rattle.words.proofs.Bytes.{Bytes}
 use Rattle.words.proofs.Tests.{when, unless, either}
 use Rattle.cookiestash.specs.declared.Dropped.{Dropped}
@@ -16,13 +18,13 @@ use Rattle.time_types.specs.declared.PollInterval.{PollInterval}
 use Rattle.version.specs.declared.SendKind.{SendKind}
 use Rattle.association.specs.declared.Settings.{Settings}
 use Rattle.association.specs.declared.Association.{Association}
-use Rattle.association.specs.declared.NewAnswer.{NewAnswer}
-use Rattle.association.specs.declared.NewAnswer.TheVariants as N
+use Rattle.association.specs.declared.NewRefusal.{NewRefusal}
+use Rattle.association.specs.declared.NewRefusal.TheVariants as N
 use Rattle.association.specs.Record.{whole_of}
 use Rattle.association.specs.Whole.{Whole}
 use Rattle.association.specs.New as new
-use Rattle.association_metered.specs.declared.ProfileAnswer.{ProfileAnswer}
-use Rattle.association_metered.specs.declared.ProfileAnswer.TheVariants as P
+use Rattle.association_metered.specs.declared.ProfileRefusal.{ProfileRefusal}
+use Rattle.association_metered.specs.declared.ProfileRefusal.TheVariants as P
 use Rattle.association_metered.specs.Profile as metered
 use Rattle.timer_rules.specs.declared.TimerAnswer.{TimerAnswer}
 use Rattle.timer_rules.specs.declared.TimerAnswer.TheVariants as Rang
@@ -30,26 +32,25 @@ use Rattle.timer_rules.specs.declared.TimerInput.{TimerInput}
 use Rattle.timer_rules.specs.Answer as timer-answer
 use Rattle.timer.specs.Timer.{timer_of, timed_of}
 use Rattle.timer.proofs.After.{leaves, record_left, pending_left}
-use Rattle.wire_incoming.specs.declared.ReplyRead.{ReplyRead}
+use Rattle.wire_incoming.specs.declared.Reply.{Reply}
 use Rattle.reply_clauses.specs.After.{Arrival}
 use Rattle.reply_rules.specs.declared.ReplyAnswer.{ReplyAnswer}
 use Rattle.reply_rules.specs.Answer as reply-answer
 use Rattle.reply.specs.Reply.{replied_of}
 use Rattle.reply.proofs.Numbers.{given}
 use Rattle.reply.proofs.After.{heard}
-use Rattle.wire_collector.specs.declared.Collected.{Collected}
-use Rattle.wire_collector.specs.declared.Collected.TheVariants as C
+use Rattle.wire_collector.specs.declared.CollectRefusal.{CollectRefusal}
 use Rattle.wire_collector.specs.Collector as collector
-use Rattle.wire_request.specs.declared.Requested.{Requested}
-use Rattle.wire_request.specs.declared.Requested.TheVariants as R
+use Rattle.wire_request.specs.declared.RequestRefusal.{RequestRefusal}
 use Rattle.wire_request.specs.Request as request-spec
 use Rattle.wire_request.specs.Answer as request
-use Rattle.handover_file.specs.declared.SaveAnswer.{SaveAnswer}
-use Rattle.handover_file.specs.declared.SaveAnswer.TheVariants.{Saved, NotWhole, ShortBuffer}
-use Rattle.handover_file.specs.declared.LoadAnswer.{LoadAnswer}
-use Rattle.handover_file.specs.declared.LoadAnswer.TheVariants as L
+use Rattle.handover_file.specs.declared.SaveRefusal.{SaveRefusal}
+use Rattle.handover_file.specs.declared.SaveRefusal.TheVariants.{NotWhole, ShortBuffer}
+use Rattle.handover_file.specs.declared.Loaded.{Loaded}
+use Rattle.handover_file.specs.declared.LoadRefusal.{LoadRefusal}
+use Rattle.handover_file.specs.declared.LoadRefusal.TheVariants as L
 use Rattle.handover_file.specs.File.{file_of, emptied, unsent}
-use Rattle.handover_file.specs.Answers.{save_number, saved, save_of, over, buffer_of, handed, handed_of, load_of}
+use Rattle.handover_file.specs.Answers.{save_number, saved, save_of, over, buffer_of, handed, handed_of, load_number, load_of}
 use Rattle.handover_file.proofs.File.{Fit, read_file}
 use Rattle.record_bytes.specs.Record.{ok, unpacked, packed}
 use Rattle.record_bytes.proofs.RoundTrip.{bytes_again}
@@ -57,8 +58,8 @@ use Rattle.record_stash.specs.Rows.{sized_in}
 use Rattle.record_calls.specs.Timer as timer
 use Rattle.record_calls.specs.Reply as reply
 use Rattle.record_new.specs.New as made
-use Rattle.record_new.specs.declared.NewInBytes.TheVariants as B
-use Rattle.record_new.specs.declared.MeteredInBytes.TheVariants as M
+use Rattle.record_new.specs.declared.InBytes.{InBytes}
+use Rattle.record_new.specs.declared.InBytes.TheVariants as B
 use Rattle.record_files.specs.Save as save
 use Rattle.record_files.specs.Load as load
 use Rattle.exports_values.specs.Answers.{collected_as, requested_as}
@@ -98,7 +99,7 @@ module _ (b : List ℕ) (y : Bytes b) (i : TimerInput) (buffer : List ℕ) where
 abbrev pub turns_away : ℕ → Bool
 turns_away n = (leb 1 n && leb n 4) || leb 12 n
 
-module _ (b : List ℕ) (y : Bytes b) (read : ReplyRead) (t : Arrival) where
+module _ (b : List ℕ) (y : Bytes b) (read : Option Reply) (t : Arrival) where
   abbrev came : reply.ReplyCall
   came = reply.replied_call b read t
 
@@ -146,20 +147,28 @@ module _ {A : Type 0} (num : A → ℕ) (b : List ℕ) (cap number : ℕ) (said 
       (λ _. either (Stays num b) (sized_in b cap) (λ _ z. absurd (n (sym is ∙ z))) (λ _ _. refl))
       (λ _ z. absurd (n (sym is ∙ z)))
 
-new_never_31 : (r : NewAnswer) → new.number_of r ≡ 31 → ⊥
-new_never_31 N.Made e = omega (arith, e)
-new_never_31 N.BadSettings e = omega (arith, e)
-new_never_31 N.BrokenList e = omega (arith, e)
-new_never_31 N.Retired e = omega (arith, e)
+new_said : (r : Result (Unit {0}) NewRefusal) → made.new_number (made.in_bytes r) ≡ new.number_of r
+new_said (Ok _) = refl
+new_said (Err refusal) = refl
 
-metered_never_31 : (r : ProfileAnswer) → metered.number_of r ≡ 31 → ⊥
-metered_never_31 P.Met e = omega (arith, e)
-metered_never_31 P.BadSettings e = omega (arith, e)
-metered_never_31 P.BrokenList e = omega (arith, e)
-metered_never_31 P.LowPollMin e = omega (arith, e)
-metered_never_31 P.HighStartup e = omega (arith, e)
-metered_never_31 P.UpgradingStart e = omega (arith, e)
-metered_never_31 P.LongCookie e = omega (arith, e)
+new_never_31 : (r : Result (Unit {0}) NewRefusal) → new.number_of r ≡ 31 → ⊥
+new_never_31 (Ok _) e = omega (arith, e)
+new_never_31 (Err N.BadSettings) e = omega (arith, e)
+new_never_31 (Err N.BrokenList) e = omega (arith, e)
+new_never_31 (Err N.Retired) e = omega (arith, e)
+
+metered_said : (r : Result (Unit {0}) ProfileRefusal) → made.metered_number (made.in_bytes r) ≡ metered.number_of r
+metered_said (Ok _) = refl
+metered_said (Err refusal) = refl
+
+metered_never_31 : (r : Result (Unit {0}) ProfileRefusal) → metered.number_of r ≡ 31 → ⊥
+metered_never_31 (Ok _) e = omega (arith, e)
+metered_never_31 (Err P.BadSettings) e = omega (arith, e)
+metered_never_31 (Err P.BrokenList) e = omega (arith, e)
+metered_never_31 (Err P.LowPollMin) e = omega (arith, e)
+metered_never_31 (Err P.HighStartup) e = omega (arith, e)
+metered_never_31 (Err P.UpgradingStart) e = omega (arith, e)
+metered_never_31 (Err P.LongCookie) e = omega (arith, e)
 
 module _ (s : Settings) (list b : List ℕ) where
   -- promise: exports.4
@@ -167,14 +176,16 @@ module _ (s : Settings) (list b : List ℕ) where
   unfolding made.new_call
   new_refused =
       let o = new.new_of s list in
-      zeroed made.new_number b s.capacity (new.number_of o.answer) (B.Said o.answer) B.WrongSize o.dropped o.association refl refl
+      zeroed made.new_number b s.capacity (new.number_of o.answer) (made.in_bytes o.answer) (Err B.WrongSize) o.dropped o.association
+      (new_said o.answer) refl
 
   -- promise: exports.4
   pub new_wrong_size : Stays made.new_number b (made.new_call s list b)
   unfolding made.new_call
   new_wrong_size =
       let o = new.new_of s list in
-      stays made.new_number b s.capacity (new.number_of o.answer) (B.Said o.answer) B.WrongSize o.dropped o.association refl refl
+      stays made.new_number b s.capacity (new.number_of o.answer) (made.in_bytes o.answer) (Err B.WrongSize) o.dropped o.association
+      (new_said o.answer) refl
       (new_never_31 o.answer)
 
   -- promise: exports.4
@@ -182,14 +193,16 @@ module _ (s : Settings) (list b : List ℕ) where
   unfolding made.metered_call
   metered_refused =
       let o = metered.metered_of s list in
-      zeroed made.metered_number b s.capacity (metered.number_of o.answer) (M.Said o.answer) M.WrongSize o.dropped o.association refl refl
+      zeroed made.metered_number b s.capacity (metered.number_of o.answer) (made.in_bytes o.answer) (Err B.WrongSize) o.dropped o.association
+      (metered_said o.answer) refl
 
   -- promise: exports.4
   pub metered_wrong_size : Stays made.metered_number b (made.metered_call s list b)
   unfolding made.metered_call
   metered_wrong_size =
       let o = metered.metered_of s list in
-      stays made.metered_number b s.capacity (metered.number_of o.answer) (M.Said o.answer) M.WrongSize o.dropped o.association refl refl
+      stays made.metered_number b s.capacity (metered.number_of o.answer) (made.in_bytes o.answer) (Err B.WrongSize) o.dropped o.association
+      (metered_said o.answer) refl
       (metered_never_31 o.answer)
 
 -- ---- save: 32 and 60 leave each byte of the record and of the buffer
@@ -202,17 +215,19 @@ module _ (b : List ℕ) (y : Bytes b) (out : List ℕ) where
   unfolding save_of buffer_of
   kept e = two (whole_of (unpacked b)) (ltb (length out) (length (file_of (unpacked b))))
     where
-      same : (r : SaveAnswer) → save.gave r (packed (unpacked b)) out ≡ save.gave r b out
+      same : (r : Result ℕ SaveRefusal) → save.gave r (packed (unpacked b)) out ≡ save.gave r b out
       same r = λ i. save.gave r (bytes_again b y e i) out
 
       two : (p q : Bool) →
           Kept
           (save.save_packed
           (handed
-          (cond p (cond q (saved ShortBuffer (unpacked b)) (saved (Saved (length (file_of (unpacked b)))) (emptied (unpacked b)))) (saved NotWhole (unpacked b)))
+          (cond p
+          (cond q (saved (Err ShortBuffer) (unpacked b)) (saved (Ok (length (file_of (unpacked b)))) (emptied (unpacked b))))
+          (saved (Err NotWhole) (unpacked b)))
           (cond p (cond q out (over (file_of (unpacked b)) out)) out)))
-      two false q z = same NotWhole
-      two true true z = same ShortBuffer
+      two false q z = same (Err NotWhole)
+      two true true z = same (Err ShortBuffer)
       two true false z = absurd (z refl)
 
   -- promise: exports.5
@@ -220,30 +235,31 @@ module _ (b : List ℕ) (y : Bytes b) (out : List ℕ) where
   unfolding save.save_call
   save_refused = by (ok b) refl
     where
-      by : (k : Bool) → ok b ≡ k → Kept (cond k (save.save_packed (handed_of (unpacked b) out)) (save.gave NotWhole b out))
+      by : (k : Bool) → ok b ≡ k → Kept (cond k (save.save_packed (handed_of (unpacked b) out)) (save.gave (Err NotWhole) b out))
       by true e = kept e
       by false e = λ _. refl
 
 -- ---- load: after 61, 62 and 63 every byte is zero, after 31 they are as they were
 
+abbrev pub loaded_number : Result Loaded (InBytes LoadRefusal) → ℕ
+loaded_number = number_in (made.in_bytes_number (λ refusal. load_number (Err refusal)))
+
 module _ (b : List ℕ) where
   abbrev Cleared : load.LoadCall → Type 0
-  Cleared c = (c.told.number ≡ 0 → ⊥) → (c.told.number ≡ 31 → ⊥) → c.bytes ≡ replicate (length b) 0
+  Cleared c = (loaded_number c.told ≡ 0 → ⊥) → (loaded_number c.told ≡ 31 → ⊥) → c.bytes ≡ replicate (length b) 0
 
   abbrev Left : load.LoadCall → Type 0
-  Left c = c.told.number ≡ 31 → c.bytes ≡ b
+  Left c = loaded_number c.told ≡ 31 → c.bytes ≡ b
 
-  cleared : (r : LoadAnswer) (a : Association) → Cleared (load.by_answer b r a)
-  cleared (L.Loaded said) a = either Cleared (eqb (length b) (92 + a.settings.capacity * 726)) (λ _ z _. absurd (z refl)) (λ _ _ z. absurd (z refl))
-  cleared L.WrongMark a = λ _ _. refl
-  cleared L.WrongLength a = λ _ _. refl
-  cleared L.NoAssociation a = λ _ _. refl
+  cleared : (r : Result Loaded LoadRefusal) (a : Association) → Cleared (load.by_answer b r a)
+  cleared (Ok said) a = either Cleared (eqb (length b) (92 + a.settings.capacity * 726)) (λ _ z _. absurd (z refl)) (λ _ _ z. absurd (z refl))
+  cleared (Err refusal) a = λ _ _. refl
 
-  left : (r : LoadAnswer) (a : Association) → Left (load.by_answer b r a)
-  left (L.Loaded said) a = either Left (eqb (length b) (92 + a.settings.capacity * 726)) (λ _ z. absurd (omega (arith, z))) (λ _ _. refl)
-  left L.WrongMark a = λ z. absurd (omega (arith, z))
-  left L.WrongLength a = λ z. absurd (omega (arith, z))
-  left L.NoAssociation a = λ z. absurd (omega (arith, z))
+  left : (r : Result Loaded LoadRefusal) (a : Association) → Left (load.by_answer b r a)
+  left (Ok said) a = either Left (eqb (length b) (92 + a.settings.capacity * 726)) (λ _ z. absurd (omega (arith, z))) (λ _ _. refl)
+  left (Err L.WrongMark) a = λ z. absurd (omega (arith, z))
+  left (Err L.WrongLength) a = λ z. absurd (omega (arith, z))
+  left (Err L.NoAssociation) a = λ z. absurd (omega (arith, z))
 
   -- promise: exports.4
   pub load_refused : (file : List ℕ) → Cleared (load.loaded_by b (load_of file))
@@ -256,18 +272,17 @@ module _ (b : List ℕ) where
 -- the file of a whole record loads as that record, with nothing sent, into bytes that are as many as its capacity asks for
 -- promise exports.6: The file of a whole record loads as that record, with nothing sent.
 pub handed_over : (a : Association) → Whole a → Fit a → (b : List ℕ) → length b ≡ 92 + a.settings.capacity * 726 →
-    load.loaded_by b (load_of (file_of a)) ≡ load.gave (record { number = 0; retired = false }) (packed (unsent a))
+    load.loaded_by b (load_of (file_of a)) ≡ load.gave (Ok (record { retired = false })) (packed (unsent a))
 unfolding unsent
 handed_over a w f b e =
     ap (load.loaded_by b) (read_file a w f)
-    ∙ when (load.gave (record { number = 0; retired = false }) (packed (unsent a))) (load.gave (load.number 31) b) (eq-eqb _ _ e)
+    ∙ when (load.gave (Ok (record { retired = false })) (packed (unsent a))) (load.gave (Err B.WrongSize) b) (eq-eqb _ _ e)
 
 -- ---- what is written to a buffer: on every number but 0 nothing
 
-unlisted : (list out : List ℕ) (c : Collected) → ((collected_as c).number ≡ 0 → ⊥) → collector.left_in list out c ≡ out
-unlisted list out (C.Done n) z = absurd (z refl)
-unlisted list out C.Broken z = refl
-unlisted list out C.TooLong z = refl
+unlisted : (list out : List ℕ) (c : Result ℕ CollectRefusal) → ((collected_as c).number ≡ 0 → ⊥) → collector.left_in list out c ≡ out
+unlisted list out (Ok n) z = absurd (z refl)
+unlisted list out (Err refusal) z = refl
 
 -- promise: exports.10
 pub collect_refused : (decrypted out : List ℕ) → ((collected_as (collector.collect_of decrypted (length out))).number ≡ 0 → ⊥) →
@@ -275,11 +290,9 @@ pub collect_refused : (decrypted out : List ℕ) → ((collected_as (collector.c
 unfolding collector.buffer_of
 collect_refused decrypted out z = unlisted (collector.list_in decrypted) out (collector.collect_of decrypted (length out)) z
 
-unsent_packet : (packet out : List ℕ) (r : Requested) → ((requested_as r).number ≡ 0 → ⊥) → request.left_in packet out r ≡ out
-unsent_packet packet out (R.Written n) z = absurd (z refl)
-unsent_packet packet out R.VersionFive z = refl
-unsent_packet packet out R.ShortBuffer z = refl
-unsent_packet packet out R.CookieOrCount z = refl
+unsent_packet : (packet out : List ℕ) (r : Result ℕ RequestRefusal) → ((requested_as r).number ≡ 0 → ⊥) → request.left_in packet out r ≡ out
+unsent_packet packet out (Ok n) z = absurd (z refl)
+unsent_packet packet out (Err refusal) z = refl
 
 -- promise: exports.10
 pub request_refused : (kind : SendKind) (poll : PollInterval) (id mark : ℕ) (uid cookie : List ℕ) (asked : ℕ) (out : List ℕ)

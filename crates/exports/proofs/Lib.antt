@@ -1,4 +1,3 @@
 -- The laws of `exports`.
-pub mod Tested
 pub mod After
 pub mod Determined

@@ -1,16 +1,19 @@
 -- What each exported call returns: the answer of the call that it makes, as numbers, and the lent bytes as that call leaves them.
 -- Assumes nothing.
-use Rattle.std.specs.Prelude.{cond, List, ℕ}
+use Rattle.std.specs.Prelude.{cond, List, ℕ, replicate, Option, Some, None, Result, Err}
 use Rattle.cookiestash.specs.Falling.{none_dropped}
 use Rattle.association_metered.specs.Profile as metered
+use Rattle.association.specs.declared.NewRefusal.{NewRefusal}
+use Rattle.association_metered.specs.declared.ProfileRefusal.{ProfileRefusal}
 use Rattle.record_bytes.specs.declared.Opened.{Opened}
-use Rattle.record_new.specs.declared.NewInBytes.{NewInBytes}
-use Rattle.record_new.specs.declared.MeteredInBytes.{MeteredInBytes}
-use Rattle.record_new.specs.New.{Call, new_number, metered_number, new_call, metered_call, blanked}
+use Rattle.record_bytes.specs.Record.{opened}
+use Rattle.record_new.specs.declared.InBytes.{InBytes}
+use Rattle.record_new.specs.New.{Call, in_bytes_number, new_number, metered_number, new_call, metered_call, blanked}
 use Rattle.record_calls.specs.Timer.{TimerCall}
 use Rattle.reply.specs.declared.Replied as reply
 use Rattle.record_calls.specs.Reply.{ReplyCall}
 use Rattle.record_files.specs.Save.{SaveCall}
+use Rattle.handover_file.specs.Answers.{load_number}
 use Rattle.record_files.specs.Load.{LoadCall}
 use Rattle.exports_values.specs.declared.CSettings.{CSettings}
 use Rattle.exports_values.specs.declared.CNewAnswer.{CNewAnswer}
@@ -19,7 +22,7 @@ use Rattle.exports_values.specs.declared.CReplied.{CReplied}
 use Rattle.exports_values.specs.declared.CWritten.{CWritten}
 use Rattle.exports_values.specs.declared.CLoadAnswer.{CLoadAnswer}
 use Rattle.exports_values.specs.Packed.{settings_ok, settings_in, pack_settings, pack_state}
-use Rattle.exports_values.specs.Answers.{new_answer, timer_answer, reply_answer, saved_as, load_answer}
+use Rattle.exports_values.specs.Answers.{new_answer, timer_answer, reply_answer, saved_as, load_as}
 use Rattle.exports.specs.declared.CView.{CView}
 
 -- ---- new
@@ -31,10 +34,10 @@ pub record Made : Type 0 where
 abbrev pub made : CNewAnswer → List ℕ → Made
 made r b = record { answer = r; bytes = b }
 
-abbrev pub made_as : Call NewInBytes → Made
+abbrev pub made_as : Call (Result (Unit {0}) (InBytes NewRefusal)) → Made
 made_as t = made (new_answer (new_number t.answer) t.dropped) t.bytes
 
-abbrev pub metered_as : Call MeteredInBytes → Made
+abbrev pub metered_as : Call (Result (Unit {0}) (InBytes ProfileRefusal)) → Made
 metered_as t = made (new_answer (metered_number t.answer) t.dropped) t.bytes
 
 -- settings with an unknown code: 30, and every byte zero
@@ -111,12 +114,17 @@ loaded r b = record { answer = r; bytes = b }
 
 -- promise: exports.7
 abbrev pub loaded_as : LoadCall → Loaded
-loaded_as t = loaded (load_answer t.told.number t.told.retired) t.bytes
+loaded_as t = loaded (load_as (in_bytes_number (λ refusal. load_number (Err refusal))) t.told) t.bytes
 
 -- ---- look
+
+abbrev pub shown : Opened → ℕ → CView
+shown o number = record { settings = pack_settings o.settings; state = pack_state o.state; number = number }
 
 -- 0, or 32 if the bytes are no record: then settings and state are those of an all-zero record
 -- promise exports.12: `look` shows the settings and the state of a record, and 32 with those of 92 zeros if the bytes are no record. `field_at` is the walk
 --     of part 7.
-abbrev pub view_of : Opened → CView
-view_of o = record { settings = pack_settings o.settings; state = pack_state o.state; number = cond o.ok 0 32 }
+--     edit: record_bytes/bytes_that_are_no_record_show_ones
+abbrev pub view_of : Option Opened → CView
+view_of (Some o) = shown o 0
+view_of None = shown (opened (replicate 92 0)) 32

@@ -1,11 +1,21 @@
 -- Settings and their numbers undo each other: each settings value has one form. And the numbers of the answers are those of the rules.
 -- Assumes nothing.
-use mathlib.Core.Path.{◌≡◌, refl, sym, ◌∙◌, ap, subst}
+use mathlib.Core.Path.{◌≡◌, refl, sym, ap, subst}
 use mathlib.Core.Bool.{Bool, true, false, ◌&&◌, cond}
 use Prim.Native.Nat.{ℕ}
 use lib.Dec.{eqb, leb}
 use native.Mathlib.Omega.{arith}
 use borrow.Author.Tests.{eqb-true, eqb-false, leb-true}
+use Rattle.std.specs.Prelude.{Some, Result, Ok, Err}
+use Rattle.wire_collector.specs.declared.CollectRefusal.{CollectRefusal}
+use Rattle.wire_collector.specs.declared.CollectRefusal.TheVariants as C
+use Rattle.wire_collector.specs.Collector as collector
+use Rattle.wire_request.specs.declared.RequestRefusal.{RequestRefusal}
+use Rattle.wire_request.specs.declared.RequestRefusal.TheVariants as W
+use Rattle.wire_request.specs.Answer as request
+use Rattle.handover_file.specs.declared.SaveRefusal.{SaveRefusal}
+use Rattle.handover_file.specs.declared.SaveRefusal.TheVariants as H
+use Rattle.handover_file.specs.Answers.{save_number}
 use Rattle.version.specs.declared.ProtocolVersion.{ProtocolVersion}
 use Rattle.version.specs.declared.ProtocolVersion.TheVariants.{V4, Upgrading, Upgraded, V5}
 use Rattle.association.specs.declared.Settings.{Settings}
@@ -16,10 +26,9 @@ use Rattle.reply_rules.specs.declared.ReplyAnswer.{ReplyAnswer}
 use Rattle.reply_rules.specs.declared.ReplyAnswer.TheVariants as R
 use Rattle.reply_rules.specs.Answer as reply-answer
 use Rattle.exports_values.specs.declared.CSettings.{CSettings}
-use Rattle.exports_values.specs.declared.UnpackedSettings.{UnpackedSettings}
 use Rattle.exports_values.specs.Codes.{is_kind, kind_in, kind_out, left_out, is_bit, truth, bit_of}
 use Rattle.exports_values.specs.Packed.{settings_ok, settings_in, pack_settings, unpack_settings}
-use Rattle.exports_values.specs.Answers.{timer_answer, reply_answer}
+use Rattle.exports_values.specs.Answers.{timer_answer, reply_answer, written_as, saved_as, collected_as, requested_as}
 
 pub left_true : (a b : Bool) → (a && b) ≡ true → a ≡ true
 left_true true b e = refl
@@ -85,25 +94,28 @@ bit_back n e = by (eqb n 1) refl
 
 -- ---- settings
 
--- promise: exports.7
-pub settings_back : (s : Settings) → unpack_settings (pack_settings s) ≡ record { ok = true; settings = s }
+packed_ok : (s : Settings) → settings_ok (pack_settings s) ≡ true
+unfolding pack_settings
+packed_ok s = λ i. version_named s.start.kind i && (truth_named s.nts i && true)
+
+packed_back : (s : Settings) → settings_in (pack_settings s) ≡ s
 unfolding pack_settings settings_in
-settings_back s =
+packed_back s =
     λ i. record {
-      ok = version_named s.start.kind i && (truth_named s.nts i && true);
-      settings =
-          record {
-            min = s.min;
-            max = s.max;
-            startup = s.startup;
-            window = s.window;
-            upgrademark = s.upgrademark;
-            start = record { kind = version_back s.start.kind i };
-            nts = truth_back s.nts i;
-            source = s.source;
-            capacity = s.capacity;
-          };
+      min = s.min;
+      max = s.max;
+      startup = s.startup;
+      window = s.window;
+      upgrademark = s.upgrademark;
+      start = record { kind = version_back s.start.kind i };
+      nts = truth_back s.nts i;
+      source = s.source;
+      capacity = s.capacity;
     }
+
+-- promise: exports.7
+pub settings_back : (s : Settings) → unpack_settings (pack_settings s) ≡ Some s
+settings_back s = rw packed_ok (ap Some (packed_back s))
 
 -- promise: exports.7
 pub csettings_back : (c : CSettings) → settings_ok c ≡ true → pack_settings (settings_in c) ≡ c
@@ -125,11 +137,6 @@ csettings_back c e =
       min = c.min;
       max = c.max;
     }
-
--- ---- settings, tested
-
-pub settings_tested : (u : UnpackedSettings) (b : Bool) (g : CSettings) → u ≡ unpack_settings g → u.ok ≡ b → settings_ok g ≡ b
-settings_tested u b g e f = ap (λ (k : UnpackedSettings). k.ok) (sym e) ∙ f
 
 -- ---- the numbers
 
@@ -161,3 +168,24 @@ reply_number_lem R.BadStratum = refl
 reply_number_lem R.NotServer = refl
 reply_number_lem R.NotWhole = refl
 reply_number_lem R.BrokenList = refl
+
+-- ---- what is written: the numbers of the refusals, one by one
+
+-- promise: exports.7
+pub saved_written : (r : Result ℕ SaveRefusal) → written_as (λ refusal. save_number (Err refusal)) r ≡ saved_as r
+saved_written (Ok length) = refl
+saved_written (Err H.NotWhole) = refl
+saved_written (Err H.ShortBuffer) = refl
+
+-- promise: exports.10
+pub collected_written : (r : Result ℕ CollectRefusal) → written_as (λ refusal. collector.number_of (Err refusal)) r ≡ collected_as r
+collected_written (Ok length) = refl
+collected_written (Err C.Broken) = refl
+collected_written (Err C.TooLong) = refl
+
+-- promise: exports.10
+pub requested_written : (r : Result ℕ RequestRefusal) → written_as (λ refusal. request.number_of (Err refusal)) r ≡ requested_as r
+requested_written (Ok length) = refl
+requested_written (Err W.VersionFive) = refl
+requested_written (Err W.ShortBuffer) = refl
+requested_written (Err W.CookieOrCount) = refl

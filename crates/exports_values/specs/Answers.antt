@@ -1,6 +1,6 @@
 -- Each answer as numbers, as a caller from C or Rust gets it.
 -- Assumes nothing.
-use Rattle.std.specs.Prelude.{ℕ, Bool, cond, eqb, pos}
+use Rattle.std.specs.Prelude.{ℕ, Bool, false, cond, eqb, pos, Result, Ok, Err}
 use Rattle.cookiestash.specs.declared.Dropped.{Dropped}
 use Rattle.version.specs.declared.SendKind.{SendKind}
 use Rattle.version.specs.declared.SendKind.TheVariants as S
@@ -14,12 +14,13 @@ use Rattle.reply_rules.specs.declared.ReplyAnswer.{ReplyAnswer}
 use Rattle.reply_rules.specs.declared.ReplyAnswer.TheVariants as R
 use Rattle.association_accept.specs.declared.Bloom.{Bloom}
 use Rattle.association_accept.specs.declared.Bloom.TheVariants as B
-use Rattle.wire_collector.specs.declared.Collected.{Collected}
-use Rattle.wire_collector.specs.declared.Collected.TheVariants as C
-use Rattle.wire_request.specs.declared.Requested.{Requested}
-use Rattle.wire_request.specs.declared.Requested.TheVariants as W
-use Rattle.handover_file.specs.declared.SaveAnswer.{SaveAnswer}
-use Rattle.handover_file.specs.declared.SaveAnswer.TheVariants as H
+use Rattle.wire_collector.specs.declared.CollectRefusal.{CollectRefusal}
+use Rattle.wire_collector.specs.declared.CollectRefusal.TheVariants as C
+use Rattle.wire_request.specs.declared.RequestRefusal.{RequestRefusal}
+use Rattle.wire_request.specs.declared.RequestRefusal.TheVariants as W
+use Rattle.handover_file.specs.declared.Loaded.{Loaded}
+use Rattle.handover_file.specs.declared.SaveRefusal.{SaveRefusal}
+use Rattle.handover_file.specs.declared.SaveRefusal.TheVariants as H
 use Rattle.wire_fields.specs.declared.Step.{Step}
 use Rattle.wire_fields.specs.declared.Step.TheVariants as F
 use Rattle.exports_values.specs.declared.CField.{CField}
@@ -44,7 +45,11 @@ unsent number = record { number = number; kind = 0; poll = interval (pos 0); ask
 
 -- promise exports.7: The exported calls `reckonstile_*` have their answers as numbers, and the number is that of RULES. `exports/proofs/Determined` has a
 --     theorem for each.
---     edit: exports_values/a_field_is_told_with_another_kind, exports/a_refused_setting_is_a_wrong_size
+--     edit: exports_values/a_field_is_told_with_another_kind, exports_values/a_written_answer_says_unwritten,
+--     exports_values/a_retired_version_is_told_as_plain, exports_values/no_is_read_as_yes, exports_values/the_startup_is_told_as_the_capacity,
+--     exports_values/the_tries_are_told_as_the_unanswered_polls, exports_values/one_cookie_at_most_is_asked_for,
+--     exports_values/the_delay_is_told_as_the_offset, exports_values/a_reply_that_is_not_measured_has_number_0,
+--     wire_incoming/unknown_is_read_as_unsynchronized, exports/a_refused_setting_is_a_wrong_size
 abbrev pub timer_answer : TimerAnswer → CTimerAnswer
 timer_answer (T.Sent kind poll len asked) = record { number = 20; kind = send_code kind; poll = poll; asked = asked; length = len }
 timer_answer T.Reset = unsent 21
@@ -130,24 +135,29 @@ wrote length = record { number = 0; written = 1; length = length }
 abbrev pub unwritten : ℕ → CWritten
 unwritten number = record { number = number; written = 0; length = 0 }
 
+-- the length of what is written, or the refusal's number
+abbrev pub written_as : {E : Type 0} → (E → ℕ) → Result ℕ E → CWritten
+written_as number_of (Ok length) = wrote length
+written_as number_of (Err refusal) = unwritten (number_of refusal)
+
 -- promise: exports.7
-abbrev pub saved_as : SaveAnswer → CWritten
-saved_as (H.Saved length) = wrote length
-saved_as H.NotWhole = unwritten 32
-saved_as H.ShortBuffer = unwritten 60
+abbrev pub saved_as : Result ℕ SaveRefusal → CWritten
+saved_as (Ok length) = wrote length
+saved_as (Err H.NotWhole) = unwritten 32
+saved_as (Err H.ShortBuffer) = unwritten 60
 
 -- promise exports.10: `collect` and `write_request` give number, length and every byte of the buffer. On every number but 0 the buffer stays.
-abbrev pub collected_as : Collected → CWritten
-collected_as (C.Done length) = wrote length
-collected_as C.Broken = unwritten 1
-collected_as C.TooLong = unwritten 31
+abbrev pub collected_as : Result ℕ CollectRefusal → CWritten
+collected_as (Ok length) = wrote length
+collected_as (Err C.Broken) = unwritten 1
+collected_as (Err C.TooLong) = unwritten 31
 
 -- promise: exports.10
-abbrev pub requested_as : Requested → CWritten
-requested_as (W.Written length) = wrote length
-requested_as W.VersionFive = unwritten 50
-requested_as W.ShortBuffer = unwritten 51
-requested_as W.CookieOrCount = unwritten 52
+abbrev pub requested_as : Result ℕ RequestRefusal → CWritten
+requested_as (Ok length) = wrote length
+requested_as (Err W.VersionFive) = unwritten 50
+requested_as (Err W.ShortBuffer) = unwritten 51
+requested_as (Err W.CookieOrCount) = unwritten 52
 
 -- ---- what is read from a file
 
@@ -155,6 +165,11 @@ requested_as W.CookieOrCount = unwritten 52
 -- promise: exports.7
 abbrev pub load_answer : ℕ → Bool → CLoadAnswer
 load_answer number retired = record { number = number; retired = cond retired 1 0 }
+
+-- promise: exports.7
+abbrev pub load_as : {E : Type 0} → (E → ℕ) → Result Loaded E → CLoadAnswer
+load_as number_of (Ok loaded) = load_answer 0 loaded.retired
+load_as number_of (Err refusal) = load_answer (number_of refusal) false
 
 -- ---- a packet's fields
 

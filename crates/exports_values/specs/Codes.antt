@@ -4,6 +4,7 @@ use Rattle.std.specs.Prelude.{Bool, true, ◌&&◌, cond, ℕ, eqb, leb}
 use Rattle.version.specs.declared.ProtocolVersion.{ProtocolVersion}
 use Rattle.version.specs.declared.ProtocolVersion.TheVariants.{V4, Upgrading, Upgraded, V5}
 use Rattle.version.specs.declared.Version.{Version}
+use Rattle.handover_groups.specs.Codes.{kind_code, tries_code}
 use Rattle.version.specs.declared.SendKind.{SendKind}
 use Rattle.version.specs.declared.SendKind.TheVariants as S
 
@@ -19,16 +20,10 @@ abbrev pub version_in : ℕ → ℕ → Version
 version_in kind left = record { kind = kind_in kind left }
 
 abbrev pub kind_out : ProtocolVersion → ℕ
-kind_out V4 = 0
-kind_out (Upgrading left) = 1
-kind_out Upgraded = 2
-kind_out V5 = 3
+kind_out = kind_code
 
 abbrev pub left_out : ProtocolVersion → ℕ
-left_out V4 = 0
-left_out (Upgrading left) = left
-left_out Upgraded = 0
-left_out V5 = 0
+left_out = tries_code
 
 abbrev pub is_bit : ℕ → Bool
 is_bit n = leb n 1

@@ -1,11 +1,10 @@
 -- Settings as C has them, and those of the rules; and the state, as it is shown.
 -- Assumes nothing.
-use Rattle.std.specs.Prelude.{Bool, ◌&&◌, eqb}
+use Rattle.std.specs.Prelude.{Bool, ◌&&◌, cond, eqb, Option, Some, None}
 use Rattle.association.specs.declared.Settings.{Settings}
 use Rattle.association.specs.declared.State.{State}
 use Rattle.exports_values.specs.declared.CSettings.{CSettings}
 use Rattle.exports_values.specs.declared.CState.{CState}
-use Rattle.exports_values.specs.declared.UnpackedSettings.{UnpackedSettings}
 use Rattle.exports_values.specs.Codes.{is_kind, version_in, kind_out, left_out, is_bit, truth, bit_of}
 
 -- ---- settings
@@ -29,8 +28,9 @@ settings_in c =
       capacity = c.capacity;
     }
 
-abbrev pub unpack_settings : CSettings → UnpackedSettings
-unpack_settings c = record { ok = settings_ok c; settings = settings_in c }
+-- the settings, if every code in them is known
+abbrev pub unpack_settings : CSettings → Option Settings
+unpack_settings c = cond (settings_ok c) (Some (settings_in c)) None
 
 -- promise: exports.7
 unfoldable pub pack_settings : Settings → CSettings

@@ -5,30 +5,30 @@
 
 pub mod tools;
 
-ghost use Rattle.std.specs.Prelude.{◌≡◌, ◌&&◌, leb, eqb};
-ghost use Rattle.exports_values.specs.Codes.{is_kind, version_in, kind_out, left_out, is_bit, truth, bit_of, send_in};
+ghost use Rattle.std.specs.Prelude.{◌≡◌, cond};
+ghost use Rattle.exports_values.specs.Codes.{is_kind, version_in, is_bit, truth, send_in};
 ghost use Rattle.exports_values.specs.Packed.{unpack_settings, pack_settings, pack_state};
 ghost use Rattle.exports_values.specs.Answers.{send_code, unsent, timer_answer, unmeasured, measured_as, reply_answer, new_answer, bloom_in};
-ghost use Rattle.exports_values.specs.Answers.{unwritten, wrote, saved_as, collected_as, requested_as, load_answer, no_field, field_as};
-ghost use Rattle.exports_values.specs.Decoded.{leap_in, mode_in, uid_in, bits_ok, kisses_in, uids_ok, decoded_ok, decoded_in};
+ghost use Rattle.exports_values.specs.Answers.{written_as, load_as, no_field, field_as};
+ghost use Rattle.exports_values.specs.Decoded.{leap_known, leap_in, mode_in, uid_known, uid_in, bits_ok, kisses_in, decoded_form};
 
+use answers::Refusal;
 use association::{Polls, Settings, State};
 use association_accept::Bloom;
 use cookiestash::Dropped;
-use handover_file::SaveAnswer;
+use handover_file::Loaded;
+use handover_groups::{kind_code, kind_known, kind_of, tries_code};
 use identifiers::ReferenceId;
 use reach::Reach;
 use reply_clauses::Measurement;
 use reply_rules::ReplyAnswer;
 use time_types::{NtpDuration, NtpTimestamp, PollInterval};
 use timer_rules::TimerAnswer;
-use version::{ProtocolVersion, SendKind, Version};
-use wire_collector::Collected;
+use version::{SendKind, Version};
 use wire_fields::Step;
 use wire_groups::Uid;
 use wire_header::Kisses;
 use wire_incoming::{DecodedMode, DecodedReply, NtpLeapIndicator};
-use wire_request::Requested;
 
 // ---- settings and state
 
@@ -81,185 +81,105 @@ pub struct CState {
 
 // ---- codes
 
-fn both(a: bool, b: bool) -> bool
-    ensures { result ≡ (a && b) }
+// The version that two numbers name: each version has one name.
+fn version_in(start: u32, left: u8) -> Option<Version>
+    ensures { result ≡ cond (is_kind start left) (Some (version_in start left)) None }
 {
-    if a { b } else { false }
-}
-
-// Whether two numbers name a version: each version has one name.
-fn is_kind(kind: u32, left: u8) -> bool
-    ensures { result ≡ is_kind kind left }
-{
-    if kind == 1 {
-        return true;
+    let code = u8::try_from(start).ok()?;
+    if !kind_known(code, left) {
+        return None;
     }
-    if kind <= 3 { left == 0 } else { false }
+    Some(Version {
+        kind: kind_of(code, left),
+    })
 }
 
-fn version_in(kind: u32, left: u8) -> Version
-    ensures { result ≡ version_in kind left }
+// The flag that 0 or 1 is.
+// Kept, 1 and 4: C has a flag as a number, and any number may come (include/reckonstile.h); definitions `is_bit` and `truth`.
+fn flag_in(code: u32) -> Option<bool>
+    ensures { result ≡ cond (is_bit code) (Some (truth code)) None }
 {
-    if kind == 1 {
-        return Version {
-            kind: ProtocolVersion::Upgrading(left),
-        };
+    match code {
+        0 => Some(false),
+        1 => Some(true),
+        _ => None,
     }
-    if kind == 2 {
-        return Version {
-            kind: ProtocolVersion::Upgraded,
-        };
-    }
-    if kind == 3 {
-        return Version {
-            kind: ProtocolVersion::V5,
-        };
-    }
-    Version {
-        kind: ProtocolVersion::V4,
-    }
-}
-
-fn kind_out(version: Version) -> u32
-    ensures { result ≡ kind_out version.kind }
-{
-    let kind = version.kind;
-    match kind {
-        ProtocolVersion::V4 => 0,
-        ProtocolVersion::Upgrading(_) => 1,
-        ProtocolVersion::Upgraded => 2,
-        ProtocolVersion::V5 => 3,
-    }
-}
-
-fn left_out(version: Version) -> u8
-    ensures { result ≡ left_out version.kind }
-{
-    let kind = version.kind;
-    match kind {
-        ProtocolVersion::V4 => 0,
-        ProtocolVersion::Upgrading(left) => left,
-        ProtocolVersion::Upgraded => 0,
-        ProtocolVersion::V5 => 0,
-    }
-}
-
-fn is_bit(n: u64) -> bool
-    ensures { result ≡ is_bit n }
-{
-    n <= 1
-}
-
-fn truth(n: u64) -> bool
-    ensures { result ≡ truth n }
-{
-    n == 1
-}
-
-fn bit(b: bool) -> u8
-    ensures { result ≡ bit_of b }
-{
-    if b { 1 } else { 0 }
-}
-
-fn wide_bit(b: bool) -> u32
-    ensures { result ≡ bit_of b }
-{
-    if b { 1 } else { 0 }
 }
 
 // ---- settings in, settings and state out
 
-// The unpacked settings, and whether every code in them is known.
-#[derive(Clone, Copy)]
-pub struct UnpackedSettings {
-    pub ok: bool,
-    pub settings: Settings,
-}
-
-pub fn unpack_settings(c: CSettings) -> UnpackedSettings
+// The settings, if every code in them is known.
+#[tactic(auto, unfolding(crate::specs::Packed::settings_in))]
+pub fn unpack_settings(c: CSettings) -> Option<Settings>
     ensures { result ≡ unpack_settings c }
 {
-    let kind = is_kind(c.start, c.left);
-    let flag = is_bit(c.nts as u64);
-    let none = c.spare == 0;
-    let rest = both(flag, none);
-    let ok = both(kind, rest);
-    let start = version_in(c.start, c.left);
-    let nts = truth(c.nts as u64);
-    let min = c.min;
-    let max = c.max;
-    let source = c.source;
-    let settings = Settings {
-        min,
-        max,
+    if c.spare != 0 {
+        return None;
+    }
+    Some(Settings {
+        min: c.min,
+        max: c.max,
         startup: c.startup,
         window: c.window,
         upgrademark: c.upgrademark,
-        start,
-        nts,
-        source,
+        start: version_in(c.start, c.left)?,
+        nts: flag_in(u32::from(c.nts))?,
+        source: c.source,
         capacity: c.capacity,
-    };
-    UnpackedSettings { ok, settings }
+    })
 }
 
-pub fn pack_settings(s: Settings) -> CSettings
-    ensures { result ≡ pack_settings s }
-{
-    let min = s.min;
-    let max = s.max;
-    let version = s.start;
-    let source = s.source;
-    let start = kind_out(version);
-    let left = left_out(version);
-    let nts = bit(s.nts);
-    CSettings {
-        window: s.window,
-        upgrademark: s.upgrademark,
-        source,
-        start,
-        nts: nts as u16,
-        capacity: s.capacity,
-        spare: 0,
-        left,
-        startup: s.startup,
-        min,
-        max,
+impl From<Settings> for CSettings {
+    ghost from_gives = { λ s c. c ≡ pack_settings s };
+
+    #[tactic(auto, unfolding(crate::specs::Packed::pack_settings))]
+    fn from(s: Settings) -> CSettings {
+        CSettings {
+            window: s.window,
+            upgrademark: s.upgrademark,
+            source: s.source,
+            start: u32::from(kind_code(s.start.kind)),
+            nts: u16::from(s.nts),
+            capacity: s.capacity,
+            spare: 0,
+            left: tries_code(s.start.kind),
+            startup: s.startup,
+            min: s.min,
+            max: s.max,
+        }
     }
 }
 
-pub fn pack_state(s: State) -> CState
-    ensures { result ≡ pack_state s }
-{
-    let effort = s.effort;
-    let reach = effort.reach;
-    let kind = s.version;
-    let polls = s.polls;
-    let source = s.source;
-    let refid = source.refid;
-    let request = s.request;
-    let uid = request.uid;
-    let version = kind_out(kind);
-    let left = left_out(kind);
-    let denial = bit(source.denial);
-    let present = wide_bit(request.present);
-    let answered = wide_bit(request.answered);
-    CState {
-        reach,
-        tries: effort.tries,
-        polls,
-        refid,
-        version,
-        left,
-        stratum: source.stratum,
-        denial,
-        unanswered: effort.unanswered,
-        id: request.id,
-        deadline: request.deadline,
-        uid,
-        answered,
-        present,
+impl From<State> for CState {
+    ghost from_gives = { λ s c. c ≡ pack_state s };
+
+    #[tactic(auto, unfolding(crate::specs::Packed::pack_state))]
+    fn from(s: State) -> CState {
+        let State {
+            effort,
+            version,
+            polls,
+            source,
+            request,
+        } = s;
+        // Kept: an array of a field goes into a struct by a name of its own. Straight was tried: the checker says that it does not cover that form.
+        let uid = request.uid;
+        CState {
+            reach: effort.reach,
+            tries: effort.tries,
+            polls,
+            refid: source.refid,
+            version: u32::from(kind_code(version.kind)),
+            left: tries_code(version.kind),
+            stratum: source.stratum,
+            denial: u8::from(source.denial),
+            unanswered: effort.unanswered,
+            id: request.id,
+            deadline: request.deadline,
+            uid,
+            answered: u32::from(request.answered),
+            present: u32::from(request.present),
+        }
     }
 }
 
@@ -284,6 +204,7 @@ pub struct CTimerAnswer {
     pub length: u64,
 }
 
+// Kept, 1 and 4: C's code (include/reckonstile.h), which only this crate knows; definition `send_code`.
 fn send_code(kind: SendKind) -> u8
     ensures { result ≡ send_code kind }
 {
@@ -297,11 +218,12 @@ fn send_code(kind: SendKind) -> u8
 }
 
 // An answer with which nothing is sent.
+// Kept: the number is what C gets.
 fn unsent(number: u8) -> CTimerAnswer
     ensures { result ≡ unsent number }
 {
     CTimerAnswer {
-        number: number as u32,
+        number: u32::from(number),
         kind: 0,
         poll: PollInterval(0),
         asked: 0,
@@ -309,31 +231,25 @@ fn unsent(number: u8) -> CTimerAnswer
     }
 }
 
-pub fn timer_answer(answer: TimerAnswer) -> CTimerAnswer
-    ensures { result ≡ timer_answer answer }
-{
-    match answer {
-        TimerAnswer::Sent {
-            kind,
-            poll,
-            len,
-            asked,
-        } => {
-            let code = send_code(kind);
-            CTimerAnswer {
-                number: 20,
-                kind: code,
+impl From<TimerAnswer> for CTimerAnswer {
+    ghost from_gives = { λ answer c. c ≡ timer_answer answer };
+
+    fn from(answer: TimerAnswer) -> CTimerAnswer {
+        match answer {
+            TimerAnswer::Sent {
+                kind,
                 poll,
-                asked: asked as u16,
+                len,
+                asked,
+            } => CTimerAnswer {
+                number: u32::from(answer.number()),
+                kind: send_code(kind),
+                poll,
+                asked: u16::from(asked),
                 length: len as u64,
-            }
+            },
+            _ => unsent(answer.number()),
         }
-        TimerAnswer::Reset => unsent(21),
-        TimerAnswer::Demobilize => unsent(22),
-        TimerAnswer::NoCookie => unsent(23),
-        TimerAnswer::CookieTooLarge => unsent(24),
-        TimerAnswer::ShortBuffer => unsent(31),
-        TimerAnswer::NotWhole => unsent(32),
     }
 }
 
@@ -358,12 +274,14 @@ pub struct CReplyAnswer {
     pub rootdisp: NtpDuration,
 }
 
+// An answer with which nothing is measured.
+// Kept: the number is what C gets.
 fn unmeasured(number: u8) -> CReplyAnswer
     ensures { result ≡ unmeasured number }
 {
     let none = NtpDuration(0);
     CReplyAnswer {
-        number: number as u32,
+        number: u32::from(number),
         measured: 0,
         leap: 0,
         stratum: 0,
@@ -377,51 +295,34 @@ fn unmeasured(number: u8) -> CReplyAnswer
     }
 }
 
-fn measured(m: Measurement) -> CReplyAnswer
-    ensures { result ≡ measured_as m }
-{
-    let leap = m.leap;
-    let code = leap.code();
-    let delay = m.delay;
-    let offset = m.offset;
-    let local = m.local;
-    let rootdelay = m.rootdelay;
-    let rootdisp = m.rootdisp;
-    CReplyAnswer {
-        number: 0,
-        measured: 1,
-        leap: code,
-        stratum: m.stratum,
-        precision: m.precision,
-        delay,
-        offset,
-        local,
-        mono: m.mono,
-        rootdelay,
-        rootdisp,
+impl From<Measurement> for CReplyAnswer {
+    ghost from_gives = { λ m c. c ≡ measured_as m };
+
+    fn from(m: Measurement) -> CReplyAnswer {
+        CReplyAnswer {
+            number: 0,
+            measured: 1,
+            leap: m.leap.code(),
+            stratum: m.stratum,
+            precision: m.precision,
+            delay: m.delay,
+            offset: m.offset,
+            local: m.local,
+            mono: m.mono,
+            rootdelay: m.rootdelay,
+            rootdisp: m.rootdisp,
+        }
     }
 }
 
-pub fn reply_answer(answer: ReplyAnswer) -> CReplyAnswer
-    ensures { result ≡ reply_answer answer }
-{
-    match answer {
-        ReplyAnswer::Measured(m) => measured(m),
-        ReplyAnswer::Undecodable => unmeasured(1),
-        ReplyAnswer::UnexpectedVersion => unmeasured(2),
-        ReplyAnswer::NeverSent => unmeasured(12),
-        ReplyAnswer::AlreadyMeasured => unmeasured(13),
-        ReplyAnswer::Expired => unmeasured(14),
-        ReplyAnswer::NoMatch => unmeasured(4),
-        ReplyAnswer::Rate => unmeasured(5),
-        ReplyAnswer::Denied => unmeasured(6),
-        ReplyAnswer::DeniedNts => unmeasured(7),
-        ReplyAnswer::Ntsn => unmeasured(8),
-        ReplyAnswer::OtherKiss => unmeasured(9),
-        ReplyAnswer::BadStratum => unmeasured(10),
-        ReplyAnswer::NotServer => unmeasured(11),
-        ReplyAnswer::NotWhole => unmeasured(32),
-        ReplyAnswer::BrokenList => unmeasured(33),
+impl From<ReplyAnswer> for CReplyAnswer {
+    ghost from_gives = { λ answer c. c ≡ reply_answer answer };
+
+    fn from(answer: ReplyAnswer) -> CReplyAnswer {
+        match answer {
+            ReplyAnswer::Measured(m) => CReplyAnswer::from(m),
+            _ => unmeasured(answer.number()),
+        }
     }
 }
 
@@ -462,132 +363,70 @@ pub struct CDecoded {
     pub untrusted: u8,
 }
 
-fn leap_in(code: u8) -> NtpLeapIndicator
-    ensures { result ≡ leap_in code }
+// The leap kind that a number is.
+// Kept, 1 and 4: C has a number, and `decoded_form` asks for an Option of the kind, in the words of its definition `leap_in`.
+fn leap_in(code: u8) -> Option<NtpLeapIndicator>
+    ensures { result ≡ cond (leap_known code) (Some (leap_in code)) None }
 {
-    if code == 0 {
-        return NtpLeapIndicator::NoWarning;
-    }
-    if code == 1 {
-        return NtpLeapIndicator::Leap61;
-    }
-    if code == 2 {
-        return NtpLeapIndicator::Leap59;
-    }
-    if code == 3 {
-        return NtpLeapIndicator::Unknown;
-    }
-    NtpLeapIndicator::Unsynchronized
+    NtpLeapIndicator::try_from(code).ok()
 }
 
-fn mode_in(code: u32) -> DecodedMode
-    ensures { result ≡ mode_in code }
+// Kept, 1 and 4: C's code (include/reckonstile.h), which only this crate knows; definition `mode_in`.
+fn mode_in(code: u32) -> Option<DecodedMode>
+    ensures { result ≡ cond (is_bit code) (Some (mode_in code)) None }
 {
-    if code == 0 {
-        return DecodedMode::Request;
-    }
-    DecodedMode::Response
-}
-
-fn uid_in(code: u8) -> Uid
-    ensures { result ≡ uid_in code }
-{
-    if code == 0 {
-        return Uid::Absent;
-    }
-    if code == 1 {
-        return Uid::Agree;
-    }
-    Uid::Disagree
-}
-
-fn at_most(n: u8, most: u8) -> bool
-    ensures { result ≡ leb n most }
-{
-    n <= most
-}
-
-fn is_one(n: u8) -> bool
-    ensures { result ≡ eqb n 1 }
-{
-    n == 1
-}
-
-// Whether five codes are 0 or 1.
-fn bits_ok(rate: u8, deny: u8, rstr: u8, ntsn: u8, any: u8) -> bool
-    ensures { result ≡ bits_ok rate deny rstr ntsn any }
-{
-    let denial = both(at_most(deny, 1), at_most(rstr, 1));
-    let others = both(at_most(ntsn, 1), at_most(any, 1));
-    let rest = both(denial, others);
-    both(at_most(rate, 1), rest)
-}
-
-fn kisses_in(rate: u8, deny: u8, rstr: u8, ntsn: u8, any: u8) -> Kisses
-    ensures { result ≡ kisses_in rate deny rstr ntsn any }
-{
-    let rate = is_one(rate);
-    let deny = is_one(deny);
-    let rstr = is_one(rstr);
-    let ntsn = is_one(ntsn);
-    let any = is_one(any);
-    Kisses {
-        rate,
-        deny,
-        rstr,
-        ntsn,
-        any,
+    match code {
+        0 => Some(DecodedMode::Request),
+        1 => Some(DecodedMode::Response),
+        _ => None,
     }
 }
 
-fn uids_ok(authenticated: u8, encrypted: u8, untrusted: u8) -> bool
-    ensures { result ≡ uids_ok authenticated encrypted untrusted }
+// Kept, 1 and 4: C's code (include/reckonstile.h), which only this crate knows; definition `uid_in`.
+fn uid_in(code: u8) -> Option<Uid>
+    ensures { result ≡ cond (uid_known code) (Some (uid_in code)) None }
 {
-    let trusted = both(at_most(authenticated, 2), at_most(encrypted, 2));
-    both(trusted, at_most(untrusted, 2))
+    match code {
+        0 => Some(Uid::Absent),
+        1 => Some(Uid::Agree),
+        2 => Some(Uid::Disagree),
+        _ => None,
+    }
 }
 
-// Whether every code is known.
-pub fn decoded_ok(d: CDecoded) -> bool
-    ensures { result ≡ decoded_ok d }
+fn kisses_in(d: CDecoded) -> Option<Kisses>
+    ensures { result ≡ cond (bits_ok d.rate d.deny d.rstr d.ntsn d.any) (Some (kisses_in d.rate d.deny d.rstr d.ntsn d.any)) None }
 {
-    let kinds = both(at_most(d.leap, 4), is_bit(d.mode as u64));
-    let kisses = bits_ok(d.rate, d.deny, d.rstr, d.ntsn, d.any);
-    let uids = uids_ok(d.authenticated, d.encrypted, d.untrusted);
-    let rest = both(kisses, uids);
-    both(kinds, rest)
+    Some(Kisses {
+        rate: flag_in(u32::from(d.rate))?,
+        deny: flag_in(u32::from(d.deny))?,
+        rstr: flag_in(u32::from(d.rstr))?,
+        ntsn: flag_in(u32::from(d.ntsn))?,
+        any: flag_in(u32::from(d.any))?,
+    })
 }
 
-pub fn decoded_in(d: CDecoded) -> DecodedReply
-    ensures { result ≡ decoded_in d }
+// The decoded form, if every code is known.
+#[tactic(auto, unfolding(crate::specs::Decoded::decoded_ok, crate::specs::Decoded::decoded_in))]
+pub fn decoded_form(d: CDecoded) -> Option<DecodedReply>
+    ensures { result ≡ decoded_form d }
 {
-    let poll = d.poll;
-    let rootdelay = d.rootdelay;
-    let rootdisp = d.rootdisp;
-    let receive = d.receive;
-    let transmit = d.transmit;
-    let leap = leap_in(d.leap);
-    let mode = mode_in(d.mode);
-    let kisses = kisses_in(d.rate, d.deny, d.rstr, d.ntsn, d.any);
-    let authenticated = uid_in(d.authenticated);
-    let encrypted = uid_in(d.encrypted);
-    let untrusted = uid_in(d.untrusted);
-    DecodedReply {
-        leap,
-        mode,
+    Some(DecodedReply {
+        leap: leap_in(d.leap)?,
+        mode: mode_in(d.mode)?,
         stratum: d.stratum,
-        poll,
+        poll: d.poll,
         precision: d.precision,
-        rootdelay,
-        rootdisp,
-        receive,
-        transmit,
+        rootdelay: d.rootdelay,
+        rootdisp: d.rootdisp,
+        receive: d.receive,
+        transmit: d.transmit,
         cookie: d.cookie,
-        kisses,
-        authenticated,
-        encrypted,
-        untrusted,
-    }
+        kisses: kisses_in(d)?,
+        authenticated: uid_in(d.authenticated)?,
+        encrypted: uid_in(d.encrypted)?,
+        untrusted: uid_in(d.untrusted)?,
+    })
 }
 
 // ---- new, accept
@@ -602,34 +441,27 @@ pub struct CNewAnswer {
     pub dropped: Dropped,
 }
 
+// Kept: the number is what C gets.
 pub fn new_answer(number: u8, dropped: Dropped) -> CNewAnswer
     ensures { result ≡ new_answer number dropped }
 {
-    if number == 0 {
-        return CNewAnswer {
-            number: 0,
-            made: 1,
-            dropped,
-        };
-    }
     CNewAnswer {
-        number: number as u32,
-        made: 0,
+        number: u32::from(number),
+        made: u32::from(number == 0),
         dropped,
     }
 }
 
 // 0 is no filter, 1 is absent. Any other code counts as present, so that an unknown code accepts nothing.
+// Kept, 1 and 4: C's code (include/reckonstile.h), which only this crate knows; definition `bloom_in`.
 pub fn bloom_in(code: u32) -> Bloom
     ensures { result ≡ bloom_in code }
 {
-    if code == 0 {
-        return Bloom::NoFilter;
+    match code {
+        0 => Bloom::NoFilter,
+        1 => Bloom::Absent,
+        _ => Bloom::Present,
     }
-    if code == 1 {
-        return Bloom::Absent;
-    }
-    Bloom::Present
 }
 
 // ---- what is written to a buffer, and what is read from a file
@@ -644,72 +476,37 @@ pub struct CWritten {
     pub length: u64,
 }
 
-// Nothing is written; the number says why.
-fn unwritten(number: u32) -> CWritten
-    ensures { result ≡ unwritten number }
-{
-    CWritten {
-        number,
-        written: 0,
-        length: 0,
-    }
-}
+// The length of what is written, or the refusal's number: of a save, of a list of cookies and of a request.
+impl<E: Refusal> From<Result<usize, E>> for CWritten {
+    ghost from_gives = { λ answer c. c ≡ written_as E.number_of answer };
 
-fn wrote(length: usize) -> CWritten
-    ensures { result ≡ wrote length }
-{
-    CWritten {
-        number: 0,
-        written: 1,
-        length: length as u64,
-    }
-}
-
-pub fn saved(answer: SaveAnswer) -> CWritten
-    ensures { result ≡ saved_as answer }
-{
-    match answer {
-        SaveAnswer::Saved(length) => wrote(length),
-        SaveAnswer::NotWhole => unwritten(32),
-        SaveAnswer::ShortBuffer => unwritten(60),
-    }
-}
-
-pub fn collected(answer: Collected) -> CWritten
-    ensures { result ≡ collected_as answer }
-{
-    match answer {
-        Collected::Done(length) => wrote(length),
-        Collected::Broken => unwritten(1),
-        Collected::TooLong => unwritten(31),
-    }
-}
-
-pub fn requested(answer: Requested) -> CWritten
-    ensures { result ≡ requested_as answer }
-{
-    match answer {
-        Requested::Written(length) => wrote(length),
-        Requested::VersionFive => unwritten(50),
-        Requested::ShortBuffer => unwritten(51),
-        Requested::CookieOrCount => unwritten(52),
+    fn from(answer: Result<usize, E>) -> CWritten {
+        match answer {
+            Ok(length) => CWritten {
+                number: 0,
+                written: 1,
+                length: length as u64,
+            },
+            Err(refusal) => CWritten {
+                number: u32::from(refusal.number()),
+                written: 0,
+                length: 0,
+            },
+        }
     }
 }
 
 // The kind of request for a code. V5 is not written, so every other code gives V5.
+// Kept, 1 and 4: C's code (include/reckonstile.h), which only this crate knows; definition `send_in`.
 pub fn send_in(code: u8) -> SendKind
     ensures { result ≡ send_in code }
 {
-    if code == 1 {
-        return SendKind::V4;
+    match code {
+        1 => SendKind::V4,
+        2 => SendKind::V4Upgrade,
+        4 => SendKind::NtsV4,
+        _ => SendKind::V5,
     }
-    if code == 2 {
-        return SendKind::V4Upgrade;
-    }
-    if code == 4 {
-        return SendKind::NtsV4;
-    }
-    SendKind::V5
 }
 
 // What loading a file answers: its number, and 1 if a version in the file was of the retired kind and was loaded as V4.
@@ -720,13 +517,20 @@ pub struct CLoadAnswer {
     pub retired: u32,
 }
 
-pub fn load_answer(number: u8, retired: bool) -> CLoadAnswer
-    ensures { result ≡ load_answer number retired }
-{
-    let told = wide_bit(retired);
-    CLoadAnswer {
-        number: number as u32,
-        retired: told,
+impl<E: Refusal> From<Result<Loaded, E>> for CLoadAnswer {
+    ghost from_gives = { λ answer c. c ≡ load_as E.number_of answer };
+
+    fn from(answer: Result<Loaded, E>) -> CLoadAnswer {
+        match answer {
+            Ok(loaded) => CLoadAnswer {
+                number: 0,
+                retired: u32::from(loaded.retired),
+            },
+            Err(refusal) => CLoadAnswer {
+                number: u32::from(refusal.number()),
+                retired: 0,
+            },
+        }
     }
 }
 
@@ -749,6 +553,7 @@ pub struct CField {
     pub next: u64,
 }
 
+// Kept: the number is what C gets.
 fn no_field(number: u32) -> CField
     ensures { result ≡ no_field number }
 {
@@ -763,25 +568,27 @@ fn no_field(number: u32) -> CField
     }
 }
 
-pub fn field(step: Step) -> CField
-    ensures { result ≡ field_as step }
-{
-    match step {
-        Step::Field {
-            kind,
-            start,
-            len,
-            next,
-        } => CField {
-            number: 0,
-            found: 1,
-            kind: kind as u32,
-            spare: 0,
-            body: start as u64,
-            length: len as u64,
-            next: next as u64,
-        },
-        Step::End => no_field(0),
-        Step::Broken => no_field(1),
+impl From<Step> for CField {
+    ghost from_gives = { λ step c. c ≡ field_as step };
+
+    fn from(step: Step) -> CField {
+        match step {
+            Step::Field {
+                kind,
+                start,
+                len,
+                next,
+            } => CField {
+                number: 0,
+                found: 1,
+                kind: u32::from(kind),
+                spare: 0,
+                body: start as u64,
+                length: len as u64,
+                next: next as u64,
+            },
+            Step::End => no_field(0),
+            Step::Broken => no_field(1),
+        }
     }
 }

@@ -1,16 +1,13 @@
-// The tools beside the association, as C and Rust call them: salvage of a cookie list, check and plan of a poll calendar, comparison of two files.
-// Promises: each returns as numbers the answer of the call that it makes, and leaves each lent byte as that call does.
+// What the tools beside the association answer, as numbers: salvage of a cookie list, check and plan of a poll calendar, comparison of two files.
+// Promises: the number of each answer, and all that it reports or names.
 // Rule: RULES, No. 9, No. 10 and No. 13; definitions in specs/Told.antt.
-ghost use Rattle.std.specs.Prelude.{◌≡◌, length};
-ghost use Rattle.salvage.specs.Salvage.{salvage_of, buffer_of as cleaned};
-ghost use Rattle.calendar.specs.Calendar.{check_of};
-ghost use Rattle.calendar.specs.Plan.{plan_of, buffer_of as planned};
-ghost use Rattle.handover_compare.specs.Answers.{compare_of, out_of};
-ghost use Rattle.exports_values.specs.Told.{told_of, salvaged_as, named, unnamed, checked_as, planned_as, side_code, refused, compared_as};
+ghost use Rattle.std.specs.Prelude.{◌≡◌};
+ghost use Rattle.exports_values.specs.Told.{salvaged_as, named, unnamed, checked_as, planned_as, side_code, refused, compared_as};
 
-use calendar::{CheckAnswer, PlanAnswer};
-use handover_compare::{CompareAnswer, Side};
-use salvage::{PLACES, Salvaged};
+use answers::Refusal;
+use calendar::{CheckRefusal, PlanRefusal};
+use handover_compare::{CompareRefusal, Side};
+use salvage::{PLACES, SalvageRefusal, Salvaged};
 
 // What salvage answers, as numbers without padding. The first `told` places say where gaps start; the others are 0.
 #[repr(C)]
@@ -34,114 +31,102 @@ pub struct CCalendarAnswer {
     pub place: u64,
 }
 
-// How many gaps have their places reported.
-fn told(gaps: usize) -> u32
-    ensures { result ≡ told_of gaps }
-{
-    if gaps < PLACES {
-        return gaps as u32;
-    }
-    PLACES as u32
-}
-
 // The places in 64 bits each, whatever the target's width.
-fn widened(places: [usize; PLACES]) -> [u64; 32]
+fn widened(places: [usize; PLACES]) -> [u64; PLACES]
     ensures { result ≡ places }
 {
-    let mut wide = [0u64; 32];
-    let mut i: usize = 0;
-    while i < PLACES {
-        wide[i] = places[i] as u64;
-        i += 1;
+    let mut wide = [0; PLACES];
+    for (i, place) in places.iter().enumerate() {
+        wide[i] = *place as u64;
     }
     wide
 }
 
-fn salvaged(s: Salvaged) -> CSalvaged
-    ensures { result ≡ salvaged_as s }
-{
-    let told = told(s.gaps);
-    let first = s.places;
-    let places = widened(first);
-    CSalvaged {
-        number: s.number as u32,
-        told,
-        kept: s.kept as u64,
-        skipped: s.skipped as u64,
-        gaps: s.gaps as u64,
-        length: s.len as u64,
-        places,
+impl From<Result<Salvaged, SalvageRefusal>> for CSalvaged {
+    ghost from_gives = { λ answer c. c ≡ salvaged_as answer };
+
+    // promise: exports.11
+    fn from(answer: Result<Salvaged, SalvageRefusal>) -> CSalvaged {
+        match answer {
+            Ok(s) => {
+                let places = widened(s.places);
+                CSalvaged {
+                    number: 0,
+                    told: s.gaps.min(PLACES) as u32,
+                    kept: s.kept as u64,
+                    skipped: s.skipped as u64,
+                    gaps: s.gaps as u64,
+                    length: s.len as u64,
+                    places,
+                }
+            }
+            Err(refusal) => CSalvaged {
+                number: u32::from(refusal.number()),
+                told: 0,
+                kept: 0,
+                skipped: 0,
+                gaps: 0,
+                length: 0,
+                places: [0; PLACES],
+            },
+        }
     }
 }
 
-// Writes the clean list of a damaged one to the start of the buffer: 0, 70.
-pub fn salvage(list: &[u8], out: &mut [u8]) -> CSalvaged
-    ensures { (result ≡ salvaged_as (salvage_of list.now (length out.old)))
-        × (out.new ≡ cleaned list.now out.old) }
-{
-    let answer = salvage::salvage(list, out);
-    salvaged(answer)
-}
-
-fn named(number: u32, place: usize) -> CCalendarAnswer
+// An answer that names an entry or a minute.
+// Kept: the number is what C gets.
+fn named(number: u8, place: usize) -> CCalendarAnswer
     ensures { result ≡ named number place }
 {
     CCalendarAnswer {
-        number,
+        number: u32::from(number),
         named: 1,
         place: place as u64,
     }
 }
 
-fn unnamed(number: u32) -> CCalendarAnswer
+// One that names none.
+// Kept: the number is what C gets.
+fn unnamed(number: u8) -> CCalendarAnswer
     ensures { result ≡ unnamed number }
 {
     CCalendarAnswer {
-        number,
+        number: u32::from(number),
         named: 0,
         place: 0,
     }
 }
 
-fn checked(answer: CheckAnswer) -> CCalendarAnswer
-    ensures { result ≡ checked_as answer }
-{
-    match answer {
-        CheckAnswer::Accepted => unnamed(0),
-        CheckAnswer::TooMany => unnamed(80),
-        CheckAnswer::BadRepeat(k) => named(81, k),
-        CheckAnswer::LateStart(k) => named(82, k),
-        CheckAnswer::OverCap(m) => named(83, m),
+impl From<Result<(), CheckRefusal>> for CCalendarAnswer {
+    ghost from_gives = { λ answer c. c ≡ checked_as answer };
+
+    // promise: exports.11
+    fn from(answer: Result<(), CheckRefusal>) -> CCalendarAnswer {
+        let Err(refusal) = answer else {
+            return unnamed(0);
+        };
+        match refusal {
+            CheckRefusal::BadRepeat(k) | CheckRefusal::LateStart(k) | CheckRefusal::OverCap(k) => {
+                named(refusal.number(), k)
+            }
+            CheckRefusal::TooMany => unnamed(refusal.number()),
+        }
     }
 }
 
-fn planned(answer: PlanAnswer) -> CCalendarAnswer
-    ensures { result ≡ planned_as answer }
-{
-    match answer {
-        PlanAnswer::Planned => unnamed(0),
-        PlanAnswer::TooMany => unnamed(80),
-        PlanAnswer::BadRepeat(k) => named(81, k),
-        PlanAnswer::NoFit(k) => named(84, k),
-        PlanAnswer::NoRoom => unnamed(31),
+impl From<Result<(), PlanRefusal>> for CCalendarAnswer {
+    ghost from_gives = { λ answer c. c ≡ planned_as answer };
+
+    // promise: exports.11
+    fn from(answer: Result<(), PlanRefusal>) -> CCalendarAnswer {
+        let Err(refusal) = answer else {
+            return unnamed(0);
+        };
+        match refusal {
+            PlanRefusal::BadRepeat(k) | PlanRefusal::NoFit(k) => named(refusal.number(), k),
+            PlanRefusal::TooMany | PlanRefusal::NoRoom => unnamed(refusal.number()),
+        }
     }
-}
-
-// Whether a calendar is accepted: 0, 80 to 83.
-pub fn check(cap: u8, starts: &[u16], repeats: &[u16]) -> CCalendarAnswer
-    ensures { result ≡ checked_as (check_of cap starts.now repeats.now) }
-{
-    let answer = calendar::check(cap, starts, repeats);
-    checked(answer)
-}
-
-// Writes the starts of a plan to the start of the buffer: 0, 80, 81, 84, 31.
-pub fn plan(cap: u8, repeats: &[u16], starts: &mut [u16]) -> CCalendarAnswer
-    ensures { (result ≡ planned_as (plan_of cap repeats.now (length starts.old)))
-        × (starts.new ≡ planned cap repeats.now starts.old) }
-{
-    let answer = calendar::plan(cap, repeats, starts);
-    planned(answer)
 }
 
 // What comparing answers, as numbers without padding.
@@ -155,6 +140,7 @@ pub struct CCompared {
     pub entries: u64,
 }
 
+// Kept, 1 and 4: C's code (include/reckonstile.h), which only this crate knows; definition `side_code`.
 fn side_code(side: Side) -> u32
     ensures { result ≡ side_code side }
 {
@@ -164,43 +150,39 @@ fn side_code(side: Side) -> u32
     }
 }
 
-fn refused(number: u32, side: Side) -> CCompared
+// A refusal that names a file.
+// Kept: the number is what C gets.
+fn refused(number: u8, side: Side) -> CCompared
     ensures { result ≡ refused number side }
 {
-    let code = side_code(side);
     CCompared {
-        number,
-        side: code,
+        number: u32::from(number),
+        side: side_code(side),
         entries: 0,
     }
 }
 
-fn compared(answer: CompareAnswer) -> CCompared
-    ensures { result ≡ compared_as answer }
-{
-    match answer {
-        CompareAnswer::Listed(entries) => CCompared {
-            number: 0,
-            side: 0,
-            entries: entries as u64,
-        },
-        CompareAnswer::WrongMark(side) => refused(61, side),
-        CompareAnswer::WrongLength(side) => refused(62, side),
-        CompareAnswer::NoAssociation(side) => refused(63, side),
-        CompareAnswer::ShortBuffer => CCompared {
-            number: 71,
-            side: 0,
-            entries: 0,
-        },
-    }
-}
+impl From<Result<usize, CompareRefusal>> for CCompared {
+    ghost from_gives = { λ answer c. c ≡ compared_as answer };
 
-// Writes the fields in which two hand-over files differ to the start of the buffer: 0, 61 to 63, 71.
-// promise: exports.11
-pub fn compare(left: &[u8], right: &[u8], out: &mut [u8]) -> CCompared
-    ensures { (result ≡ compared_as (compare_of left.now right.now (length out.old)))
-        × (out.new ≡ out_of left.now right.now out.old) }
-{
-    let answer = handover_compare::compare(left, right, out);
-    compared(answer)
+    // promise: exports.11
+    fn from(answer: Result<usize, CompareRefusal>) -> CCompared {
+        match answer {
+            Ok(entries) => CCompared {
+                number: 0,
+                side: 0,
+                entries: entries as u64,
+            },
+            Err(refusal) => match refusal {
+                CompareRefusal::WrongMark(side)
+                | CompareRefusal::WrongLength(side)
+                | CompareRefusal::NoAssociation(side) => refused(refusal.number(), side),
+                CompareRefusal::ShortBuffer => CCompared {
+                    number: u32::from(refusal.number()),
+                    side: 0,
+                    entries: 0,
+                },
+            },
+        }
+    }
 }

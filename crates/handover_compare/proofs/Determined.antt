@@ -2,15 +2,15 @@
 -- Assumes nothing.
 use mathlib.Core.Path.{sym, ◌∙◌}
 use Rattle.words.specs.Determined.{Determined, DeterminedLent}
-use Rattle.handover_compare.proofs.CompareAnswer.number.Reads as number
+use Rattle.handover_compare.proofs.CompareRefusalRefusal.number.Reads as number
 use Rattle.handover_compare.proofs.compare.Reads as compare
 use Rattle.handover_compare.proofs.fields.fields.Reads as fields
 
 pub compare_determined : DeterminedLent compare.Post (λ κs e. e.1.1.0.now)
 compare_determined κs a y z e f p q = (p.0 ∙ sym q.0, p.1 ∙ sym q.1)
 
-pub number_determined : Determined number.Post
-number_determined κs a y z e f p q = p ∙ sym q
-
 pub fields_determined : Determined fields.Post
 fields_determined κs a y z e f p q = p ∙ sym q
+
+pub number_determined : Determined number.Post
+number_determined κs a y z e f p q = p ∙ sym q

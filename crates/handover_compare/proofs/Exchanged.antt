@@ -39,7 +39,8 @@ module _ (f g out : List ℕ) (left : load_number (load_of f).answer ≡ 0) (rig
       )
 
   pub files_short : length out < length (list_bytes entries) →
-      (compare_number (compare_of g f (length out)) ≡ 71) × (compare_number (compare_of f g (length out)) ≡ 71) × (out_of f g out ≡ out) × (out_of g f out ≡ out)
+      (compare_number (compare_of g f (length out)) ≡ 71) × (compare_number (compare_of f g (length out)) ≡ 71) × (out_of f g out ≡ out) ×
+      (out_of g f out ≡ out)
   files_short h =
       let p = compare_only f g out (short_buffer_lem left right h) in
       let q = compare_only g f out (short_buffer_lem right left (omega (arith, same_length))) in

@@ -20,12 +20,11 @@ use Rattle.cookiestash.specs.Stash.{put_of, wrap}
 use Rattle.cookiestash.specs.Queue.{Cookie}
 use Rattle.handover_groups.specs.Settings.{settings_of}
 use Rattle.handover_groups.specs.State.{polls_of}
-use Rattle.handover_file.specs.declared.LoadAnswer.TheVariants.{Loaded}
 use Rattle.handover_file.specs.declared.LoadOut.{LoadOut}
 use Rattle.handover_file.specs.Sections.{body_length}
 use Rattle.handover_file.specs.Cookies.{slot_for, empty_at, laid_in, held_in, stash_of}
 use Rattle.handover_file.specs.File.{record_in, settled_settings, settled_state, settled}
-use Rattle.handover_file.specs.Answers.{load_number, load_of}
+use Rattle.handover_file.specs.Answers.{told, load_number, load_of}
 use Rattle.handover_file.specs.Numbers.{LoadGiven, wrong_mark, wrong_length, left_over, no_association, association}
 use Rattle.handover_file.proofs.Numbers.{load_given}
 use Rattle.handover_file.proofs.Again.{loads, one_file}
@@ -83,6 +82,7 @@ empty_list f g y z a b =
 
 -- and two files with a capacity, of which neither answer says that the retired kind was there, are then byte for byte the same
 -- promise: no10.3 (two files with a capacity and nothing retired are then the same, byte for byte)
-pub same_file : (f g : List ℕ) → Bytes f → Bytes g → body_length f ≡ 27 → body_length g ≡ 27 → (load_of f).answer ≡ Loaded false → (load_of g).answer ≡ Loaded false
+pub same_file : (f g : List ℕ) → Bytes f → Bytes g → body_length f ≡ 27 → body_length g ≡ 27 →
+    (load_of f).answer ≡ told false → (load_of g).answer ≡ told false
     → list_of (load_of f).association (load_of g).association ≡ [] → f ≡ g
 same_file f g y z m n a b e = one_file f g y z m n a b ((empty_list f g y z (ap load_number a) (ap load_number b)).0 e)

@@ -1,7 +1,7 @@
 -- The groups that the code makes, one behind the other, are the fields of the two associations.
 -- Assumes nothing.
 use Prim.Native.Nat.{ℕ, ◌+◌}
-use mathlib.Core.Path.{◌≡◌, sym, ◌∙◌}
+use mathlib.Core.Path.{◌≡◌, refl, sym, ◌∙◌}
 use mathlib.Core.Bool.{true}
 use mathlib.Core.List.{List, ◌∷◌, ◌++◌, map}
 use lib.ListN.{get_or}
@@ -13,10 +13,19 @@ use Rattle.handover_file.specs.Cookies.{stash_fits, stash_known, stash_of}
 use Rattle.handover_compare.specs.declared.fields.Field.{Field}
 use Rattle.handover_compare.specs.Readings.{plain, settings_numbers, state_numbers, held_of, aged_of, ages}
 use Rattle.handover_compare.specs.Fields.{field_of, fields_of}
-use Rattle.handover_compare.specs.Steps.{eight_of, cookie_in, groups_in, all_of}
+use Rattle.handover_compare.specs.Steps.{number_of, eight_of, cookie_in, groups_in, all_of}
 use Rattle.handover_compare.proofs.Ages.{place_is, aged_is}
 
 -- ---- as the code makes them
+
+-- eight numbers, by their places
+pub from_1 : (x y : List ℕ) → map (number_of 1 x y) ages ≡ eight_of 1 x y
+unfolding eight_of
+from_1 x y = refl
+
+pub from_48 : (x y : List ℕ) → map (number_of 48 x y) ages ≡ eight_of 48 x y
+unfolding eight_of
+from_48 x y = refl
 
 module _ (l : Settings) (p : State) (left : List ℕ) (r : Settings) (q : State) (right : List ℕ) where
   pub grouped : {s c t : List Field} {f h : Field} {x y u v : List ℕ} {m n j k : ℕ} → x ≡ settings_numbers l → y ≡ settings_numbers r → s ≡ eight_of 1 x y

@@ -7,7 +7,6 @@ pub mod Exchanged
 pub mod Determined
 pub mod Places
 pub mod Ages
-pub mod FieldNumbers
 pub mod Grouped
 pub mod Listed
 pub mod Same

@@ -9,7 +9,7 @@ use native.Mathlib.Omega.{arith}
 use borrow.Author.Tests.{eq-eqb, eqb-true, eqb-false}
 use lib.Dec.{lit<, eqb}
 use lib.ListN.{length, length-append}
-use Rattle.words.proofs.Tests.{both}
+use Rattle.words.proofs.Tests.{both, eqb_sym}
 use Rattle.association.specs.declared.Association.{Association}
 use Rattle.handover_compare.specs.declared.fields.Field.{Field}
 use Rattle.handover_compare.specs.Readings.{Reading, settings_numbers, state_numbers, readings_of}
@@ -28,10 +28,7 @@ use Rattle.handover_compare.specs.Fields.{
   swapped,
 }
 use Rattle.handover_compare.specs.Shown.{Among, Past, Rising, outline, field_by, fields_by, outlines_of, places_of, list_by}
-use Rattle.handover_compare.proofs.Places.{eqb_sym, place_sym, same_sym, same_refl, same_eq, same_place}
-
-clash : {A : Type 0} → ◌≡◌ {A = Bool} true false → A
-clash e = let z : ◌≡◌ {A = ℕ} 1 0 = ap (λ (t : Bool). cond t 1 0) e in absurd (omega arith)
+use Rattle.handover_compare.proofs.Places.{place_sym, same_sym, same_refl, same_eq, same_place}
 
 -- ---- two readings agree exactly where they are equal
 

@@ -60,9 +60,6 @@ module _ (f : Field) where
     taken : differing (f ∷ []) ≡ f ∷ []
     taken = ap (λ (t : Bool). cond t [] (f ∷ [])) e
 
-    pub one_counted : 1 ≡ length (differing (f ∷ []))
-    one_counted = sym (ap length taken)
-
     pub one_bytes : list_bytes (differing (f ∷ [])) ≡ entry_bytes f
     one_bytes = ap list_bytes taken ∙ append-nil (entry_bytes f)
 
@@ -78,23 +75,6 @@ pub record Counting (fs : List Field) (n i : ℕ) : Type 0 where
   pub few : n ≤ i
   pub within : i ≤ 8
   pub sum : n + length (differing (drop i fs)) ≡ length (differing fs)
-
-pub count_begins : (fs : List Field) → Counting fs 0 0
-count_begins fs = record { few = omega arith; within = omega arith; sum = omega arith }
-
-module _ (fs : List Field) (n i : ℕ) (c : Counting fs n i) where
-  pub count_next : (d : Field) (k : ℕ) → length fs ≡ 8 → i < 8 → k ≡ length (differing (get_or fs i d ∷ [])) → k ≤ 1 → Counting fs (n + k) (i + 1)
-  count_next d k h l e m =
-      let one = get_or fs i d ∷ [] in
-      let s : length (differing (drop i fs)) ≡ length (differing one) + length (differing (drop (i + 1) fs))
-      = ap (λ (l : List Field). length (differing l)) (next_field fs i d (omega arith)) ∙ ap length (differing_append one (drop (i + 1) fs))
-      ∙ length-append (differing one) (differing (drop (i + 1) fs)) in
-      record { few = omega (arith, c.few); within = omega arith; sum = omega (arith, c.sum, s) }
-
-  pub counted : length fs ≡ 8 → 8 ≤ i → (n ≡ length (differing fs)) × (n ≤ 8)
-  counted h l =
-      let z : length (differing (drop i fs)) ≡ 0 = ap (λ (l : List Field). length (differing l)) (drop_of_length-le fs {i = i} (omega arith)) in
-      (omega (arith, c.sum, z), omega (arith, c.few, c.within))
 
 -- five groups are all fields
 pub sum_groups : (g : Groups) (s m r c t : ℕ) → s ≡ length (differing g.settings) → m ≡ length (differing (g.capacity ∷ [])) →
@@ -121,9 +101,6 @@ pub record Owed (out₀ : List ℕ) (at : ℕ) (w : List ℕ) (out : List ℕ) (
   pub long : length out ≡ length out₀
   pub ends : to + length v ≡ at + length w
   pub same : laid_at out to v ≡ laid_at out₀ at w
-
-pub owed_all : (out : List ℕ) (at : ℕ) (w : List ℕ) → Owed out at w out at w
-owed_all out at w = record { long = refl; ends = refl; same = refl }
 
 module _ (out₀ : List ℕ) (at : ℕ) (w : List ℕ) (room : at + length w ≤ length out₀) (out : List ℕ) (to : ℕ) (v : List ℕ) (o : Owed out₀ at w out to v) where
   module _ (x u : List ℕ) (e : v ≡ x ++ u) where

@@ -106,7 +106,8 @@ other_whole =
     record { settings = refl; stash = new_whole 7 (omega arith) (omega arith); counted = refl; versions = refl; request = none_valid; idle = of_zeros 32 }
 
 all_differ : length (list_of one other) ≡ 26
-unfolding list_of fields_of field_of same_reading settings_numbers state_numbers version_number aged_of held_of in_range cookies queue seen stored wrap one other
+unfolding list_of fields_of field_of same_reading settings_numbers state_numbers version_number aged_of held_of in_range cookies queue seen stored wrap
+    one other
     full_stash new_of empty_slot
 all_differ = refl
 

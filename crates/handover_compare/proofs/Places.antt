@@ -1,16 +1,15 @@
 -- The place where two rows of bytes first differ, and whether they do.
 -- Assumes nothing.
-use Prim.Native.Nat.{ℕ, suc, ◌+◌, ◌≤◌, ◌<◌}
+use Prim.Native.Nat.{ℕ, suc, ◌≤◌, ◌<◌}
 use mathlib.Core.Path.{◌≡◌, refl, sym, ◌∙◌}
 use mathlib.Core.Bool.{Bool, true, false, ◌&&◌, cond}
 use mathlib.Core.List.{List, [], ◌∷◌}
 use native.Mathlib.Omega.{arith}
-use native.Mathlib.Numerals.{add-one}
-use borrow.Author.Tests.{eqb-true, eq-eqb, ne_eqb, eqb-false}
+use borrow.Author.Tests.{eqb-true, eq-eqb, ne_eqb}
 use lib.Dec.{eqb, eqb-suc-suc, eqb-zero-suc}
 use lib.ListN.{length, get_or, drop, drop_of_length-le}
 use lib.Seq.{drop-cons}
-use Rattle.words.proofs.Tests.{both}
+use Rattle.words.proofs.Tests.{both, eqb_sym}
 use Rattle.handover_compare.specs.Fields.{place_of, same_bytes}
 
 -- ---- a byte further on
@@ -24,28 +23,13 @@ module _ (l r : List ℕ) (i : ℕ) where
     step : place_of (drop i l) (drop i r) ≡ cond (eqb (get_or l i 0) (get_or r i 0)) (suc (place_of (drop (suc i) l) (drop (suc i) r))) 0
     step = rw (drop-cons l i 0 h, drop-cons r i 0 k)
 
-    pub place_on : get_or l i 0 ≡ get_or r i 0 → i + place_of (drop i l) (drop i r) ≡ i + 1 + place_of (drop (i + 1) l) (drop (i + 1) r)
-    place_on e =
-        let on : place_of (drop i l) (drop i r) ≡ suc (place_of (drop (i + 1) l) (drop (i + 1) r)) = step ∙ rw (eq-eqb _ _ e, add-one) in
-        omega (arith, on)
-
     pub place_here : (get_or l i 0 ≡ get_or r i 0 → ⊥) → place_of (drop i l) (drop i r) ≡ 0
     place_here e = step ∙ rw (ne_eqb _ _ e)
-
-  pub left_ends : length l ≤ i → place_of (drop i l) (drop i r) ≡ 0
-  left_ends h = rw (drop_of_length-le l {i = i} h)
 
   pub right_ends : length r ≤ i → place_of (drop i l) (drop i r) ≡ 0
   right_ends h = rw (drop_of_length-le r {i = i} h) (place_none (drop i l))
 
 -- ---- exchanged
-
-pub eqb_sym : (m n : ℕ) → eqb m n ≡ eqb n m
-eqb_sym m n = go (eqb m n) refl
-  where
-    go : (t : Bool) → eqb m n ≡ t → t ≡ eqb n m
-    go true e = sym (eq-eqb n m (sym (eqb-true m n e)))
-    go false e = sym (ne_eqb n m (λ (p : n ≡ m). eqb-false m n e (sym p)))
 
 pub place_sym : (l r : List ℕ) → place_of l r ≡ place_of r l
 place_sym [] [] = refl

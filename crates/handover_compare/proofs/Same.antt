@@ -73,7 +73,8 @@ yes_same s t e = sym (yes_kept s).0 ∙ ap yes_of e ∙ (yes_kept t).0
 -- ---- cookies
 
 -- cookies that agree at every age are the same
-cookies_same : (n : ℕ) (cs ds : List Cookie) → length cs ≤ n → length ds ≤ n → AllKeep cs → AllKeep ds → ((k : ℕ) → k < n → aged_of cs k ≡ aged_of ds k) → cs ≡ ds
+cookies_same : (n : ℕ) (cs ds : List Cookie) → length cs ≤ n → length ds ≤ n → AllKeep cs → AllKeep ds
+    → ((k : ℕ) → k < n → aged_of cs k ≡ aged_of ds k) → cs ≡ ds
 unfolding aged_of
 cookies_same n [] [] l m f g e = refl
 cookies_same n [] (d ∷ ds) l m f g e = let z : 65536 ≡ d.len = ap (λ (r : Reading). r.number) (e 0 (omega arith)) in absurd (omega (arith, g.0.short))

@@ -5,18 +5,19 @@
 
 pub mod fields;
 
-ghost use Rattle.std.specs.Prelude.{◌≡◌, true, ◌+◌, ◌≤◌, length, ◌∷◌, []};
+ghost use Rattle.std.specs.Prelude.{◌≡◌, ◌+◌, ◌≤◌, length, ◌∷◌, [], Err};
 ghost use Rattle.handover_compare.specs.Fields.{differing, entry_bytes, list_bytes};
 ghost use Rattle.handover_compare.specs.Steps.{all_of};
 ghost use Rattle.words.specs.Put.{Put};
-ghost use Rattle.handover_file.specs.Cookies.{stash_fits, stash_known};
+ghost use Rattle.std.proofs.Common.{rules};
+ghost use Rattle.handover_load.specs.Reading.{contents_in, read_of};
 ghost use Rattle.handover_compare.specs.Answer.{compare_number};
-ghost use Rattle.handover_compare.specs.Made.{made_of};
-ghost use Rattle.handover_compare.specs.Answers.{told_in, written_in, right_of, right_out, compare_of, out_of};
+ghost use Rattle.handover_compare.specs.Answers.{refused_of, sided, compare_of, out_of};
 
-use crate::fields::{Field, Groups};
-use association::{Settings, State};
-use handover_file::LoadAnswer;
+use crate::fields::{Compared, Field, Groups};
+use answers::Refusal;
+use handover_file::LoadRefusal;
+use handover_load::FileRead;
 
 // How many bytes an entry has: the code, two readings, and the place.
 pub const ENTRY: usize = 19;
@@ -25,54 +26,69 @@ pub const ENTRY: usize = 19;
 pub const MAX_LIST: usize = 494;
 
 // Which of the two files.
-#[derive(Clone, Copy)]
+#[derive(Clone, Copy, PartialEq, Eq)]
 pub enum Side {
     Left,
     Right,
 }
 
-// What comparing answers: how many entries the list has; which file was rejected, and why; or that the buffer is shorter than the list.
-#[derive(Clone, Copy)]
-pub enum CompareAnswer {
-    Listed(usize),
+// Why nothing is listed: which file was rejected, and why; or that the buffer is shorter than the list.
+#[derive(Clone, Copy, PartialEq, Eq)]
+pub enum CompareRefusal {
     WrongMark(Side),
     WrongLength(Side),
     NoAssociation(Side),
     ShortBuffer,
 }
 
-impl CompareAnswer {
-    // The number of the answer, in RULES.
+impl Refusal for CompareRefusal {
+    ghost number_of = { λ refusal. compare_number (Err refusal) };
+
     // promise: no10.5
-    pub fn number(self) -> u8
-        ensures { result ≡ compare_number self }
-    {
+    fn number(self) -> u8 {
         match self {
-            CompareAnswer::Listed(_) => 0,
-            CompareAnswer::WrongMark(_) => 61,
-            CompareAnswer::WrongLength(_) => 62,
-            CompareAnswer::NoAssociation(_) => 63,
-            CompareAnswer::ShortBuffer => 71,
+            CompareRefusal::WrongMark(_) => 61,
+            CompareRefusal::WrongLength(_) => 62,
+            CompareRefusal::NoAssociation(_) => 63,
+            CompareRefusal::ShortBuffer => 71,
         }
     }
+
+    ghost never_zero = { Prim.search rules };
+}
+
+// The refusal of reading the file on this side.
+// Kept: no twin of `refused` of exports_values, which makes C's struct of a refusal that has its side.
+fn refused(side: Side, refusal: LoadRefusal) -> CompareRefusal
+    ensures { result ≡ refused_of side refusal }
+{
+    match refusal {
+        LoadRefusal::WrongMark => CompareRefusal::WrongMark(side),
+        LoadRefusal::WrongLength => CompareRefusal::WrongLength(side),
+        LoadRefusal::NoAssociation => CompareRefusal::NoAssociation(side),
+    }
+}
+
+fn read_side(file: &[u8], side: Side) -> Result<FileRead<'_>, CompareRefusal>
+    ensures { contents_in result ≡ sided side (read_of file.now) }
+{
+    handover_load::read::read(file).map_err(|refusal| refused(side, refusal))
 }
 
 // How many entries a field has: one if it differs, otherwise none.
 fn entries_of(f: Field) -> usize
     ensures { (result ≡ length (differing (f ∷ []))) × (result ≤ 1) }
 {
-    if f.same { 0 } else { 1 }
+    usize::from(!f.same)
 }
 
 // How many of eight fields differ.
 fn count(fields: [Field; 8]) -> usize
     ensures { (result ≡ length (differing fields)) × (result ≤ 8) }
 {
-    let mut n: usize = 0;
-    let mut i: usize = 0;
-    while i < 8 {
-        n = n + entries_of(fields[i]);
-        i = i + 1;
+    let mut n = 0;
+    for field in fields {
+        n += entries_of(field);
     }
     n
 }
@@ -81,28 +97,27 @@ fn count(fields: [Field; 8]) -> usize
 fn entries(g: Groups) -> usize
     ensures { (result ≡ length (differing (all_of g))) × (result ≤ 26) }
 {
-    let settings = g.settings;
-    let capacity = g.capacity;
-    let read = g.read;
-    let cookies = g.cookies;
-    let state = g.state;
-    count(settings) + entries_of(capacity) + entries_of(read) + count(cookies) + count(state)
+    count(g.settings)
+        + entries_of(g.capacity)
+        + entries_of(g.read)
+        + count(g.cookies)
+        + count(g.state)
 }
 
 // An entry: the code, both readings, and the place.
 fn entry(f: Field) -> [u8; 19]
     ensures { result ≡ entry_bytes f }
 {
-    let l = words::be64_bytes(f.left);
-    let r = words::be64_bytes(f.right);
-    let p = words::be16_bytes(f.place);
-    [
-        f.code, l[0], l[1], l[2], l[3], l[4], l[5], l[6], l[7], r[0], r[1], r[2], r[3], r[4], r[5],
-        r[6], r[7], p[0], p[1],
-    ]
+    let mut bytes = [0; 19];
+    bytes[0] = f.code;
+    bytes[1..9].copy_from_slice(&words::be64_bytes(f.left));
+    bytes[9..17].copy_from_slice(&words::be64_bytes(f.right));
+    bytes[17..19].copy_from_slice(&words::be16_bytes(f.place));
+    bytes
 }
 
 // Writes the entry of a field, if it differs.
+// Kept: a buffer and a place, which the contract names: `Put` says what every byte is, before the place and behind it.
 fn put_field(out: &mut [u8], at: usize, f: Field) -> usize
     requires { at + length (list_bytes (differing (f ∷ []))) ≤ length out.old }
     ensures { Put out.old at (list_bytes (differing (f ∷ []))) result out.new }
@@ -110,20 +125,18 @@ fn put_field(out: &mut [u8], at: usize, f: Field) -> usize
     if f.same {
         return at;
     }
-    let e = entry(f);
-    words::lay(out, at, &e)
+    words::lay(out, at, &entry(f))
 }
 
 // Writes the entries of eight fields.
+// Kept: a buffer and a place, which the contract names: `Put` says what every byte is, before the place and behind it.
 fn put_eight(out: &mut [u8], at: usize, fields: [Field; 8]) -> usize
     requires { at + length (list_bytes (differing fields)) ≤ length out.old }
     ensures { Put out.old at (list_bytes (differing fields)) result out.new }
 {
     let mut to = at;
-    let mut i: usize = 0;
-    while i < 8 {
-        to = put_field(out, to, fields[i]);
-        i = i + 1;
+    for field in fields {
+        to = put_field(out, to, field);
     }
     to
 }
@@ -133,86 +146,36 @@ fn put_list(out: &mut [u8], g: Groups) -> usize
     requires { length (list_bytes (differing (all_of g))) ≤ length out.old }
     ensures { Put out.old 0 (list_bytes (differing (all_of g))) result out.new }
 {
-    let settings = g.settings;
-    let capacity = g.capacity;
-    let read = g.read;
-    let cookies = g.cookies;
-    let state = g.state;
-    let to = put_eight(out, 0, settings);
-    let to = put_field(out, to, capacity);
-    let to = put_field(out, to, read);
-    let to = put_eight(out, to, cookies);
-    put_eight(out, to, state)
-}
-
-// Compares two associations, each as its settings, its state, and the body of its stash's record.
-fn compare_found(
-    l: Settings,
-    p: State,
-    left: &[u8],
-    r: Settings,
-    q: State,
-    right: &[u8],
-    out: &mut [u8],
-) -> CompareAnswer
-    requires { (stash_fits left.now ≡ true) × (stash_known l.capacity left.now ≡ true) × (stash_fits right.now ≡ true) ×
-        (stash_known r.capacity right.now ≡ true) }
-    ensures { (result ≡ told_in (made_of l p left.now) (made_of r q right.now) (length out.old))
-        × (out.new ≡ written_in (made_of l p left.now) (made_of r q right.now) out.old) }
-{
-    let g = crate::fields::fields(l, p, left, r, q, right);
-    let n = entries(g);
-    if out.len() < ENTRY * n {
-        return CompareAnswer::ShortBuffer;
-    }
-    put_list(out, g);
-    CompareAnswer::Listed(n)
-}
-
-// Compares an association with a file.
-fn compare_right(l: Settings, p: State, left: &[u8], right: &[u8], out: &mut [u8]) -> CompareAnswer
-    requires { (stash_fits left.now ≡ true) × (stash_known l.capacity left.now ≡ true) }
-    ensures { (result ≡ right_of (made_of l p left.now) right.now (length out.old))
-        × (out.new ≡ right_out (made_of l p left.now) right.now out.old) }
-{
-    let found = handover_load::read::read(right);
-    let answer = found.answer;
-    let r = found.settings;
-    let q = found.state;
-    let start = found.start;
-    let end = found.end;
-    match answer {
-        LoadAnswer::Loaded { retired: _ } => compare_found(
-            l,
-            p,
-            left,
-            r,
-            q,
-            &right[start..end],
-            out,
-        ),
-        LoadAnswer::WrongMark => CompareAnswer::WrongMark(Side::Right),
-        LoadAnswer::WrongLength => CompareAnswer::WrongLength(Side::Right),
-        LoadAnswer::NoAssociation => CompareAnswer::NoAssociation(Side::Right),
-    }
+    let to = put_eight(out, 0, g.settings);
+    let to = put_field(out, to, g.capacity);
+    let to = put_field(out, to, g.read);
+    let to = put_eight(out, to, g.cookies);
+    put_eight(out, to, g.state)
 }
 
 // Compares two files. The left one is read first.
 // promise: no10.1, no10.5
-pub fn compare(left: &[u8], right: &[u8], out: &mut [u8]) -> CompareAnswer
+pub fn compare(left: &[u8], right: &[u8], out: &mut [u8]) -> Result<usize, CompareRefusal>
     ensures { (result ≡ compare_of left.now right.now (length out.old)) ×
         (out.new ≡ out_of left.now right.now out.old) }
 {
-    let found = handover_load::read::read(left);
-    let answer = found.answer;
-    let l = found.settings;
-    let p = found.state;
-    let start = found.start;
-    let end = found.end;
-    match answer {
-        LoadAnswer::Loaded { retired: _ } => compare_right(l, p, &left[start..end], right, out),
-        LoadAnswer::WrongMark => CompareAnswer::WrongMark(Side::Left),
-        LoadAnswer::WrongLength => CompareAnswer::WrongLength(Side::Left),
-        LoadAnswer::NoAssociation => CompareAnswer::NoAssociation(Side::Left),
+    let l = read_side(left, Side::Left)?;
+    let r = read_side(right, Side::Right)?;
+    let a = Compared {
+        settings: l.settings,
+        state: l.state,
+        stash: l.stash,
+    };
+    let b = Compared {
+        settings: r.settings,
+        state: r.state,
+        stash: r.stash,
+    };
+    let g = fields::fields(a, b);
+    let n = entries(g);
+    if out.len() < ENTRY * n {
+        return Err(CompareRefusal::ShortBuffer);
     }
+    put_list(out, g);
+    Ok(n)
 }

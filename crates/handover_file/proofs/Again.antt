@@ -23,12 +23,11 @@ use Rattle.handover_groups.specs.Settings.{settings_of, settings_known}
 use Rattle.handover_groups.specs.State.{version_known}
 use Rattle.handover_groups.proofs.OfSettings.{settings_again, settings_old, known_old}
 use Rattle.handover_groups.proofs.OfState.{effort_again, version_again, polls_again, source_again}
-use Rattle.handover_file.specs.declared.LoadAnswer.TheVariants.{Loaded}
 use Rattle.handover_file.specs.declared.LoadOut.{LoadOut}
 use Rattle.handover_file.specs.Sections.{Shape, joined, Fitting, body_length}
 use Rattle.handover_file.specs.Cookies.{stash_fits, stash_known, stash_of}
 use Rattle.handover_file.specs.File.{shapes, parts_of, file_of, known, record_in, retired, settled_state, settled}
-use Rattle.handover_file.specs.Answers.{load_number, load_in, on_cut, load_of}
+use Rattle.handover_file.specs.Answers.{load_number, told, says_retired, load_in, on_cut, load_of}
 use Rattle.handover_file.specs.Numbers.{LoadGiven, wrong_mark, wrong_length, left_over, no_association, association}
 use Rattle.handover_file.proofs.Cookies.{read_laid, stash_again}
 use Rattle.handover_file.proofs.Settled.{settled_same, none_retired}
@@ -102,7 +101,7 @@ six (a ∷ (b ∷ (c ∷ (d ∷ (e ∷ (f ∷ (h ∷ bs))))))) g y k = absurd g.
 
 -- what is loaded from a file: the file is the record's own where it has the capacity and the answer says nothing of the retired kind
 pub record Loads (f : List ℕ) (o : LoadOut) : Type 0 where
-  pub file : body_length f ≡ 27 → o.answer ≡ Loaded false → file_of o.association ≡ f
+  pub file : body_length f ≡ 27 → o.answer ≡ told false → file_of o.association ≡ f
   pub whole : Whole o.association
   pub nothing : o.association.state.request ≡ no_pending false
 
@@ -115,8 +114,8 @@ settled_typed : (a : Association) → stash.Typed a.stash → stash.Typed (settl
 unfolding settled
 settled_typed a t = t
 
-unsaid : (b : Bool) → Loaded b ≡ Loaded false → b ≡ false
-unsaid b e = cc
+unsaid : (b : Bool) → told b ≡ told false → b ≡ false
+unsaid b e = ap says_retired e
 
 -- the length that stands first in a file is that of its settings
 first_long : (bs : List (List ℕ)) → Fitting shapes bs → body_length (joined shapes bs) ≡ length (get_or bs 0 [])
@@ -151,7 +150,8 @@ module _ (f : List ℕ) (y : Bytes f) where
 
 -- no two files with a capacity and nothing of the retired kind load as one record
 -- promise: no6.5, no12.6 (of all that is read and has the byte, with nothing retired: No. 14)
-pub one_file : (f g : List ℕ) → Bytes f → Bytes g → body_length f ≡ 27 → body_length g ≡ 27 → (load_of f).answer ≡ Loaded false → (load_of g).answer ≡ Loaded false →
+pub one_file : (f g : List ℕ) → Bytes f → Bytes g → body_length f ≡ 27 → body_length g ≡ 27 →
+    (load_of f).answer ≡ told false → (load_of g).answer ≡ told false →
     (load_of f).association ≡ (load_of g).association → f ≡ g
 one_file f g y z m n a b e = sym ((loads f y (ap load_number a)).file m a) ∙ ap file_of e ∙ (loads g z (ap load_number b)).file n b
 

@@ -1,7 +1,7 @@
--- The reader's step at an offset of the file, answer by answer: for the code that reads record by record.
+-- The reader's step at an offset of the file, answer by answer.
 -- Assumes nothing.
 use Prim.Native.Nat.{ℕ, ◌+◌, ◌-◌, ◌≤◌}
-use mathlib.Core.Path.{◌≡◌, refl, ap, subst, ◌∙◌}
+use mathlib.Core.Path.{◌≡◌, refl, ap, ◌∙◌}
 use mathlib.Core.Bool.{Bool, true, false, cond}
 use mathlib.Core.List.{List, ◌∷◌}
 use native.Mathlib.Omega.{arith}
@@ -9,11 +9,9 @@ use borrow.Author.Tests.{ltb-false}
 use lib.Dec.{ltb, eqb}
 use lib.ListN.{length, drop}
 use Rattle.words.specs.Bytes.{be, part}
-use Rattle.handover_file.specs.declared.cut.Place as P
-use Rattle.handover_file.specs.declared.cut.Place.TheVariants.{Body, Other, Short}
-use Rattle.handover_file.specs.Sections.{Shape, misplaced, missized, before, on_found, cut_as}
-use Rattle.handover_file.specs.Steps.{length_at, place_at, found_in}
-use Rattle.handover_file.proofs.Places.{found_at}
+use Rattle.handover_file.specs.Sections.{Shape, misplaced, missized, on_found, cut_as}
+use Rattle.handover_file.proofs.Places as P
+use Rattle.handover_file.proofs.Places.{Body, Other, Short, length_at, place_at, found_in, found_at}
 
 module _ (f : List ℕ) (at : ℕ) (h : at ≤ length f) (s : Shape) (ss : List Shape) where
   pub step : (p : P.Place) → place_at f at s.mark ≡ p → cut_as (s ∷ ss) (drop at f) ≡ on_found s.fits (λ (r : List ℕ). cut_as ss r) (found_in f p)
@@ -24,13 +22,6 @@ module _ (f : List ℕ) (at : ℕ) (h : at ≤ length f) (s : Shape) (ss : List 
 
   pub step_short : place_at f at s.mark ≡ Short → cut_as (s ∷ ss) (drop at f) ≡ missized
   step_short e = step Short e
-
-  module _ (start end : ℕ) (e : place_at f at s.mark ≡ Body start end) where
-    pub step_unfit : s.fits (part f start (end - start)) ≡ false → cut_as (s ∷ ss) (drop at f) ≡ missized
-    step_unfit u = step (Body start end) e ∙ ap (λ (t : Bool). cond t (before (part f start (end - start)) (cut_as ss (drop end f))) missized) u
-
-    pub step_body : s.fits (part f start (end - start)) ≡ true → cut_as (s ∷ ss) (drop at f) ≡ before (part f start (end - start)) (cut_as ss (drop end f))
-    step_body u = step (Body start end) e ∙ ap (λ (t : Bool). cond t (before (part f start (end - start)) (cut_as ss (drop end f))) missized) u
 
 -- what an answer says of its place
 module _ (f : List ℕ) (at m : ℕ) where
@@ -53,9 +44,3 @@ module _ (f : List ℕ) (at m : ℕ) where
       go false false true false true a b c = less
       go false false true false false a b c =
           good (omega (arith, ltb-false (length f) at a, ltb-false (length f - at) 4 b, ltb-false (length f - at - 4) (length_at f at) c))
-
-  pub body_within : (start end : ℕ) → place_at f at m ≡ Body start end → (start ≡ at + 4) × (start ≤ end) × (end ≤ length f)
-  body_within start end e = go start end (subst View e view)
-    where
-      go : (start end : ℕ) → View (Body start end) → (start ≡ at + 4) × (start ≤ end) × (end ≤ length f)
-      go _ _ (good h) = (refl, omega arith, h)

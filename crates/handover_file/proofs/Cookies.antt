@@ -10,9 +10,10 @@ use native.Mathlib.Omega.{arith}
 use borrow.Author.Tests.{le-ltb, lt-ltb, le-leb, lt-leb, eq-eqb, ne_eqb, leb-true, ltb-true, ltb-false, eqb-true}
 use lib.Dec.{ltb, leb, eqb, eqb-suc-zero}
 use lib.ListN.{length, get_or, drop, replicate, length-append, length-replicate, length-set, get_or-replicate}
-use lib.Seq.{take_at, drop_at, drop-drop, drop-cons, length-take-le, get_or-drop}
+use Rattle.std.proofs.lemmas.List.{nil_from_length}
+use lib.Seq.{take_at, drop_at, drop-drop, drop-cons, length-take-le}
 use Rattle.words.specs.Bytes.{be, part, to_be}
-use Rattle.words.proofs.Bytes.{Bytes, be_to_be, to_be_be, bytes_part, be_below, length_part, part_drop}
+use Rattle.words.proofs.Bytes.{Bytes, be_to_be, to_be_be, bytes_part, be_below, length_part, part_drop, bytes_drop}
 use Rattle.words.proofs.Tests.{passes, both}
 use Rattle.cookiestash.specs.declared.Slot.{Slot}
 use Rattle.cookiestash.specs.declared.CookieStash.{CookieStash}
@@ -295,13 +296,6 @@ pub stash_longest : (cap : ℕ) (s : CookieStash) → Whole cap s → s.held ≡
 unfolding stash_bytes
 stash_longest cap s w h f = omega (arith, bytes_filled (cookies cap s) (cookies_keep cap s w) f, length_cookies cap s)
 
-clash : {A : Type 0} → ◌≡◌ {A = Bool} false true → A
-clash e = let z : ◌≡◌ {A = ℕ} 0 1 = ap (λ (t : Bool). cond t 1 0) e in absurd (omega arith)
-
-length_zero : (l : List ℕ) → length l ≡ 0 → l ≡ []
-length_zero [] e = refl
-length_zero (x ∷ l) e = absurd (omega arith)
-
 -- ---- bytes read as cookies are those that the cookies are written in
 
 -- what stands first in bytes that are read as cookies
@@ -347,12 +341,9 @@ module _ (l : List ℕ) (y : Bytes l) (h : 2 + stored (len_of l) ≤ length l) w
       ∙ ap (λ (r : List ℕ). part l 0 2 ++ r) (part_drop l 2 (stored (be (part l 0 2))))
       ∙ part_drop l 0 2
 
-bytes_drop : (n : ℕ) (l : List ℕ) → Bytes l → Bytes (drop n l)
-bytes_drop n l y i = rw get_or-drop (y (n + i))
-
 again_one : (f : List ℕ → Run) (l : List ℕ) → Bytes l → (r : Run) → View f l r → AgainIf (drop (2 + stored (len_of l)) l) (f (drop (2 + stored (len_of l)) l)) →
     AgainIf l r
-again_one f l y _ (end e) a = record { keep = tt; same = sym (length_zero l e) }
+again_one f l y _ (end e) a = record { keep = tt; same = sym (nil_from_length l e) }
 again_one f l y _ (one (whole cs) h e) a =
     let b : Again (drop (2 + stored (len_of l)) l) cs = subst (AgainIf (drop (2 + stored (len_of l)) l)) e a in
     record { keep = (first_keeps l y h, b.keep); same = first_bytes l y h (cookies_bytes cs) b.same }
@@ -362,7 +353,8 @@ again_one f l y _ bad a = tt
 again_n : (n : ℕ) (l : List ℕ) → Bytes l → AgainIf l (run_n n l)
 again_n zero l y = again_one (λ r. broken) l y (run_n zero l) (view (λ r. broken) l) tt
 again_n (suc n) l y =
-    again_one (λ r. run_n n r) l y (run_n (suc n) l) (view (λ r. run_n n r) l) (again_n n (drop (2 + stored (len_of l)) l) (bytes_drop (2 + stored (len_of l)) l y))
+    again_one (λ r. run_n n r) l y (run_n (suc n) l) (view (λ r. run_n n r) l)
+    (again_n n (drop (2 + stored (len_of l)) l) (bytes_drop (2 + stored (len_of l)) l y))
 
 again_run : (l : List ℕ) → Bytes l → (r : Run) → run_of l ≡ r → is_run r ≡ true → Again l (cookies_of r)
 unfolding run_of
@@ -375,7 +367,7 @@ module _ (cap : ℕ) (b : List ℕ) (y : Bytes b) (f : stash_fits b ≡ true) (k
   place_first =
       elim (ℕ_discrete (length b) 0) [
         | yes e ↦ let z : ◌≡◌ {A = Bool} false true = sym (ap (λ (t : Bool). cond t false (is_run (run_of (drop 1 b)))) (eq-eqb (length b) 0 e)) ∙ f in
-            absurd (clash z)
+            absurd (cc)
         | no e ↦ (omega arith, sym (ap (λ (t : Bool). cond t false (is_run (run_of (drop 1 b)))) (ne_eqb (length b) 0 e)) ∙ f)
       ]
 

@@ -35,7 +35,6 @@ use Rattle.handover_groups.proofs.OfState.{
   source_known_lem,
   source_long,
 }
-use Rattle.handover_file.specs.declared.LoadAnswer.TheVariants.{Loaded}
 use Rattle.handover_file.specs.declared.LoadOut.{LoadOut}
 use Rattle.handover_file.specs.Sections.{Fitting}
 use Rattle.handover_file.specs.Cookies.{stash_bytes, stash_known, stash_of}
@@ -157,7 +156,7 @@ module _ (a : Association) (w : Whole a) (f : Fit a) where
       let st = ap (λ (c : ℕ). stash_known c body) capacity_back ∙ stash_known_lem a.settings.capacity a.stash w.stash f.eight in
       passes _ (settings_known_lem a.settings) ∙ passes _ st ∙ passes _ (version_known_lem a.state.version) ∙ source_known_lem a.state.source
 
-  loaded : answers.load_in (parts_of a) ≡ answers.loaded (Loaded false) (unsent a)
+  loaded : answers.load_in (parts_of a) ≡ answers.loaded (answers.told false) (unsent a)
   unfolding answers.load_in
   loaded =
       let u = unsent_whole a w in
@@ -173,7 +172,7 @@ module _ (a : Association) (w : Whole a) (f : Fit a) where
   -- reading a written file gives the record as it was, with nothing sent, and with nothing of the retired kind
   -- promise no12.6: The equality of No. 6 is over files with the byte of the capacity.
   -- promise: no6.3, no8.8
-  pub read_file : answers.load_of (file_of a) ≡ answers.loaded (Loaded false) (unsent a)
+  pub read_file : answers.load_of (file_of a) ≡ answers.loaded (answers.told false) (unsent a)
   unfolding answers.load_of file_of
   read_file = ap answers.on_cut (cut_joined shapes (parts_of a) fitting) ∙ loaded
 

@@ -8,9 +8,7 @@ use lib.ListN.{length}
 use mir.Val.{Val}
 use Rattle.cookiestash.specs.declared.CookieStash.{CookieStash}
 use Rattle.cookiestash.specs.contracts.CookieStash as CookieStash·
-use Rattle.cookiestash.specs.Whole.{Typed}
 use Rattle.cookiestash.proofs.Scan.{length_mapped}
-use Rattle.cookiestash.proofs.Typed.{typed}
 use Rattle.association.specs.declared.Association.{Association}
 use Rattle.association.specs.contracts.Association.{the_row}
 use Rattle.handover_groups.proofs.Fit.{settings_fit, polls_fit, source_fit}
@@ -28,7 +26,3 @@ types_fit a vs is =
       polls = polls_fit a.state.polls _ state.1.1.1.1.0;
       refid = source_fit a.state.source _ state.1.1.1.1.1.0;
     }
-
--- and its stash is one that the types allow
-pub types_typed : (a : Association) (vs : List Val) → Is the_row a vs → Typed a.stash
-types_typed a vs is = let s = is.1.1.1.0 in typed a.stash s.1.1.0.0 (stash_fit a.stash _ s) s.1.1.0.1.1

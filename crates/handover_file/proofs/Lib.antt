@@ -15,5 +15,6 @@ pub mod Determined
 pub mod Places
 pub mod At
 pub mod Turn
-pub mod Records
 pub mod Six
+pub mod Bodies
+pub mod Given

@@ -8,10 +8,10 @@ use native.Mathlib.Omega.{arith}
 use borrow.Author.Tests.{ltb-true, ltb-false, eqb-true, eqb-false}
 use lib.Dec.{ltb, eqb}
 use lib.ListN.{length, drop}
-use lib.Seq.{get_or-drop}
+use Rattle.std.proofs.lemmas.List.{nil_from_length}
 use Rattle.words.specs.Bytes.{be, part}
 use Rattle.words.specs.Put.{record_of}
-use Rattle.words.proofs.Bytes.{Bytes}
+use Rattle.words.proofs.Bytes.{Bytes, bytes_drop}
 use Rattle.words.proofs.Records.{body_short, write_back}
 use Rattle.handover_file.specs.Sections.{
   Shape,
@@ -63,9 +63,6 @@ module _ (s : Shape) (l : List ℕ) (y : Bytes l) (h : 4 ≤ length l) (m : be (
   unfolding body_length
   written = write_back l y 0 s.mark (body_length l) m refl (omega arith)
 
-bytes_drop : (n : ℕ) (l : List ℕ) → Bytes l → Bytes (drop n l)
-bytes_drop n l y i = rw get_or-drop (y (n + i))
-
 -- ---- all of them
 
 -- each mark is one of two bytes
@@ -98,10 +95,6 @@ module _ (s : Shape) (ss : List Shape) (m : s.mark < 65536) (b r f : List ℕ) (
 starts : (f : List ℕ) → Begins f [] [] f
 starts f = record { fitting = tt; file = refl }
 
-length_zero : (l : List ℕ) → length l ≡ 0 → l ≡ []
-length_zero [] e = refl
-length_zero (x ∷ l) e = absurd (omega arith)
-
 positive : (n : ℕ) → (n ≡ 0 → ⊥) → 0 < n
 positive n h = omega arith
 
@@ -109,7 +102,7 @@ pub outcome : (ss : List Shape) → Marked ss → (f : List ℕ) → Bytes f →
 outcome [] k f y = go (eqb (length f) 0) refl
   where
     go : (t : Bool) → eqb (length f) 0 ≡ t → Outcome [] f (cond t (bodies []) missized)
-    go true e = all [] tt (length_zero f (eqb-true (length f) 0 e))
+    go true e = all [] tt (nil_from_length f (eqb-true (length f) 0 e))
     go false e = over [] f (starts f) (positive (length f) (eqb-false (length f) 0 e))
 outcome (s ∷ ss) k f y = go (found s.mark f) (view s f) (outcome ss k.1 (drop (4 + body_length f) f) (bytes_drop (4 + body_length f) f y))
   where

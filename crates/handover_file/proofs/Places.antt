@@ -1,4 +1,4 @@
--- The step at an offset is the step on what is left of the file.
+-- A record at an offset of the file: what is found there is what is found in what is left of the file.
 -- Assumes nothing.
 use Prim.Native.Nat.{ℕ, ◌+◌, ◌-◌, ◌≤◌}
 use mathlib.Core.Path.{◌≡◌, refl, sym, ap, ◌∙◌}
@@ -11,9 +11,33 @@ use lib.Dec.{ltb, eqb}
 use lib.ListN.{length, drop, length-drop}
 use lib.Seq.{drop-drop}
 use Rattle.words.specs.Bytes.{be, part}
-use Rattle.handover_file.specs.declared.cut.Place.TheVariants.{Body, Other, Short}
 use Rattle.handover_file.specs.Sections.{Found, body, other, short, body_length, found}
-use Rattle.handover_file.specs.Steps.{length_at, place_at, found_in}
+
+-- ---- what is at an offset: a body, from start to before end; another mark; or too few bytes
+
+pub data Place : Type 0 where
+  Body : ℕ → ℕ → Place
+  Other : Place
+  Short : Place
+
+unfoldable pub length_at : List ℕ → ℕ → ℕ
+length_at f at = be (part f (at + 2) 2)
+
+unfoldable pub place_at : List ℕ → ℕ → ℕ → Place
+place_at f at m =
+    cond (ltb (length f) at) Short
+    (cond (ltb (length f - at) 2) Short
+    (cond (eqb (be (part f at 2)) m)
+    (cond (ltb (length f - at) 4) Short
+    (cond (ltb (length f - at - 4) (length_at f at)) Short
+    (Body (at + 4) (at + 4 + length_at f at))))
+    Other))
+
+-- what is found there
+abbrev pub found_in : List ℕ → Place → Found
+found_in f (Body start end) = body (part f start (end - start)) (drop end f)
+found_in f Other = other
+found_in f Short = short
 
 pub through : {A B : Type 0} (g : A → B) (t : Bool) (x y : A) → g (cond t x y) ≡ cond t (g x) (g y)
 through g true x y = refl

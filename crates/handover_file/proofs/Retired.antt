@@ -11,7 +11,7 @@ use Rattle.association.specs.declared.Association.{Association}
 use Rattle.association.specs.Record.{whole_of}
 use Rattle.handover_groups.specs.Settings.{settings_of, settings_known}
 use Rattle.handover_groups.specs.State.{version_of, version_known}
-use Rattle.handover_file.specs.declared.LoadAnswer.TheVariants.{NoAssociation}
+use Rattle.handover_file.specs.declared.LoadRefusal.TheVariants.{NoAssociation}
 use Rattle.handover_file.specs.declared.LoadOut.{LoadOut}
 use Rattle.handover_file.specs.Sections.{joined, Fitting}
 use Rattle.handover_file.specs.File.{shapes, known, record_in, settled_settings, settled_state, settled}

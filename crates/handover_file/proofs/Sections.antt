@@ -1,12 +1,12 @@
 -- A file is cut where it was joined: for any row of records, whatever their tests.
 -- Assumes nothing.
-use Prim.Native.Nat.{ℕ, ◌-◌, ◌≤◌, ◌<◌}
+use Prim.Native.Nat.{ℕ, ◌+◌, ◌-◌, ◌≤◌, ◌<◌}
 use mathlib.Core.Path.{◌≡◌, refl, sym, ap, ◌∙◌}
-use mathlib.Core.Bool.{Bool, false, cond}
+use mathlib.Core.Bool.{Bool, true, false, cond}
 use mathlib.Core.List.{List, [], ◌∷◌, ◌++◌, append_assoc, append-nil}
 use native.Mathlib.Omega.{arith}
 use borrow.Author.Tests.{lt-ltb, le-ltb, eq-eqb, ne_eqb}
-use lib.ListN.{length}
+use lib.ListN.{length, drop}
 use Rattle.words.specs.Bytes.{be, part}
 use Rattle.words.specs.Put.{record_of}
 use Rattle.words.proofs.Records.{ReadBack, read_back}
@@ -103,6 +103,12 @@ module _ (s : Shape) (ss : List Shape) (l : List ℕ) where
       pub cut_unfit : body_length l ≤ length l - 4 → s.fits (part l 4 (body_length l)) ≡ false → cut_as (s ∷ ss) l ≡ missized
       unfolding found
       cut_unfit k u =
+          rw (le-ltb (length l) 2 (omega arith), eq-eqb (be (part l 0 2)) s.mark e, le-ltb (length l) 4 h, le-ltb (length l - 4) (body_length l) k, u)
+
+      pub cut_there : body_length l ≤ length l - 4 → s.fits (part l 4 (body_length l)) ≡ true →
+          cut_as (s ∷ ss) l ≡ before (part l 4 (body_length l)) (cut_as ss (drop (4 + body_length l) l))
+      unfolding found
+      cut_there k u =
           rw (le-ltb (length l) 2 (omega arith), eq-eqb (be (part l 0 2)) s.mark e, le-ltb (length l) 4 h, le-ltb (length l - 4) (body_length l) k, u)
 
 -- bytes left over

@@ -13,11 +13,11 @@ use Rattle.association.specs.declared.Association.{Association}
 use Rattle.association.specs.Settings.{settings_valid}
 use Rattle.association.specs.Record.{blank_of, versions_valid, whole_seen, whole_of}
 use Rattle.association.specs.Whole.{Current}
-use Rattle.handover_file.specs.declared.LoadAnswer.TheVariants.{Loaded, NoAssociation}
+use Rattle.handover_file.specs.declared.LoadRefusal.TheVariants.{NoAssociation}
 use Rattle.handover_file.specs.declared.LoadOut.{LoadOut}
 use Rattle.handover_file.specs.Sections.{Cut, bodies, misplaced, missized, cut_as}
 use Rattle.handover_file.specs.File.{shapes, known, record_in, retired, settled_settings, settled_state, settled}
-use Rattle.handover_file.specs.Answers.{load_number, says_retired, loaded, refused, load_in, on_cut, load_of}
+use Rattle.handover_file.specs.Answers.{load_number, told, says_retired, loaded, refused, load_in, on_cut, load_of}
 use Rattle.handover_file.specs.Before.{whole_before, Before, before, before_in, before_on, before_of}
 
 -- the two tests as one
@@ -26,11 +26,11 @@ both_tests true w x y = refl
 both_tests false w x y = refl
 
 pub load_tests : (bs : List (List ℕ)) → let a = record_in bs in
-    load_in bs ≡ cond (known bs && whole_of (settled a)) (loaded (Loaded (retired a.settings a.state)) (settled a)) (refused NoAssociation)
+    load_in bs ≡ cond (known bs && whole_of (settled a)) (loaded (told (retired a.settings a.state)) (settled a)) (refused NoAssociation)
 unfolding load_in
 load_tests bs =
     let a = record_in bs in
-    both_tests (known bs) (whole_of (settled a)) (loaded (Loaded (retired a.settings a.state)) (settled a)) (refused NoAssociation)
+    both_tests (known bs) (whole_of (settled a)) (loaded (told (retired a.settings a.state)) (settled a)) (refused NoAssociation)
 
 -- ---- a record that has none of the retired kind
 
@@ -123,7 +123,7 @@ otherwise_in bs = by (known bs) (whole_of (settled (record_in bs))) (whole_befor
   where
     by : (k w v : Bool) → w ≡ v → let a = record_in bs in
         Otherwise (cond k (cond v (before 0 a) (before 63 blank_of)) (before 63 blank_of))
-        (cond k (cond w (loaded (Loaded (retired a.settings a.state)) (settled a)) (refused NoAssociation)) (refused NoAssociation))
+        (cond k (cond w (loaded (told (retired a.settings a.state)) (settled a)) (refused NoAssociation)) (refused NoAssociation))
     by true true true e = record { number = refl; association = refl; says = refl }
     by true false false e = record { number = refl; association = sym blank_same; says = sym blank_current }
     by true true false e = absurd (false≢true (sym e))

@@ -15,9 +15,8 @@ use Rattle.words.proofs.Bytes.{length_part}
 use Rattle.handover_file.specs.Sections.{Shape, body_length, Cut, bodies, misplaced, missized, before, cut_as}
 use Rattle.handover_file.specs.Cookies.{stash_fits}
 use Rattle.handover_file.specs.File.{sized, settings_fits, shapes}
-use Rattle.handover_file.specs.declared.cut.Place as P
-use Rattle.handover_file.specs.declared.cut.Stop.TheVariants.{Good}
-use Rattle.handover_file.specs.Steps.{place_at, length_at, stop_of}
+use Rattle.handover_file.proofs.Places as P
+use Rattle.handover_file.proofs.Places.{place_at, length_at}
 use Rattle.handover_file.proofs.At.{View, good, less, more, view, step_other, step_short, step}
 
 -- ---- cuts that are good
@@ -41,11 +40,6 @@ cond_good true b (bodies cs) bs e = (refl, refl, sym (ap list_of e))
 cond_good true b misplaced bs e = bad misplaced bs refl e
 cond_good true b missized bs e = bad missized bs refl e
 cond_good false b c bs e = bad missized bs refl e
-
-stop_good : (c : Cut) → stop_of c ≡ Good → c ≡ bodies (list_of c)
-stop_good (bodies bs) e = refl
-stop_good misplaced e = let o : ◌≡◌ {A = ℕ} 0 1 = cc in absurd (omega arith)
-stop_good missized e = let o : ◌≡◌ {A = ℕ} 0 1 = cc in absurd (omega arith)
 
 -- ---- the first of the records from an offset on
 
@@ -156,10 +150,9 @@ starts long k z₀ z₁ z₂ z₃ z₄ z₅ s₀ s₂ s₃ s₄ s₅ least most 
       sixth = omega arith;
     }
 
-pub six : (f : List ℕ) → stop_of (cut_as shapes f) ≡ Good → Six f
-six f g =
-    let bs = list_of (cut_as shapes f) in
-    let r₀ : First f 0 settled (stashed ∷ from₂) bs = first f 0 settled (stashed ∷ from₂) bs (omega arith) (stop_good (cut_as shapes f) g) in
+pub six : (f : List ℕ) (bs : List (List ℕ)) → cut_as shapes f ≡ bodies bs → Six f
+six f bs g =
+    let r₀ : First f 0 settled (stashed ∷ from₂) bs = first f 0 settled (stashed ∷ from₂) bs (omega arith) g in
     let a₁ = 0 + 4 + r₀.size in
     let r₁ : First f a₁ stashed from₂ r₀.others = first f a₁ stashed from₂ r₀.others r₀.inside r₀.next in
     let a₂ = a₁ + 4 + r₁.size in
@@ -187,7 +180,7 @@ six f g =
     let b₅ : part f (a₅ + 4) r₅.size ≡ part f (e + 22) 6 = part_same f p.sixth s₅ in
     record {
       long = p.most;
-      cuts = stop_good (cut_as shapes f) g ∙ ap bodies
+      cuts = g ∙ ap bodies
           (linked r₀.is b₀ (linked r₁.is b₁ (linked r₂.is b₂ (linked r₃.is b₃ (linked r₄.is b₄ (linked r₅.is b₅ l.0))))));
       stash = sym (ap stash_fits b₁) ∙ r₁.fits;
     }

@@ -6,7 +6,7 @@ use mathlib.Core.Bool.{Bool, true, false, cond}
 use mathlib.Core.List.{List, []}
 use native.Mathlib.Nat.{add-sub_cancel_left}
 use native.Mathlib.Omega.{arith}
-use borrow.Author.Tests.{le-ltb, ltb-false}
+use borrow.Author.Tests.{le-ltb, ltb-true, ltb-false, eq-eqb, ne_eqb, eqb-true, eqb-false}
 use lib.Dec.{ltb, eqb}
 use lib.ListN.{length, drop, length-drop}
 use lib.Seq.{drop-drop}
@@ -83,20 +83,23 @@ module _ (b : List ℕ) (at : ℕ) where
   -- what an entry says of its place
   data View : Held → Type 0 where
     one : at + 2 + stored (word_at b at) ≤ length b → View (One (word_at b at) (at + 2) (at + 2 + stored (word_at b at)))
-    end : View End
-    bad : View Broken
+    end : at ≡ length b → View End
+    bad : (at ≡ length b → ⊥) → View Broken
 
   view : View (held_at b at)
   unfolding held_at
-  view = go (ltb (length b) at) (eqb (length b - at) 0) (ltb (length b - at) 2) (ltb (length b - at - 2) (stored (word_at b at))) refl refl refl
+  view =
+      go (ltb (length b) at) (eqb (length b - at) 0) (ltb (length b - at) 2) (ltb (length b - at - 2) (stored (word_at b at)))
+      refl refl refl refl
     where
-      go : (s t u v : Bool) → ltb (length b) at ≡ s → ltb (length b - at) 2 ≡ u → ltb (length b - at - 2) (stored (word_at b at)) ≡ v
+      go : (s t u v : Bool) → ltb (length b) at ≡ s → eqb (length b - at) 0 ≡ t → ltb (length b - at) 2 ≡ u
+          → ltb (length b - at - 2) (stored (word_at b at)) ≡ v
           → View (cond s Broken (cond t End (cond u Broken (cond v Broken (One (word_at b at) (at + 2) (at + 2 + stored (word_at b at)))))))
-      go true t u v e f g = bad
-      go false true u v e f g = end
-      go false false true v e f g = bad
-      go false false false true e f g = bad
-      go false false false false e f g = one (omega
+      go true t u v e d f g = bad (λ x. let l = ltb-true (length b) at e in omega arith)
+      go false true u v e d f g = end (let l = ltb-false (length b) at e in let z = eqb-true (length b - at) 0 d in omega arith)
+      go false false true v e d f g = bad (λ x. eqb-false (length b - at) 0 d (omega arith))
+      go false false false true e d f g = bad (λ x. eqb-false (length b - at) 0 d (omega arith))
+      go false false false false e d f g = one (omega
           (arith, ltb-false (length b) at e, ltb-false (length b - at) 2 f, ltb-false (length b - at - 2) (stored (word_at b at)) g))
 
   pub one_within : (len start stop : ℕ) → held_at b at ≡ One len start stop → (at + 2 ≤ stop) × (start ≤ stop) × (stop - start ≡ stored len) × (stop ≤ length b)
@@ -115,8 +118,17 @@ module _ (b : List ℕ) (at : ℕ) (h : at ≤ length b) where
   pub fits_one : (len start stop : ℕ) → held_at b at ≡ One len start stop → is_run (run_of (drop at b)) ≡ is_run (run_of (drop stop b))
   fits_one len start stop e = ap is_run (run_at b at h ∙ ap (on_held b) e) ∙ run_ahead (cookie len (part b start (stop - start))) (run_of (drop stop b))
 
-  pub fits_end : held_at b at ≡ End → is_run (run_of (drop at b)) ≡ true
+  fits_end : held_at b at ≡ End → is_run (run_of (drop at b)) ≡ true
   fits_end e = ap is_run (run_at b at h ∙ ap (on_held b) e)
 
-  pub fits_broken : held_at b at ≡ Broken → is_run (run_of (drop at b)) ≡ false
+  fits_broken : held_at b at ≡ Broken → is_run (run_of (drop at b)) ≡ false
   fits_broken e = ap is_run (run_at b at h ∙ ap (on_held b) e)
+
+  -- where no cookie stands, they end with the bytes exactly at the end
+  pub fits_rest : ((len start stop : ℕ) → held_at b at ≡ One len start stop → ⊥) → is_run (run_of (drop at b)) ≡ eqb at (length b)
+  fits_rest n = go (held_at b at) refl (view b at)
+    where
+      go : (x : Held) → held_at b at ≡ x → View b at x → is_run (run_of (drop at b)) ≡ eqb at (length b)
+      go _ e (one w) = absurd (n _ _ _ e)
+      go _ e (end l) = fits_end e ∙ sym (eq-eqb at (length b) l)
+      go _ e (bad d) = fits_broken e ∙ sym (ne_eqb at (length b) d)

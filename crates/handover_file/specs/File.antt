@@ -7,7 +7,8 @@ use Rattle.association.specs.declared.State.{State}
 use Rattle.association.specs.declared.Association.{Association}
 use Rattle.association.specs.Record.{no_pending, with_stash}
 use Rattle.handover_groups.specs.Settings.{settings_bytes, settings_of, settings_known}
-use Rattle.handover_groups.specs.State.{effort_bytes, effort_of, version_bytes, version_of, version_known, polls_bytes, polls_of, source_bytes, source_of, source_known}
+use Rattle.handover_groups.specs.State.{effort_bytes, effort_of, version_bytes, version_of, version_known, polls_bytes, polls_of}
+use Rattle.handover_groups.specs.State.{source_bytes, source_of, source_known}
 use Rattle.handover_file.specs.Sections.{Shape, joined}
 use Rattle.handover_file.specs.Cookies.{stash_bytes, stash_fits, stash_known, stash_of, empty_at}
 
@@ -58,6 +59,7 @@ emptied a = with_stash a (empty_at a.stash.read)
 
 -- a loaded association has sent nothing yet
 -- promise no6.3: Reading a written file gives the record before writing, without the pending request and `answered` (No. 3).
+--     edit: handover_file/the_walk_begins_at_the_second_cookie, handover_file/a_stashed_cookie_is_passed_over
 unfoldable pub unsent : Association → Association
 unsent a =
     record {

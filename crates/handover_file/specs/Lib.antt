@@ -6,3 +6,4 @@ pub mod Answers
 pub mod Numbers
 pub mod Before
 pub mod Steps
+pub mod Given

@@ -1,25 +1,25 @@
 -- RULES, No. 6: when the writer and the reader of the hand-over file return each number, and with which answer and record.
 -- Assumes nothing.
-use Rattle.std.specs.Prelude.{◌≡◌, true, false, ◌&&◌, List, ◌∷◌, ◌++◌, ℕ, ◌-◌, ◌≤◌, ◌<◌, length}
+use Rattle.std.specs.Prelude.{◌≡◌, true, false, ◌&&◌, List, ◌∷◌, ◌++◌, ℕ, ◌-◌, ◌≤◌, ◌<◌, length, Ok, Err}
 use Rattle.words.specs.Bytes.{be, part}
 use Rattle.association.specs.declared.Association.{Association}
 use Rattle.association.specs.Record.{whole_of}
-use Rattle.handover_file.specs.declared.SaveAnswer.TheVariants.{Saved, NotWhole, ShortBuffer}
+use Rattle.handover_file.specs.declared.SaveRefusal.TheVariants.{NotWhole, ShortBuffer}
 use Rattle.handover_file.specs.declared.SaveOut.{SaveOut}
-use Rattle.handover_file.specs.declared.LoadAnswer.TheVariants.{Loaded, WrongMark, WrongLength, NoAssociation}
+use Rattle.handover_file.specs.declared.LoadRefusal.TheVariants.{WrongMark, WrongLength, NoAssociation}
 use Rattle.handover_file.specs.declared.LoadOut.{LoadOut}
 use Rattle.handover_file.specs.Sections.{Shape, joined, Fitting, body_length}
 use Rattle.handover_file.specs.File.{shapes, file_of, emptied, known, record_in, retired, settled}
-use Rattle.handover_file.specs.Answers.{saved, loaded, refused}
+use Rattle.handover_file.specs.Answers.{saved, told, loaded, refused}
 
 -- ---- writing
 
 module _ (a : Association) (room : ℕ) where
   -- promise: no6.6
   pub data SaveGiven : ℕ → SaveOut → Type 0 where
-    not_whole : whole_of a ≡ false → SaveGiven 32 (saved NotWhole a)
-    short_buffer_lem : whole_of a ≡ true → room < length (file_of a) → SaveGiven 60 (saved ShortBuffer a)
-    written : whole_of a ≡ true → length (file_of a) ≤ room → SaveGiven 0 (saved (Saved (length (file_of a))) (emptied a))
+    not_whole : whole_of a ≡ false → SaveGiven 32 (saved (Err NotWhole) a)
+    short_buffer_lem : whole_of a ≡ true → room < length (file_of a) → SaveGiven 60 (saved (Err ShortBuffer) a)
+    written : whole_of a ≡ true → length (file_of a) ≤ room → SaveGiven 0 (saved (Ok (length (file_of a))) (emptied a))
 
 -- ---- reading
 
@@ -50,4 +50,4 @@ module _ (f : List ℕ) where
         LoadGiven 63 (refused NoAssociation)
     -- V4 replaces the retired kind, and the answer says whether that was there (RULES, No. 14)
     association : (bs : List (List ℕ)) → Fitting shapes bs → f ≡ joined shapes bs → known bs && whole_of (settled (record_in bs)) ≡ true →
-        LoadGiven 0 (loaded (Loaded (retired (record_in bs).settings (record_in bs).state)) (settled (record_in bs)))
+        LoadGiven 0 (loaded (told (retired (record_in bs).settings (record_in bs).state)) (settled (record_in bs)))

@@ -62,7 +62,8 @@ on_found fits rest other = misplaced
 on_found fits rest short = missized
 
 -- promise no6.7: Reading a file answers the first of 61 and 62 in the file, then 63, with the blank record.
---     edit: handover_file/a_byte_left_over_is_accepted, handover_load/a_wrong_mark_is_answered_as_a_length
+--     edit: handover_file/a_byte_left_over_is_accepted, handover_file/a_wrong_mark_is_a_wrong_length, handover_file/two_marks_are_exchanged,
+--     handover_file/a_plain_file_is_said_to_be_retired, handover_load/a_wrong_mark_is_answered_as_a_length
 abbrev pub cut_as : List Shape → List ℕ → Cut
 cut_as [] l = cond (eqb (length l) 0) (bodies []) missized
 cut_as (s ∷ ss) l = on_found s.fits (λ r. cut_as ss r) (found s.mark l)

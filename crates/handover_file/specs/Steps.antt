@@ -1,49 +1,50 @@
--- The reader's steps at an offset of the file, as the code makes them (RULES, No. 6).
+-- The reader's steps, as the code makes them (RULES, No. 6): record by record, and in the stash's body at an offset.
 -- Assumes nothing.
-use Rattle.std.specs.Prelude.{ℕ, ◌+◌, ◌-◌, false, cond, List, [], ltb, eqb, length, get_or, drop}
+use Rattle.std.specs.Prelude.{ℕ, ◌+◌, ◌-◌, Bool, cond, List, [], ltb, eqb, length, drop, Result, Ok, Err}
 use Rattle.words.specs.Bytes.{be, part}
 use Rattle.cookiestash.specs.Stash.{stored}
 use Rattle.cookiestash.specs.Queue.{Cookie}
-use Rattle.handover_file.specs.Sections.{Shape, Found, body, other, short, Cut, bodies, misplaced, missized}
-use Rattle.handover_file.specs.Cookies.{Run, whole, broken, ahead, run_of}
-use Rattle.handover_file.specs.File.{shapes}
-use Rattle.handover_file.specs.declared.cut.Place.{Place}
-use Rattle.handover_file.specs.declared.cut.Place.TheVariants.{Body, Other, Short}
+use Rattle.handover_file.specs.Sections.{Shape, Cut, bodies, misplaced, missized}
+use Rattle.handover_file.specs.Cookies.{Run, whole, broken, ahead, run_of, stash_fits}
+use Rattle.handover_file.specs.File.{settings_fits}
+use Rattle.handover_file.specs.declared.cut.Section.{Section}
+use Rattle.handover_file.specs.declared.cut.Section.TheVariants.{Settings, Stash, Effort, Version, Polls, Source}
 use Rattle.handover_file.specs.declared.cut.Held.{Held}
 use Rattle.handover_file.specs.declared.cut.Held.TheVariants.{One, End, Broken}
-use Rattle.handover_file.specs.declared.cut.Stop.{Stop}
-use Rattle.handover_file.specs.declared.cut.Stop.TheVariants.{Good, Misplaced, Missized}
+use Rattle.handover_file.specs.declared.cut.Fault.{Fault}
+use Rattle.handover_file.specs.declared.cut.Fault.TheVariants.{Misplaced, Missized}
 
--- ---- a record at an offset
+-- ---- the six records
 
-unfoldable pub length_at : List ℕ → ℕ → ℕ
-length_at f at = be (part f (at + 2) 2)
+-- S E, S T, R E, V E, P O, S O
+abbrev pub mark_of : Section → ℕ
+mark_of Settings = 0x5345
+mark_of Stash = 0x5354
+mark_of Effort = 0x5245
+mark_of Version = 0x5645
+mark_of Polls = 0x504F
+mark_of Source = 0x534F
 
-unfoldable pub place_at : List ℕ → ℕ → ℕ → Place
-place_at f at m =
-    cond (ltb (length f) at) Short
-    (cond (ltb (length f - at) 2) Short
-    (cond (eqb (be (part f at 2)) m)
-    (cond (ltb (length f - at) 4) Short
-    (cond (ltb (length f - at - 4) (length_at f at)) Short
-    (Body (at + 4) (at + 4 + length_at f at))))
-    Other))
+abbrev pub fits_of : Section → List ℕ → Bool
+fits_of Settings b = settings_fits b
+fits_of Stash b = stash_fits b
+fits_of Effort b = eqb (length b) 2
+fits_of Version b = eqb (length b) 2
+fits_of Polls b = eqb (length b) 2
+fits_of Source b = eqb (length b) 6
 
--- what is found there
-abbrev pub found_in : List ℕ → Place → Found
-found_in f (Body start end) = body (part f start (end - start)) (drop end f)
-found_in f Other = other
-found_in f Short = short
-
--- the expected record, by its place in the order
-unfoldable pub shape_at : ℕ → Shape
-shape_at i = get_or shapes i (record { mark = 0; fits = λ b. false })
+abbrev pub shape_of : Section → Shape
+shape_of s = record { mark = mark_of s; fits = λ b. fits_of s b }
 
 -- how the reading of the records ended
-abbrev pub stop_of : Cut → Stop
-stop_of (bodies bs) = Good
-stop_of misplaced = Misplaced
-stop_of missized = Missized
+abbrev pub fault_of : Fault → Cut
+fault_of Misplaced = misplaced
+fault_of Missized = missized
+
+abbrev pub stop_of : Cut → Result (Unit {0}) Fault
+stop_of (bodies bs) = Ok tt
+stop_of misplaced = Err Misplaced
+stop_of missized = Err Missized
 
 -- ---- a cookie at an offset of the stash's body
 

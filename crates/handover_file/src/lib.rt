@@ -5,80 +5,95 @@
 
 pub mod cut;
 
-ghost use Rattle.std.specs.Prelude.{◌≡◌};
-ghost use Rattle.handover_file.specs.Answers.{save_number, load_number, says_retired};
+ghost use Rattle.std.specs.Prelude.{◌≡◌, Err};
+ghost use Rattle.std.proofs.Common.{rules};
+ghost use Rattle.handover_file.specs.Answers.{save_number, load_number, refusal_of, says_retired};
 
+use answers::Refusal;
 use association::Association;
+use cut::Fault;
 
-// What save answers: the length of the file that was written, or why nothing was written.
-#[derive(Clone, Copy)]
-pub enum SaveAnswer {
-    Saved(usize),
+// Why save wrote nothing.
+#[derive(Clone, Copy, PartialEq, Eq)]
+pub enum SaveRefusal {
     NotWhole,
     ShortBuffer,
 }
 
-impl SaveAnswer {
-    // The number of the answer, in RULES.
+impl Refusal for SaveRefusal {
+    ghost number_of = { λ refusal. save_number (Err refusal) };
+
     // promise: no6.6
-    pub fn number(self) -> u8
-        ensures { result ≡ save_number self }
-    {
+    fn number(self) -> u8 {
         match self {
-            SaveAnswer::Saved(_) => 0,
-            SaveAnswer::NotWhole => 32,
-            SaveAnswer::ShortBuffer => 60,
+            SaveRefusal::NotWhole => 32,
+            SaveRefusal::ShortBuffer => 60,
         }
     }
+
+    ghost never_zero = { Prim.search rules };
 }
 
-// What save returns: its answer, and the association, whose cookies now belong to the file.
+// What save returns: the length of the file that was written, or why none was; and the association, whose cookies now belong to the file.
 #[derive(Clone, Copy)]
 pub struct SaveOut {
-    pub answer: SaveAnswer,
+    pub answer: Result<usize, SaveRefusal>,
     pub association: Association,
 }
 
-// What load answers: the first wrong mark or wrong length in the file, and only then that its bytes are no association.
-#[derive(Clone, Copy)]
-pub enum LoadAnswer {
+// A file that was loaded.
+#[derive(Clone, Copy, PartialEq, Eq)]
+pub struct Loaded {
     // Whether a version of the file was of the retired kind, and was loaded as V4.
-    Loaded { retired: bool },
+    pub retired: bool,
+}
+
+// Why a file is rejected: the first wrong mark or wrong length in the file, and only then that its bytes are no association.
+#[derive(Clone, Copy, PartialEq, Eq)]
+pub enum LoadRefusal {
     WrongMark,
     WrongLength,
     NoAssociation,
 }
 
-impl LoadAnswer {
-    // Whether it says that a version of the file was of the retired kind.
-    // promise: no14.4
-    pub fn says_retired(self) -> bool
-        ensures { result ≡ says_retired self }
-    {
+impl Refusal for LoadRefusal {
+    ghost number_of = { λ refusal. load_number (Err refusal) };
+
+    // promise: no6.7, no14.4
+    fn number(self) -> u8 {
         match self {
-            LoadAnswer::Loaded { retired } => retired,
-            LoadAnswer::WrongMark => false,
-            LoadAnswer::WrongLength => false,
-            LoadAnswer::NoAssociation => false,
+            LoadRefusal::WrongMark => 61,
+            LoadRefusal::WrongLength => 62,
+            LoadRefusal::NoAssociation => 63,
         }
     }
 
-    // promise: no6.7, no14.4
-    pub fn number(self) -> u8
-        ensures { result ≡ load_number self }
-    {
-        match self {
-            LoadAnswer::Loaded { retired: _ } => 0,
-            LoadAnswer::WrongMark => 61,
-            LoadAnswer::WrongLength => 62,
-            LoadAnswer::NoAssociation => 63,
+    ghost never_zero = { Prim.search rules };
+}
+
+// A file that is not cut into its records is rejected for its first fault.
+impl From<Fault> for LoadRefusal {
+    ghost from_gives = { λ fault refusal. refusal ≡ refusal_of fault };
+
+    fn from(fault: Fault) -> LoadRefusal {
+        match fault {
+            Fault::Misplaced => LoadRefusal::WrongMark,
+            Fault::Missized => LoadRefusal::WrongLength,
         }
     }
+}
+
+// Whether an answer says that a version of the file was of the retired kind.
+// promise: no14.4
+pub fn says_retired(answer: Result<Loaded, LoadRefusal>) -> bool
+    ensures { result ≡ says_retired answer }
+{
+    matches!(answer, Ok(Loaded { retired: true }))
 }
 
 // What load returns: its answer, and the association, which is blank if the file was rejected.
 #[derive(Clone, Copy)]
 pub struct LoadOut {
-    pub answer: LoadAnswer,
+    pub answer: Result<Loaded, LoadRefusal>,
     pub association: Association,
 }

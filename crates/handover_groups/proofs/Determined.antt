@@ -2,6 +2,10 @@
 -- Assumes nothing.
 use mathlib.Core.Path.{◌∙◌, sym}
 use Rattle.words.specs.Determined.{Determined}
+use Rattle.handover_groups.proofs.kind_code.Reads as kind_code
+use Rattle.handover_groups.proofs.tries_code.Reads as tries_code
+use Rattle.handover_groups.proofs.kind_of.Reads as kind_of
+use Rattle.handover_groups.proofs.kind_known.Reads as kind_known
 use Rattle.handover_groups.proofs.settings_bytes.Reads as settings-bytes
 use Rattle.handover_groups.proofs.settings_of.Reads as settings-of
 use Rattle.handover_groups.proofs.settings_known.Reads as settings_known_lem
@@ -15,6 +19,18 @@ use Rattle.handover_groups.proofs.polls_of.Reads as polls-of
 use Rattle.handover_groups.proofs.source_bytes.Reads as source-bytes
 use Rattle.handover_groups.proofs.source_of.Reads as source_of
 use Rattle.handover_groups.proofs.source_known.Reads as source_known
+
+pub kind_code_determined : Determined kind_code.Post
+kind_code_determined κs a y z e f p q = p ∙ sym q
+
+pub tries_code_determined : Determined tries_code.Post
+tries_code_determined κs a y z e f p q = p ∙ sym q
+
+pub kind_of_determined : Determined kind_of.Post
+kind_of_determined κs a y z e f p q = p ∙ sym q
+
+pub kind_known_determined : Determined kind_known.Post
+kind_known_determined κs a y z e f p q = p ∙ sym q
 
 pub settings_bytes_determined : Determined settings-bytes.Post
 settings_bytes_determined κs a y z e f p q = p ∙ sym q

@@ -1,29 +1,21 @@
 -- Codes: what is written is read back, and is of a kind; a code of a kind is written as it was read.
 -- Assumes nothing.
-use Prim.Native.Nat.{ℕ, zero, suc, ◌+◌, ◌^◌, ◌<◌, ◌≤◌}
-use mathlib.Core.Path.{◌≡◌, refl, sym, ◌∙◌}
+use Prim.Native.Nat.{ℕ, zero, suc}
+use mathlib.Core.Path.{◌≡◌, refl, sym}
 use mathlib.Core.Bool.{Bool, true, false}
-use mathlib.Core.List.{List}
-use native.Mathlib.Nat.{mod-eq_of_lt}
 use native.Mathlib.Omega.{arith}
 use borrow.Author.Tests.{leb-true, eqb-true}
-use lib.ListN.{length}
-use Rattle.words.specs.Bytes.{be, part, to_be}
-use Rattle.words.proofs.Bytes.{Bytes, be_to_be, to_be_be, bytes_part, length_part}
+use mir.Val.{bool_byte}
 use Rattle.words.proofs.Tests.{both}
 use Rattle.version.specs.declared.ProtocolVersion.{ProtocolVersion}
 use Rattle.version.specs.declared.ProtocolVersion.TheVariants.{V4, Upgrading, Upgraded, V5}
 use Rattle.handover_groups.specs.Codes.{yes_code, yes_of, yes_known, kind_code, tries_code, kind_of, kind_known}
 
--- ---- numbers
-
-pub word : (n x : ℕ) → x < 256 ^ n → be (to_be n x) ≡ x
-word n x h = be_to_be n x ∙ mod-eq_of_lt h
-
-pub word_again : (b : List ℕ) (at n : ℕ) → Bytes b → at + n ≤ length b → to_be n (be (part b at n)) ≡ part b at n
-word_again b at n y h = to_be_be n (part b at n) (bytes_part b at n y) (length_part b at n h)
-
 -- ---- yes or no
+
+pub yes_byte : (b : Bool) → bool_byte b ≡ yes_code b
+yes_byte true = refl
+yes_byte false = refl
 
 pub yes_kept : (b : Bool) → (yes_of (yes_code b) ≡ b) × (yes_known (yes_code b) ≡ true)
 yes_kept true = (refl, refl)

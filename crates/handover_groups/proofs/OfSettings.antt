@@ -13,7 +13,7 @@ use mir.Syntax.{w8}
 use mir.Val.{SFits}
 use Rattle.words.specs.Bytes.{be, part}
 use Rattle.words.specs.Signed.{signed}
-use Rattle.words.proofs.Bytes.{Bytes, part_drop}
+use Rattle.words.proofs.Bytes.{Bytes, part_drop, word, word_again}
 use Rattle.words.proofs.Readings.{signed_unsigned, unsigned_signed}
 use Rattle.words.proofs.Tests.{both}
 use Rattle.association.specs.declared.Settings.{Settings}
@@ -22,7 +22,7 @@ use Rattle.time_types.specs.Poll.{interval}
 use Rattle.version.specs.Upgrade.{version}
 use Rattle.handover_groups.specs.Codes.{yes_of, kind_of}
 use Rattle.handover_groups.specs.Settings.{settings_bytes, settings_of, settings_known}
-use Rattle.handover_groups.proofs.OfCodes.{word, word_again, yes_kept, yes_again, kind_kept, kind_again}
+use Rattle.handover_groups.proofs.OfCodes.{yes_kept, yes_again, kind_kept, kind_again}
 
 -- what the types say of settings
 pub record SettingsFit (s : Settings) : Type 0 where

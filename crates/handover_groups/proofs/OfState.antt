@@ -10,7 +10,7 @@ use lib.Seq.{drop-cons}
 use mir.Syntax.{w8}
 use mir.Val.{SFits}
 use Rattle.words.specs.Bytes.{part}
-use Rattle.words.proofs.Bytes.{Bytes, part_drop}
+use Rattle.words.proofs.Bytes.{Bytes, part_drop, word, word_again}
 use Rattle.words.proofs.Readings.{signed_unsigned, unsigned_signed}
 use Rattle.reach.specs.Register.{unanswered_of}
 use Rattle.version.specs.declared.Version.{Version}
@@ -29,7 +29,7 @@ use Rattle.handover_groups.specs.State.{
   source_of,
   source_known,
 }
-use Rattle.handover_groups.proofs.OfCodes.{word, word_again, yes_kept, yes_again, kind_kept, kind_again}
+use Rattle.handover_groups.proofs.OfCodes.{yes_kept, yes_again, kind_kept, kind_again}
 
 -- a byte, and what follows it
 first : (b : List ℕ) (i : ℕ) → i < length b → get_or b i 0 ∷ drop (suc i) b ≡ drop i b

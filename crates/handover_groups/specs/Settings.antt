@@ -14,7 +14,9 @@ use Rattle.handover_groups.specs.Codes.{yes_code, yes_of, yes_known, kind_code, 
 -- min 1, max 1, startup 1, window 8, upgrade mark 8, start version 2 (kind, tries), nts 1, source identifier 4, capacity 1
 -- promise no6.1: A hand-over file has six records in one fixed order, each a mark, a length and a body. The stash's body has the reading place, then the
 --     cookies, oldest first.
---     edit: handover_groups/the_tries_byte_is_ignored, handover_groups/a_fifth_kind_is_known
+--     edit: handover_groups/the_tries_byte_is_ignored, handover_groups/a_fifth_kind_is_known, handover_save/the_reading_place_in_the_file_is_halved,
+--     handover_groups/upgraded_is_written_as_upgrading, handover_groups/the_tries_are_not_written, handover_groups/tries_beside_v4_are_known,
+--     handover_save/the_newest_cookie_is_not_written
 -- promise no12.5: The settings of the hand-over file have one byte more, and an old file reads as 8.
 unfoldable pub settings_bytes : Settings → List ℕ
 settings_bytes s =

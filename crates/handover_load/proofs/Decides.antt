@@ -6,7 +6,7 @@ use mathlib.Core.Bool.{Bool, true, false, ◌&&◌}
 use mathlib.Core.List.{List, [], ◌∷◌}
 use lib.ListN.{length, get_or}
 use Rattle.words.proofs.Bytes.{Bytes}
-use Rattle.words.proofs.Tests.{both, passes, fails}
+use Rattle.words.proofs.Tests.{both, fails}
 use Rattle.cookiestash.specs.Queue.{cookies, queue}
 use Rattle.cookiestash.specs.Stash.{range_of}
 use Rattle.cookiestash.specs.Whole.{seen_of}
@@ -21,7 +21,7 @@ use Rattle.handover_groups.specs.State.{version_known, source_known}
 use Rattle.handover_file.specs.Cookies.{stash_fits, stash_known, stash_of, held_in, empty_at}
 use Rattle.handover_file.specs.File.{state_in, known, record_in, retired, settled_settings, settled_state, settled}
 use Rattle.handover_file.proofs.Cookies.{read_laid}
-use Rattle.handover_load.specs.Reading.{counted_of, decided_of}
+use Rattle.handover_load.specs.Reading.{counted_of}
 
 -- of the stash that is read, the test of a whole record reads what was counted
 module _ (cap : ℕ) (b : List ℕ) (y : Bytes b) (f : stash_fits b ≡ true) (k : stash_known cap b ≡ true) where
@@ -42,40 +42,10 @@ module _ (cap : ℕ) (b : List ℕ) (y : Bytes b) (f : stash_fits b ≡ true) (k
 
 -- ---- the tests in their order
 
-pub ranges : (cap read held : ℕ) (st : List ℕ) (t : Bool) → read ≡ get_or st 0 0 → held ≡ length (held_in st) → t ≡ range_of cap read held → t ≡ stash_known cap st
+pub ranges : (cap read held : ℕ) (st : List ℕ) (t : Bool) → read ≡ get_or st 0 0 → held ≡ length (held_in st) → t ≡ range_of cap read held
+    → t ≡ stash_known cap st
 unfolding stash_known
 ranges cap read held st t e f g = g ∙ (λ i. range_of cap (e i) (f i))
-
-module _ (se st ve so : List ℕ) (s : Settings) (q : State) where
-  abbrev known_codes : Bool
-  known_codes = settings_known se && (stash_known s.capacity st && (version_known ve && source_known so))
-
-  abbrev whole_one : Bool
-  whole_one = whole_seen s (counted_of st) q
-
-  pub no_settings : settings_known se ≡ false → false ≡ (known_codes && whole_one)
-  no_settings a = sym (fails whole_one (fails (stash_known s.capacity st && (version_known ve && source_known so)) a))
-
-  module _ (a : settings_known se ≡ true) where
-    pub no_stash_lem : stash_known s.capacity st ≡ false → false ≡ (known_codes && whole_one)
-    no_stash_lem b = sym (fails whole_one (passes (stash_known s.capacity st && (version_known ve && source_known so)) a
-        ∙ fails (version_known ve && source_known so) b))
-
-    module _ (b : stash_known s.capacity st ≡ true) where
-      upto : known_codes ≡ (version_known ve && source_known so)
-      upto = passes (stash_known s.capacity st && (version_known ve && source_known so)) a ∙ passes (version_known ve && source_known so) b
-
-      pub no_version : version_known ve ≡ false → false ≡ (known_codes && whole_one)
-      no_version c = sym (fails whole_one (upto ∙ fails (source_known so) c))
-
-      module _ (c : version_known ve ≡ true) where
-        pub no_source : source_known so ≡ false → false ≡ (known_codes && whole_one)
-        no_source d = sym (fails whole_one (upto ∙ passes (source_known so) c ∙ d))
-
-        pub all_codes : source_known so ≡ true → (read held : ℕ) (t : Bool) → read ≡ get_or st 0 0 → held ≡ length (held_in st) →
-            t ≡ whole_seen s (record { whole = true; found = false; len = 0; gap = 0; read = read; held = held }) q → t ≡ (known_codes && whole_one)
-        all_codes d read held t e f g = g ∙ (λ i. whole_seen s (record { whole = true; found = false; len = 0; gap = 0; read = e i; held = f i }) q)
-            ∙ sym (passes whole_one (upto ∙ passes (source_known so) c ∙ d))
 
 -- ---- what they come to
 
@@ -103,16 +73,24 @@ module _ (se st re ve po so : List ℕ) (y : Bytes st) (f : stash_fits st ≡ tr
   unfolding settled_settings
   capacity_kept s = refl
 
-  pub decides : (given g : Settings) (read q : State) (t l : Bool) → given ≡ settings_of se → read ≡ state_in re ve po so → t ≡ retired given read →
-      g ≡ settled_settings given → q ≡ settled_state read →
-      l ≡ (codes g.capacity && whole_seen g (counted_of st) q) → record { loads = l; retired = t; settings = g; state = q } ≡ decided_of six
-  unfolding decided_of record_in settled
-  decides given g read q t l e₁ e₂ e₃ e₄ e₅ e₆ =
-      let p : g ≡ settled_settings (settings_of se) = e₄ ∙ ap settled_settings e₁ in
-      let r : q ≡ settled_state (state_in re ve po so) = e₅ ∙ ap settled_state e₂ in
-      let m : l ≡ (known six && whole_of (settled (record_in six)))
-      = e₆ ∙ (λ i. codes (p i).capacity && whole_seen (p i) (counted_of st) (r i))
-      ∙ ap (λ (n : ℕ). codes n && whole_seen (settled_settings (settings_of se)) (counted_of st) (settled_state (state_in re ve po so)))
-      (capacity_kept (settings_of se)) ∙ loads_is in
-      let u : t ≡ retired (settings_of se) (state_in re ve po so) = e₃ ∙ (λ i. retired (e₁ i) (e₂ i)) in
-      λ i. record { loads = m i; retired = u i; settings = p i; state = r i }
+  module _ (given g : Settings) (read q : State) (e₁ : given ≡ settings_of se) (e₂ : read ≡ state_in re ve po so) (e₄ : g ≡ settled_settings given)
+      (e₅ : q ≡ settled_state read) where
+    pub settings_is : g ≡ (settled (record_in six)).settings
+    unfolding settled record_in
+    settings_is = e₄ ∙ ap settled_settings e₁
+
+    pub state_is : q ≡ (settled (record_in six)).state
+    unfolding settled record_in
+    state_is = e₅ ∙ ap settled_state e₂
+
+    pub whole_is : (codes g.capacity && whole_seen g (counted_of st) q) ≡ (known six && whole_of (settled (record_in six)))
+    unfolding settled record_in
+    whole_is =
+        (λ i. codes (settings_is i).capacity && whole_seen (settings_is i) (counted_of st) (state_is i))
+        ∙ ap (λ (n : ℕ). codes n && whole_seen (settled_settings (settings_of se)) (counted_of st) (settled_state (state_in re ve po so)))
+        (capacity_kept (settings_of se))
+        ∙ loads_is
+
+    pub retired_is : {t : Bool} → t ≡ retired given read → t ≡ retired (record_in six).settings (record_in six).state
+    unfolding record_in
+    retired_is e₃ = e₃ ∙ (λ i. retired (e₁ i) (e₂ i))

@@ -1,7 +1,8 @@
 -- The contract of each public function determines its result: any two that it allows are equal.
 -- Assumes nothing.
 use mathlib.Core.Path.{◌∙◌, sym}
-use Rattle.words.specs.Determined.{Determined}
+use Rattle.words.specs.Determined.{Determined, DeterminedContents}
+use Rattle.handover_load.specs.Reading.{contents_in}
 use Rattle.handover_load.proofs.load.Reads as load
 use Rattle.handover_load.proofs.place_of.Reads as place_of
 use Rattle.handover_load.proofs.state_in.Reads as state-in
@@ -28,5 +29,6 @@ settled_settings_determined κs a y z e f p q = p ∙ sym q
 pub settled_state_determined : Determined settled-state.Post
 settled_state_determined κs a y z e f p q = p ∙ sym q
 
-pub read_determined : Determined read.Post
+-- what a file that is read is to its reader: its values, and the bytes of its stash's body
+pub read_determined : DeterminedContents read.Post (λ κs r. contents_in r)
 read_determined κs a y z e f p q = p ∙ sym q

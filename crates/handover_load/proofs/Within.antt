@@ -3,91 +3,141 @@
 use Prim.Native.Nat.{ℕ, ◌+◌, ◌-◌, ◌≤◌}
 use mathlib.Core.Path.{◌≡◌, refl, sym, ap, subst, ◌∙◌}
 use mathlib.Core.Bool.{Bool, true, false, cond, ◌&&◌}
-use mathlib.Core.List.{List}
+use mathlib.Core.List.{List, [], ◌∷◌}
 use native.Mathlib.Omega.{arith}
 use lib.ListN.{length}
+use Rattle.std.specs.Prelude.{Result, Ok, Err}
 use Rattle.words.specs.Bytes.{part}
+use Rattle.words.proofs.Bytes.{Bytes, bytes_part}
 use Rattle.words.proofs.Tests.{both, when, unless}
+use Rattle.association.specs.declared.Association.{Association}
+use Rattle.association.specs.declared.Settings.{Settings}
+use Rattle.association.specs.declared.State.{State}
 use Rattle.association.specs.Record.{whole_of}
 use Rattle.handover_groups.specs.Settings.{settings_of, settings_known}
 use Rattle.handover_groups.specs.State.{version_known, source_known}
-use Rattle.handover_file.specs.declared.LoadAnswer.TheVariants.{Loaded, WrongMark, WrongLength, NoAssociation}
+use Rattle.handover_file.specs.declared.Loaded.{Loaded}
+use Rattle.handover_file.specs.declared.LoadRefusal.{LoadRefusal}
+use Rattle.handover_file.specs.declared.LoadRefusal.TheVariants.{WrongMark, WrongLength, NoAssociation}
 use Rattle.handover_file.specs.declared.LoadOut.{LoadOut}
+use Rattle.handover_file.specs.declared.cut.Fault.{Fault}
+use Rattle.handover_file.specs.declared.cut.Fault.TheVariants.{Misplaced, Missized}
 use Rattle.handover_file.specs.Sections.{Cut, bodies, misplaced, missized, body_length, cut_as}
 use Rattle.handover_file.specs.Cookies.{stash_fits, stash_known, stash_of}
 use Rattle.handover_file.specs.File.{shapes, known, record_in, retired, settled_settings, settled}
-use Rattle.handover_file.specs.Answers.{loaded, refused, load_in, load_of}
+use Rattle.handover_file.specs.Answers.{refusal_of, told, loaded, refused, load_in, load_of}
 use Rattle.handover_file.specs.Answers as A
-use Rattle.handover_file.specs.declared.cut.Stop.TheVariants.{Misplaced, Missized}
-use Rattle.handover_file.specs.Steps.{stop_of}
+use Rattle.handover_file.specs.Steps.{fault_of}
 use Rattle.handover_file.proofs.Six.{parts_at, Six, six}
-use Rattle.handover_load.proofs.Decided.{loads, mark_by, length_by}
-use Rattle.handover_load.specs.declared.read.Decided.{Decided}
-use Rattle.handover_load.specs.declared.read.FileRead.{FileRead}
-use Rattle.handover_load.specs.Reading.{decided_of, refused_as, found_as, on_cut, read_of}
+use Rattle.handover_load.specs.Reading.{Contents, found_as, on_cut, read_of}
 
 -- ---- as the code reads it
 
-pub none_found : (d : Decided) (start end : ℕ) → d.loads ≡ false → refused_as NoAssociation ≡ found_as d start end
-unfolding found_as
-none_found d start end l = sym (unless _ _ l)
+second_body : Cut → List ℕ
+second_body (bodies (a ∷ (b ∷ bs))) = b
+second_body (bodies (a ∷ [])) = []
+second_body (bodies []) = []
+second_body misplaced = []
+second_body missized = []
 
-pub is_found : (d : Decided) (start end : ℕ) → d.loads ≡ true →
-    record { answer = Loaded d.retired; settings = d.settings; state = d.state; start = start; end = end } ≡ found_as d start end
-unfolding found_as
-is_found d start end l = sym (when _ _ l)
-
-pub reads_good : (f : List ℕ) → Six f → (k : ℕ) → k ≡ body_length f → (bs : List (List ℕ)) → bs ≡ parts_at f k (length f - 28) → (d : Decided) →
-    d ≡ decided_of bs → found_as d (8 + k) (length f - 28) ≡ read_of f
+pub reads_fault : (f : List ℕ) (x : Fault) → cut_as shapes f ≡ fault_of x → Err (refusal_of x) ≡ read_of f
 unfolding read_of
-reads_good f s k ek bs eb d ed =
-    (λ i. found_as ((ed ∙ ap decided_of (eb ∙ ap (λ (j : ℕ). parts_at f j (length f - 28)) ek)) i) (8 + ek i) (length f - 28)) ∙ sym (ap (on_cut f) s.cuts)
+reads_fault f Misplaced e = sym (ap (on_cut f) e)
+reads_fault f Missized e = sym (ap (on_cut f) e)
 
-pub reads_mark : (f : List ℕ) → stop_of (cut_as shapes f) ≡ Misplaced → refused_as WrongMark ≡ read_of f
-unfolding read_of
-reads_mark f e = sym (ap (on_cut f) (mark_by (cut_as shapes f) e))
+-- the stash's body stands behind the settings, and before the other records
+pub stash_part : (f se st : List ℕ) (bs : List (List ℕ)) → cut_as shapes f ≡ bodies (se ∷ (st ∷ bs)) →
+    st ≡ part f (8 + body_length f) (length f - 28 - (8 + body_length f))
+unfolding second_body
+stash_part f se st bs e = let s = six f (se ∷ (st ∷ bs)) e in ap second_body (sym e ∙ s.cuts)
 
-pub reads_length : (f : List ℕ) → stop_of (cut_as shapes f) ≡ Missized → refused_as WrongLength ≡ read_of f
-unfolding read_of
-reads_length f e = sym (ap (on_cut f) (length_by (cut_as shapes f) e))
+-- bytes in a file of bytes
+pub stash_bytes : (f se st : List ℕ) (bs : List (List ℕ)) → Bytes f → cut_as shapes f ≡ bodies (se ∷ (st ∷ bs)) → Bytes st
+stash_bytes f se st bs y e =
+    let k = 8 + body_length f in
+    subst Bytes (sym (stash_part f se st bs e)) (bytes_part f k (length f - 28 - k) y)
+
+module _ (f : List ℕ) (bs : List (List ℕ)) (e : cut_as shapes f ≡ bodies bs) where
+  pub reads_none : (known bs && whole_of (settled (record_in bs))) ≡ false → Err NoAssociation ≡ read_of f
+  unfolding read_of found_as
+  reads_none w = sym (ap (on_cut f) e ∙ unless _ _ w)
+
+  pub reads_some : {t : Bool} {g : Settings} {q : State} {st : List ℕ} → (known bs && whole_of (settled (record_in bs))) ≡ true →
+      t ≡ retired (record_in bs).settings (record_in bs).state → g ≡ (settled (record_in bs)).settings → q ≡ (settled (record_in bs)).state →
+      st ≡ part f (8 + body_length f) (length f - 28 - (8 + body_length f)) →
+      Ok (record { retired = t; settings = g; state = q; stash = st }) ≡ read_of f
+  unfolding read_of found_as
+  reads_some w t g q p =
+      (λ i. Ok (record { retired = t i; settings = g i; state = q i; stash = p i })) ∙ sym (ap (on_cut f) e ∙ when _ _ w)
 
 -- ---- the answer
 
-answer_in : (bs : List (List ℕ)) (start end : ℕ) → (found_as (decided_of bs) start end).answer ≡ (load_in bs).answer
-unfolding found_as decided_of refused_as load_in
-answer_in bs start end = go (known bs) (whole_of (settled (record_in bs)))
+-- what is told of a file that is read
+abbrev pub answer_of : Result Contents LoadRefusal → Result Loaded LoadRefusal
+answer_of (Ok r) = told r.retired
+answer_of (Err e) = Err e
+
+answer_in : (bs : List (List ℕ)) (f : List ℕ) (start end : ℕ) → answer_of (found_as bs f start end) ≡ (load_in bs).answer
+unfolding found_as load_in
+answer_in bs f start end = go (known bs) (whole_of (settled (record_in bs)))
   where
-    go : (k w : Bool) → (cond (k && w) (record {
-      answer = Loaded (retired (record_in bs).settings (record_in bs).state);
-      settings = (settled (record_in bs)).settings;
-      state = (settled
-          (record_in bs)).state;
-      start = start;
-      end = end;
-    }) (refused_as NoAssociation)).answer
-        ≡ (cond k (cond w (loaded (Loaded (retired (record_in bs).settings (record_in bs).state)) (settled (record_in bs))) (refused NoAssociation))
+    go : (k w : Bool) →
+        answer_of (cond (k && w) (Ok (record {
+          retired = retired (record_in bs).settings (record_in bs).state;
+          settings = (settled (record_in bs)).settings;
+          state = (settled (record_in bs)).state;
+          stash = part f start (end - start);
+        })) (Err NoAssociation))
+        ≡ (cond k (cond w (loaded (told (retired (record_in bs).settings (record_in bs).state)) (settled (record_in bs))) (refused NoAssociation))
         (refused NoAssociation)).answer
     go true true = refl
     go true false = refl
     go false w = refl
 
-answer_by_lem : (f : List ℕ) (c : Cut) → (on_cut f c).answer ≡ (A.on_cut c).answer
-unfolding refused_as
-answer_by_lem f (bodies bs) = answer_in bs (8 + body_length f) (length f - 28)
-answer_by_lem f misplaced = refl
-answer_by_lem f missized = refl
+answer_by : (f : List ℕ) (c : Cut) → answer_of (on_cut f c) ≡ (A.on_cut c).answer
+answer_by f (bodies bs) = answer_in bs f (8 + body_length f) (length f - 28)
+answer_by f misplaced = refl
+answer_by f missized = refl
+
+-- a rejected file leaves the blank record
+abbrev Blank : LoadOut → Type 0
+Blank o = (e : LoadRefusal) → o.answer ≡ Err e → o ≡ refused e
+
+same_refusal : (x e : LoadRefusal) → ◌≡◌ {A = Result Loaded LoadRefusal} (Err x) (Err e) → x ≡ e
+same_refusal x e p = cc
+
+blank_refused : (x : LoadRefusal) → Blank (refused x)
+blank_refused x e p = ap refused (same_refusal x e p)
+
+blank_loaded : (said : Bool) (a : Association) → Blank (loaded (told said) a)
+blank_loaded said a e p = let z : ◌≡◌ {A = ℕ} 0 1 = cc in absurd (omega arith)
+
+blank_in : (bs : List (List ℕ)) → Blank (load_in bs)
+unfolding load_in
+blank_in bs = go (known bs) (whole_of (settled (record_in bs)))
+  where
+    go : (k w : Bool) → Blank (cond k (cond w (loaded (told (retired (record_in bs).settings (record_in bs).state)) (settled (record_in bs)))
+        (refused NoAssociation)) (refused NoAssociation))
+    go true true = blank_loaded (retired (record_in bs).settings (record_in bs).state) (settled (record_in bs))
+    go true false = blank_refused NoAssociation
+    go false w = blank_refused NoAssociation
+
+blank_on : (c : Cut) → Blank (A.on_cut c)
+blank_on (bodies bs) = blank_in bs
+blank_on misplaced = blank_refused WrongMark
+blank_on missized = blank_refused WrongLength
 
 -- ---- what was found
 
-abbrev pub body_in : List ℕ → FileRead → List ℕ
-body_in f r = part f r.start (r.end - r.start)
-
-pub record Found (f : List ℕ) (r : FileRead) : Type 0 where
-  pub ordered : r.start ≤ r.end
-  pub inside : r.end ≤ length f
-  pub fits : stash_fits (body_in f r) ≡ true
-  pub known : stash_known r.settings.capacity (body_in f r) ≡ true
-  pub association : (load_of f).association ≡ record { settings = r.settings; stash = stash_of r.settings.capacity (body_in f r); state = r.state }
+-- the stash's body lies in the file, behind the settings and before the 28 bytes of the records after it
+pub record Found (f : List ℕ) (r : Contents) : Type 0 where
+  pub ordered : 8 + body_length f ≤ length f - 28
+  pub inside : length f - 28 ≤ length f
+  pub placed : r.stash ≡ part f (8 + body_length f) (length f - 28 - (8 + body_length f))
+  pub bytes : Bytes f → Bytes r.stash
+  pub fits : stash_fits r.stash ≡ true
+  pub known : stash_known r.settings.capacity r.stash ≡ true
+  pub association : (load_of f).association ≡ record { settings = r.settings; stash = stash_of r.settings.capacity r.stash; state = r.state }
 
 module _ (f : List ℕ) (s : Six f) where
   abbrev start : ℕ
@@ -108,14 +158,12 @@ module _ (f : List ℕ) (s : Six f) where
   abbrev codes : Bool
   codes = version_known (part f (end + 10) 2) && source_known (part f (end + 22) 6)
 
-  abbrev here : FileRead
+  abbrev here : Contents
   here = record {
-    answer = Loaded (retired (record_in parts).settings (record_in parts).state);
+    retired = retired (record_in parts).settings (record_in parts).state;
     settings = (settled (record_in parts)).settings;
-    state = (settled
-        (record_in parts)).state;
-    start = start;
-    end = end;
+    state = (settled (record_in parts)).state;
+    stash = stash;
   }
 
   module _ (l : (known parts && whole_of (settled (record_in parts))) ≡ true) where
@@ -127,46 +175,60 @@ module _ (f : List ℕ) (s : Six f) where
     unfolding settled record_in settled_settings
     made = refl
 
-    stash_known_lem : stash_known here.settings.capacity stash ≡ true
+    known_here : stash_known here.settings.capacity stash ≡ true
     unfolding known record_in settled settled_settings
-    stash_known_lem =
+    known_here =
         let p = (both (known parts) (whole_of (settled (record_in parts))) l).0 in
         (both (stash_known (settings_of settings).capacity stash) codes
         (both (settings_known settings) (stash_known (settings_of settings).capacity stash && codes) p).1).0
 
+    loads : (load_of f).association ≡ (load_in parts).association
+    unfolding load_of
+    loads = ap (λ (c : Cut). (A.on_cut c).association) s.cuts
+
     found_here : Found f here
     found_here =
         record {
-          ordered = omega (arith, s.long);
+          ordered = let long = s.long in omega arith;
           inside = omega arith;
+          placed = refl;
+          bytes = bytes_part f start (end - start);
           fits = s.stash;
-          known = stash_known_lem;
-          association = ap (λ (o : LoadOut). o.association) (loads f s (body_length f) refl) ∙ loads_as ∙ made;
+          known = known_here;
+          association = loads ∙ loads_as ∙ made;
         }
 
-  found_in_lem : (said t : Bool) → (decided_of parts).loads ≡ t → (found_as (decided_of parts) start end).answer ≡ Loaded said →
-      Found f (found_as (decided_of parts) start end)
-  unfolding found_as decided_of refused_as
-  found_in_lem said true l h = subst (Found f) (sym (when _ _ l)) (found_here l)
-  found_in_lem said false l h = let z : NoAssociation ≡ Loaded said = sym (ap (λ (x : FileRead). x.answer) (unless here (refused_as NoAssociation) l)) ∙ h in
-      let y : ◌≡◌ {A = ℕ} 0 1 = cc in absurd (omega arith)
+  same_read : (r q : Contents) → ◌≡◌ {A = Result Contents LoadRefusal} (Ok r) (Ok q) → r ≡ q
+  same_read r q p = cc
 
-found_by : (f : List ℕ) (said : Bool) (c : Cut) → cut_as shapes f ≡ c → (on_cut f c).answer ≡ Loaded said → Found f (on_cut f c)
-unfolding refused_as
-found_by f said (bodies bs) e h =
-    let s = six f (ap stop_of e) in
+  found_parts : (r : Contents) (t : Bool) → (known parts && whole_of (settled (record_in parts))) ≡ t → Ok r ≡ found_as parts f start end → Found f r
+  unfolding found_as
+  found_parts r true l h =
+      let p = h ∙ when _ _ l in
+      subst (Found f) (sym (same_read r here p)) (found_here l)
+  found_parts r false l h =
+      let p : ◌≡◌ {A = Result Contents LoadRefusal} (Ok r) (Err NoAssociation) = h ∙ unless _ _ l in
+      let z : ◌≡◌ {A = ℕ} 0 1 = cc in
+      absurd (omega arith)
+
+found_by : (f : List ℕ) (r : Contents) (c : Cut) → cut_as shapes f ≡ c → Ok r ≡ on_cut f c → Found f r
+found_by f r (bodies bs) e h =
+    let s = six f bs e in
     let q : bodies bs ≡ bodies (parts f s) = sym e ∙ s.cuts in
-    subst (λ (c : Cut). Found f (on_cut f c)) (sym q) (found_in_lem f s said (decided_of (parts f s)).loads refl (sym (ap (λ (c : Cut). (on_cut f c).answer) q) ∙ h))
-found_by f said misplaced e h = let z : ◌≡◌ {A = ℕ} 0 1 = cc in absurd (omega arith)
-found_by f said missized e h = let z : ◌≡◌ {A = ℕ} 0 1 = cc in absurd (omega arith)
+    found_parts f s r (known (parts f s) && whole_of (settled (record_in (parts f s)))) refl (h ∙ ap (on_cut f) q)
+found_by f r misplaced e h = let z : ◌≡◌ {A = ℕ} 0 1 = cc in absurd (omega arith)
+found_by f r missized e h = let z : ◌≡◌ {A = ℕ} 0 1 = cc in absurd (omega arith)
 
-module _ (f : List ℕ) (r : FileRead) (e : r ≡ read_of f) where
-  -- promise: no6.8
-  pub answer_is : r.answer ≡ (load_of f).answer
-  unfolding read_of load_of
-  answer_is = ap (λ (x : FileRead). x.answer) e ∙ answer_by_lem f (cut_as shapes f)
+-- promise: no6.8
+pub answer_is : (f : List ℕ) (r : Result Contents LoadRefusal) → r ≡ read_of f → answer_of r ≡ (load_of f).answer
+unfolding read_of load_of
+answer_is f r e = ap answer_of e ∙ answer_by f (cut_as shapes f)
 
-  -- promise: no6.8
-  pub found_is : (said : Bool) → r.answer ≡ Loaded said → Found f r
-  unfolding read_of
-  found_is said h = subst (Found f) (sym e) (found_by f said (cut_as shapes f) refl (sym (ap (λ (x : FileRead). x.answer) e) ∙ h))
+-- promise: no6.8
+pub found_is : (f : List ℕ) (r : Contents) → Ok r ≡ read_of f → Found f r
+unfolding read_of
+found_is f r h = found_by f r (cut_as shapes f) refl h
+
+pub refused_is : (f : List ℕ) (e : LoadRefusal) → Err e ≡ read_of f → load_of f ≡ refused e
+unfolding load_of
+refused_is f e h = blank_on (cut_as shapes f) e (sym (answer_is f (Err e) h))

@@ -1,3 +1,2 @@
 -- The definitions that the contracts of `handover_load` cite beside those of the file.
-pub mod Read
 pub mod Reading

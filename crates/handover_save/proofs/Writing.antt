@@ -6,7 +6,7 @@ use mathlib.Core.Bool.{false}
 use mathlib.Core.List.{List, [], ◌∷◌, ◌++◌, map}
 use native.Mathlib.Omega.{arith}
 use lib.Dec.{leb}
-use lib.ListN.{length, take, length-append}
+use lib.ListN.{length, take, length-append, get_or-eq_default}
 use lib.Seq.{length-take-le}
 use Rattle.words.specs.Bytes.{to_be}
 use Rattle.words.specs.Put.{laid_at, Put, laid, lay_of, record_of}
@@ -14,9 +14,9 @@ use Rattle.words.proofs.Put.{laid_none, laid_on, put_put, put_long, lays, lays_n
 use Rattle.cookiestash.specs.declared.Slot.{Slot}
 use Rattle.cookiestash.specs.declared.CookieStash.{CookieStash}
 use Rattle.cookiestash.specs.Stash.{stored, slot_at, wrap}
-use Rattle.cookiestash.specs.Queue.{walk, queue, seen, cookies}
+use Rattle.cookiestash.specs.Queue.{Cookie, walk, queue, seen, cookies}
 use Rattle.cookiestash.specs.Whole.{WholeSlot, Whole}
-use Rattle.cookiestash.proofs.Places.{next_lt}
+use Rattle.cookiestash.proofs.Places.{wrap_in, wrap_add, next_lt}
 use Rattle.cookiestash.proofs.Stored.{stored_bounds}
 use Rattle.association.specs.declared.Settings.{Settings}
 use Rattle.association.specs.declared.State.{State}
@@ -24,6 +24,7 @@ use Rattle.handover_groups.specs.Settings.{settings_bytes}
 use Rattle.handover_groups.specs.State.{effort_bytes, version_bytes, polls_bytes, source_bytes}
 use Rattle.handover_groups.proofs.OfSettings.{settings_long}
 use Rattle.handover_groups.proofs.OfState.{effort_long, version_long, polls_long, source_long}
+use Rattle.handover_file.specs.Steps.{cookie}
 use Rattle.handover_file.specs.Cookies.{cookie_bytes, cookies_bytes, stash_bytes}
 use Rattle.handover_save.specs.Groups.{state_records, groups_file}
 
@@ -33,14 +34,32 @@ pub cookie_long : (x : Slot) → WholeSlot x → length (cookie_bytes (seen x)) 
 unfolding cookie_bytes seen
 cookie_long x w = let e = length-take-le (stored x.len) x.bytes (omega (arith, w.sized, stored_bounds x.len)) in omega (arith, e)
 
--- its length and its stored bytes, one behind the other
-pub cookie_put : {out p q : List ℕ} {at r s n : ℕ} {h b : List ℕ} (x : Slot) → h ≡ to_be 2 x.len → b ≡ take n x.bytes → n ≡ stored x.len →
-    Put out at h r p → Put p r b s q → at + 2 ≤ length out → Put out at (cookie_bytes (seen x)) s q
-unfolding cookie_bytes seen
-cookie_put {out = out} {p = p} {q = q} {at = at} {r = r} {s = s} x eh eb en a b k =
-    let first : Put out at (to_be 2 x.len) r p = subst (λ (w : List ℕ). Put out at w r p) eh a in
-    let then : Put p r (take (stored x.len) x.bytes) s q = subst (λ (w : List ℕ). Put p r w s q) (eb ∙ ap (λ (j : ℕ). take j x.bytes) en) b in
-    put_put (to_be 2 x.len) (take (stored x.len) x.bytes) first then k
+-- what a slot holds, and what one that is not there does
+pub slot_seen : (xs : List Slot) (place : ℕ) (x : Slot) (n : ℕ) → x ≡ slot_at xs place → n ≡ stored x.len →
+    cookie x.len (take n x.bytes) ≡ seen (slot_at xs place)
+unfolding seen
+slot_seen xs place x n e k = ap (λ (j : ℕ). cookie x.len (take j x.bytes)) k ∙ ap seen e
+
+pub none_seen : (xs : List Slot) (place : ℕ) → length xs ≤ place → cookie 0 [] ≡ seen (slot_at xs place)
+unfolding seen stored
+none_seen xs place h = ap seen (sym (get_or-eq_default xs (record { bytes = []; len = 0 }) h))
+
+-- how many bytes are written of it
+pub seen_long : (x : Slot) (c : Cookie) → WholeSlot x → c ≡ seen x → length c.bytes ≡ stored x.len
+unfolding seen
+seen_long x c w e = ap (λ (k : Cookie). length k.bytes) e ∙ length-take-le (stored x.len) x.bytes (omega (arith, w.sized, stored_bounds x.len))
+
+-- its length and its bytes, one behind the other
+pub cookie_put : {out p q : List ℕ} {at r s : ℕ} {h : List ℕ} (c : Cookie) → h ≡ to_be 2 c.len → Put out at h r p → Put p r c.bytes s q →
+    at + 2 ≤ length out → Put out at (cookie_bytes c) s q
+unfolding cookie_bytes
+cookie_put {out = out} {p = p} {at = at} {r = r} c eh a b k =
+    let first : Put out at (to_be 2 c.len) r p = subst (λ (w : List ℕ). Put out at w r p) eh a in
+    put_put (to_be 2 c.len) c.bytes first b k
+
+pub cookie_size : (c : Cookie) → length (cookie_bytes c) ≡ 2 + length c.bytes
+unfolding cookie_bytes
+cookie_size c = omega arith
 
 -- ---- the cookies that are still to come
 
@@ -82,6 +101,19 @@ begins cap out at s v =
           (ahead_all cap s);
     }
 
+-- the place of an age
+place_first : (cap read : ℕ) → read < cap → read ≡ wrap cap (read + 0)
+place_first cap read h = let e : read ≡ read + 0 = omega arith in e ∙ sym (wrap_in cap (read + 0) (omega arith))
+
+pub place_next : (cap read held age : ℕ) → read < cap → held ≤ cap → age < held → wrap cap (wrap cap (read + age) + 1) ≡ wrap cap (read + (age + 1))
+place_next cap read held age h k l = wrap_add cap read age 1 h (omega arith)
+
+pub begins_at : (cap : ℕ) (out : List ℕ) (at : ℕ) (s : CookieStash) → Whole cap s → Writing cap out at s out at (wrap cap (s.read + 0)) (s.held - 0)
+begins_at cap out at s v =
+    let n : s.held ≡ s.held - 0 = omega arith in
+    subst (λ (k : ℕ). Writing cap out at s out at k (s.held - 0)) (place_first cap s.read v.reads)
+    (subst (λ (k : ℕ). Writing cap out at s out at s.read k) n (begins cap out at s v))
+
 module _ (cap : ℕ) (out₀ : List ℕ) (at : ℕ) (s : CookieStash) (room : at + length (cookies_bytes (cookies cap s)) ≤ length out₀) (out : List ℕ) (to place n : ℕ)
     (w : Writing cap out₀ at s out to place n) where
   module _ (h : 0 < n) where
@@ -113,6 +145,16 @@ module _ (cap : ℕ) (out₀ : List ℕ) (at : ℕ) (s : CookieStash) (room : at
   written z =
       let e = ahead_none cap s place n z in
       record { ends = omega (arith, w.ends, ap length e); leaves = sym (laid_none out to) ∙ sym (ap (laid_at out to) e) ∙ w.same }
+
+-- the same, by age
+module _ (cap : ℕ) (out₀ : List ℕ) (at : ℕ) (s : CookieStash) (v : Whole cap s) (room : at + length (cookies_bytes (cookies cap s)) ≤ length out₀)
+    (out : List ℕ) (to age : ℕ) (h : age < s.held) (w : Writing cap out₀ at s out to (wrap cap (s.read + age)) (s.held - age)) where
+  pub writes_age : (r : ℕ) (p : List ℕ) → Put out to (cookie_bytes (seen (slot_at s.slots (wrap cap (s.read + age))))) r p →
+      Writing cap out₀ at s p r (wrap cap (s.read + (age + 1))) (s.held - (age + 1))
+  writes_age r p a =
+      let n : s.held - age - 1 ≡ s.held - (age + 1) = omega arith in
+      subst (λ (k : ℕ). Writing cap out₀ at s p r (wrap cap (s.read + (age + 1))) k) n
+      (writes_next cap out₀ at s room out to _ _ w (omega arith) r _ p a (sym (place_next cap s.read s.held age v.reads v.counts h)))
 
 -- ---- the loop that adds up their lengths
 
@@ -158,8 +200,41 @@ module _ (cap : ℕ) (s : CookieStash) (v : Whole cap s) (sum place n : ℕ) (w 
       subst (λ (i : ℕ). Summing cap s (sum + 2 + i) j (n - 1)) (sym ek)
       (subst (λ (i : ℕ). Summing cap s (sum + 2 + stored (slot_at s.slots place).len) i (n - 1)) (sym ej) (sums h))
 
-  pub summed : n ≡ 0 → sum ≡ length (stash_bytes cap s)
-  summed z = omega (arith, w.total, ap length (ahead_none cap s place n z))
+-- the place of an age, computed from the settings and the reading place that were asked for
+pub place_is : {k place from read : ℕ} {t : Settings} (s : Settings) (age : ℕ) → place ≡ wrap k (from + age) → k ≡ t.capacity → t ≡ s → from ≡ read →
+    place ≡ wrap s.capacity (read + age)
+place_is s age p k t r = p ∙ (λ i. wrap ((k ∙ ap (λ (x : Settings). x.capacity) t) i) (r i + age))
+
+-- a record whose mark was asked for
+pub marked : (o : List ℕ) (at : ℕ) (b : List ℕ) {q : List ℕ} {r m k : ℕ} → m ≡ k → laid r q ≡ lay_of o at (record_of m b) →
+    laid r q ≡ lay_of o at (record_of k b)
+marked o at b e p = p ∙ ap (λ (m : ℕ). lay_of o at (record_of m b)) e
+
+-- the settings and the state that were asked for
+pub settings_laid : (o : List ℕ) (at : ℕ) {q : List ℕ} {r : ℕ} {t s : Settings} → t ≡ s → laid r q ≡ lay_of o at (record_of 0x5345 (settings_bytes t)) →
+    laid r q ≡ lay_of o at (record_of 0x5345 (settings_bytes s))
+settings_laid o at e p = p ∙ ap (λ (s : Settings). lay_of o at (record_of 0x5345 (settings_bytes s))) e
+
+pub state_laid : (o : List ℕ) (at : ℕ) {q : List ℕ} {r : ℕ} {t s : State} → t ≡ s → laid r q ≡ lay_of o at (state_records t) →
+    laid r q ≡ lay_of o at (state_records s)
+state_laid o at e p = p ∙ ap (λ (s : State). lay_of o at (state_records s)) e
+
+-- the same, by age
+pub sum_begins_at : (cap : ℕ) (s : CookieStash) → Whole cap s → Summing cap s 1 (wrap cap (s.read + 0)) (s.held - 0)
+sum_begins_at cap s v =
+    let n : s.held ≡ s.held - 0 = omega arith in
+    subst (λ (k : ℕ). Summing cap s 1 k (s.held - 0)) (place_first cap s.read v.reads)
+    (subst (λ (k : ℕ). Summing cap s 1 s.read k) n (sum_begins cap s v))
+
+pub sum_age : (cap : ℕ) (s : CookieStash) (v : Whole cap s) (sum age : ℕ) → age < s.held → Summing cap s sum (wrap cap (s.read + age)) (s.held - age) →
+    (k : ℕ) → k ≡ stored (slot_at s.slots (wrap cap (s.read + age))).len →
+    Summing cap s (sum + (2 + k)) (wrap cap (s.read + (age + 1))) (s.held - (age + 1))
+sum_age cap s v sum age h w k e =
+    let n : s.held - age - 1 ≡ s.held - (age + 1) = omega arith in
+    let a : sum + 2 + k ≡ sum + (2 + k) = omega arith in
+    subst (λ (j : ℕ). Summing cap s j (wrap cap (s.read + (age + 1))) (s.held - (age + 1))) a
+    (subst (λ (j : ℕ). Summing cap s (sum + 2 + k) (wrap cap (s.read + (age + 1))) j) n
+    (sum_next cap s v sum _ _ w (omega arith) k _ e (sym (place_next cap s.read s.held age v.reads v.counts h))))
 
 -- ---- the records, one behind the other
 
@@ -241,7 +316,8 @@ file_put settings s state {o = o} {o₁ = o₁} {o₂ = o₂} {r₁ = r₁} {r�
 -- ---- records laid where they fit
 
 module _ (out : List ℕ) (at : ℕ) where
-  pub state_lays : (s : State) {r : ℕ} {left : List ℕ} → at + 28 ≤ length out → Put out at (state_records s) r left → laid r left ≡ lay_of out at (state_records s)
+  pub state_lays : (s : State) {r : ℕ} {left : List ℕ} → at + 28 ≤ length out → Put out at (state_records s) r left →
+      laid r left ≡ lay_of out at (state_records s)
   state_lays s h p = lays out at (state_records s) (omega (arith, state_records_long s)) p
 
   pub state_lays_not : (s : State) → leb (at + 28) (length out) ≡ false → laid at out ≡ lay_of out at (state_records s)

@@ -1,27 +1,22 @@
 -- Induction over logs, of any machine: what each call keeps holds along any log. Refused calls are calls too.
 -- Assumes nothing.
 use mathlib.Core.Path.{◌≡◌, refl, sym, ap, ◌∙◌}
-use mathlib.Core.List.{List, [], ◌∷◌, ◌++◌}
+use mathlib.Core.List.{List, [], ◌∷◌, ◌++◌, append_assoc, append-nil}
 use Prim.Native.Nat.{ℕ}
 use native.Mathlib.Omega.{arith}
 use Rattle.laws_log.specs.Log.{Rule, Entry, timed, replied}
 use Rattle.laws_log.specs.Machine.{Machine, Call, timer, reply, Done, note, made, step, run, after, log_of}
 use Rattle.laws.specs.Along.{KeptWith, Kept, Orders, with_reply}
 
-one_by_one : {A : Type 0} (xs : List A) (y : A) (ys : List A) → (xs ++ y ∷ []) ++ ys ≡ xs ++ y ∷ ys
-one_by_one [] y ys = refl
-one_by_one (x ∷ xs) y ys = ap (λ (l : List _). x ∷ l) (one_by_one xs y ys)
-
-none_behind : {A : Type 0} (xs : List A) → xs ++ [] ≡ xs
-none_behind [] = refl
-none_behind (x ∷ xs) = ap (λ (l : List _). x ∷ l) (none_behind xs)
+pub no_cons : {A : Type 0} (x : A) (xs : List A) → [] ≡ x ∷ xs → ⊥
+no_cons x xs e = let z : ◌≡◌ {A = ℕ} 0 1 = cc in omega arith
 
 module _ {D : Rule} (M : Machine D) where
   -- a property of what was done, with its answers, and of the record
   module _ (P : List (Done M) → M.Record → Type 0) (kept : KeptWith M P) where
     onward : (done : List (Done M)) (a : M.Record) → P done a → (calls : List (Call D)) → P (done ++ run M a calls) (after M a calls)
-    onward done a p [] = rw (none_behind done) p
-    onward done a p (c ∷ cs) = rw (sym (one_by_one done (made M a c) (run M (step M a c) cs)))
+    onward done a p [] = rw (append-nil done) p
+    onward done a p (c ∷ cs) = rw (sym (append_assoc done (made M a c ∷ []) (run M (step M a c) cs)))
         (onward (done ++ made M a c ∷ []) (step M a c) (kept done a c p) cs)
 
     pub along_with : (a : M.Record) → P [] a → (calls : List (Call D)) → P (run M a calls) (after M a calls)
@@ -40,9 +35,6 @@ module _ {D : Rule} (M : Machine D) where
     pub start : M.Record
     pub calls : List (Call D)
     pub same : part ≡ log_of M start calls
-
-  no_cons : {A : Type 0} (x : A) (xs : List A) → [] ≡ x ∷ xs → ⊥
-  no_cons x xs e = let z : ◌≡◌ {A = ℕ} 0 1 = cc in omega arith
 
   log_behind : (a : M.Record) (calls : List (Call D)) (before rest : List (Entry D)) → log_of M a calls ≡ before ++ rest → Stretch rest
   log_behind a calls [] rest e = record { start = a; calls = calls; same = sym e }

@@ -1,8 +1,11 @@
 -- The bridge from the code to the machine: any run of the code's calls over a lent association, each of which keeps its contract, is the machine's run.
--- A contract is the one that the checker reads off the source of `timer::timer`, `reply::reply` and `reply::reply_decoded`.
+-- A contract is the one that the checker reads off the source of `timer::timer` and of `reply::reply`, the latter at any form of a reply.
 -- Assumes nothing.
 use mathlib.Core.Path.{◌≡◌, refl, ap, ◌∙◌}
 use mathlib.Core.List.{List, [], ◌∷◌}
+use mir.Syntax.{Dict}
+use denote.RattleType.{RattleType}
+use denote.Param.Laws.{Laws, IsCopy}
 use contract.Lifetimes.{Lfts}
 use denote.Triple.Clauses.{AtExit}
 use borrow.Fn.World.{ArgsD, ResD}
@@ -10,51 +13,41 @@ use Prim.Native.Nat.{ℕ}
 use Rattle.association.specs.declared.Settings.{Settings}
 use Rattle.association.specs.declared.Association.{Association}
 use Rattle.association.specs.New.{new_of}
-use Rattle.timer_rules.specs.Poll.{timer_input}
 use Rattle.timer.specs.Timer.{Timed}
 use Rattle.timer.specs.contracts.timer as T
 use Rattle.timer.proofs.Determined.{TimerPost}
+use Rattle.std.specs.declared.clone.Clone as clone
 use Rattle.reply_clauses.specs.After.{arrival}
-use Rattle.reply.specs.contracts.reply as R
-use Rattle.reply.specs.contracts.reply_decoded as D
-use Rattle.reply.proofs.Determined.{ReplyPost, ReplyDecodedPost}
+use Rattle.reply.specs.Reply.{replied_of}
+use Rattle.reply_rules.specs.declared.Form as form
+use Rattle.reply.proofs.reply.Reads as R
 use Rattle.laws_log.specs.Log.{Accepted}
 use Rattle.laws_log.specs.Machine.{Call, timer, reply, Done, of_timer, of_reply, logged, run, after, log_of}
 use Rattle.laws_log.specs.Demand.{Demand3}
 use Rattle.laws_log.specs.Why.{Why}
-use Rattle.laws.specs.Association.{TimerIn, ReplyIn, bytes, decoded, rule, machine}
+use Rattle.laws.specs.Association.{TimerIn, ReplyIn, arrival_of, read_as, rule, machine}
 use Rattle.laws.proofs.NewDemand.{association_demand3, association_why}
 
 -- the inputs of a call, as the log holds them
 abbrev timer_in : (κs : Lfts 2) → ArgsD T.signature κs → TimerIn
-timer_in κs x = record { poll = timer_input x.1.0 x.1.1.0 x.1.1.1.0 x.1.1.1.1.0; buffer = x.1.1.1.1.1.0.now }
-
-abbrev reply_in : (κs : Lfts 4) → ArgsD R.signature κs → ReplyIn
-reply_in κs x =
-    bytes x.1.0.now x.1.1.0 x.1.1.1.0.now
-    (arrival x.1.1.1.1.0.now x.1.1.1.1.1.0 x.1.1.1.1.1.1.0 x.1.1.1.1.1.1.1.0)
-
-abbrev decoded_in : (κs : Lfts 2) → ArgsD D.signature κs → ReplyIn
-decoded_in κs x =
-    decoded x.1.0
-    (arrival x.1.1.0.now x.1.1.1.0 x.1.1.1.1.0 x.1.1.1.1.1.0)
+timer_in κs x = record { poll = x.1.0; buffer = x.1.1.0.now }
 
 -- a run of calls: the record that is lent, the inputs, what was answered, and the record at the end; what a call leaves is what the next one is lent
-pub data Ran : Association → List (Call rule) → List (Done machine) → Association → Type 1 where
+pub data Ran : Association → List (Call rule) → List (Done machine) → Association → Type 2 where
   done : {a : Association} → Ran a [] [] a
   timed :
       {cs : List (Call rule)} {ds : List (Done machine)} {b : Association} (κs : Lfts 2) (x : ArgsD T.signature κs) (y : ResD T.signature κs)
       (e : AtExit T.ended κs) →
       TimerPost κs x y e → Ran e.0.now cs ds b →
-      Ran x.0.now (timer (timer_in κs x) ∷ cs) (of_timer (timer_in κs x) (y, e.1.1.1.1.1.0.now) ∷ ds) b
+      Ran x.0.now (timer (timer_in κs x) ∷ cs) (of_timer (timer_in κs x) (y, e.1.1.0.now) ∷ ds) b
+  -- of a form that says what the reply of the log says: its bytes, or its decoded value
   replied :
-      {cs : List (Call rule)} {ds : List (Done machine)} {b : Association} (κs : Lfts 4) (x : ArgsD R.signature κs) (y : ResD R.signature κs)
-      (e : AtExit R.ended κs) →
-      ReplyPost κs x y e → Ran e.0.now cs ds b → Ran x.0.now (reply (reply_in κs x) ∷ cs) (of_reply (reply_in κs x) y ∷ ds) b
-  replied-decoded :
-      {cs : List (Call rule)} {ds : List (Done machine)} {b : Association} (κs : Lfts 2) (x : ArgsD D.signature κs) (y : ResD D.signature κs)
-      (e : AtExit D.ended κs) →
-      ReplyDecodedPost κs x y e → Ran e.0.now cs ds b → Ran x.0.now (reply (decoded_in κs x) ∷ cs) (of_reply (decoded_in κs x) y ∷ ds) b
+      {cs : List (Call rule)} {ds : List (Done machine)} {b : Association} (F : RattleType) (laws : Laws F) (copy : IsCopy F) (reads : form.Ghosts F.Denot)
+      (by : Dict) (clones : clone.Ghosts F.Denot) (with : Dict) (κs : _) (x : _) (y : _) (e : _) →
+      R.Post F laws copy reads by clones with κs x y e →
+      (r : ReplyIn) → reads.read x.1.0 x.0.now.settings.nts x.0.now.state.request.uid ≡ read_as x.0.now.settings x.0.now.state.request r →
+      arrival x.1.1.0.now x.1.1.1.0.t1 x.1.1.1.0.t4 x.1.1.1.0.time ≡ arrival_of r →
+      Ran e.0.now cs ds b → Ran x.0.now (reply r ∷ cs) (of_reply r y ∷ ds) b
 
 -- one call more in front
 turn : {X : Type 0} (made : X → Done machine) {x x' : X} {a a' b : Association} (cs : List (Call rule)) {ds : List (Done machine)} →
@@ -66,8 +59,11 @@ pub ran_is_run : {a b : Association} {cs : List (Call rule)} {ds : List (Done ma
 ran_is_run done = (refl, refl)
 ran_is_run (timed {cs} κs x y e p rest) =
     turn (of_timer (timer_in κs x)) cs (ap (λ (z : Timed). (z.gives.answer, z.left)) p) (ap (λ (z : Timed). z.gives.association) p) (ran_is_run rest)
-ran_is_run (replied {cs} κs x y e p rest) = turn (of_reply (reply_in κs x)) cs p.0 p.1 (ran_is_run rest)
-ran_is_run (replied-decoded {cs} κs x y e p rest) = turn (of_reply (decoded_in κs x)) cs p.0 p.1 (ran_is_run rest)
+ran_is_run (replied {cs} F laws copy reads by clones with κs x y e p r says came rest) =
+    turn (of_reply r) cs
+    (p.0 ∙ (λ i. (replied_of x.0.now (says i) (came i)).replied))
+    (p.1 ∙ (λ i. (replied_of x.0.now (says i) (came i)).association))
+    (ran_is_run rest)
 
 -- demand 3 of the code: a run of its calls from what `new` made, with accepted timers and well-formed replies, is a run of which demand 3 holds
 -- promise: no3.6, demand.3 (of the code's calls)

@@ -2,7 +2,7 @@
 -- Assumes nothing.
 use mathlib.Core.Path.{◌≡◌, refl, sym, ap, subst, ◌∙◌}
 use mathlib.Core.Bool.{true}
-use mathlib.Core.List.{List, [], ◌∷◌, ◌++◌, append_assoc}
+use mathlib.Core.List.{List, [], ◌∷◌, ◌++◌, append_assoc, append-nil}
 use Prim.Native.Nat.{ℕ, ◌+◌, ◌≤◌}
 use native.Mathlib.Omega.{arith}
 use lib.IntN.{pos}
@@ -32,7 +32,7 @@ use Rattle.laws.specs.Association.{rule, machine}
 use Rattle.laws.proofs.Obeys.{laws}
 use Rattle.laws.specs.Along.{KeptWith}
 use Rattle.laws.specs.Rate.{remote_of}
-use Rattle.laws.proofs.Along.{along_with}
+use Rattle.laws.proofs.Along.{along_with, no_cons}
 use Rattle.laws.proofs.Rate.{never_falls}
 use Rattle.laws.specs.Nine.{timers_in, GaveUp}
 use Rattle.laws.proofs.Nine.{Unheard, turned, unmeasured, later, first, none_yet}
@@ -56,15 +56,11 @@ unsaved_more [] d = refl
 unsaved_more (x ∷ ds) d =
     ap (λ (l : List (M.Done machine)). unsaved_by x ++ l) (unsaved_more ds d) ∙ sym (append_assoc (unsaved_by x) (unsaved ds) (unsaved_by d ++ []))
 
-none_more : {A : Type 0} (xs : List A) → xs ++ [] ≡ xs
-none_more [] = refl
-none_more (x ∷ xs) = ap (λ (l : List _). x ∷ l) (none_more xs)
-
 module _ (P : List (M.Done machine) → Association → Type 0) (kept : KeptWith machine P)
     (idle : (done : List (M.Done machine)) (a : Association) (room : ℕ) → P done a → P done (save_of a room).association) where
   saving_kept : KeptWith saving_machine (λ done. P (unsaved done))
   saving_kept done a (M.timer (poll t)) p = rw (unsaved_more done (M.made saving_machine a (M.timer (poll t)))) (kept (unsaved done) a (M.timer t) p)
-  saving_kept done a (M.timer (save b)) p = rw (unsaved_more done (M.made saving_machine a (M.timer (save b))), none_more (unsaved done))
+  saving_kept done a (M.timer (save b)) p = rw (unsaved_more done (M.made saving_machine a (M.timer (save b))), append-nil (unsaved done))
       (idle (unsaved done) a (length b) p)
   saving_kept done a (M.reply r) p = rw (unsaved_more done (M.made saving_machine a (M.reply r))) (kept (unsaved done) a (M.reply r) p)
 
@@ -102,9 +98,6 @@ saving_never_below_8 s list e calls = (carried (Held (pos 8)) (held_kept (pos 8)
 
 abbrev log_from : Association → List (M.Call saving_rule) → List (log.Entry rule)
 log_from a calls = M.logged machine (unsaved (M.run saving_machine a calls))
-
-no_cons : {A : Type 0} (x : A) (xs : List A) → [] ≡ x ∷ xs → ⊥
-no_cons x xs e = let z : ◌≡◌ {A = ℕ} 0 1 = cc in omega arith
 
 -- from where a part of such a log starts
 record Onward (rest : List (log.Entry rule)) : Type 0 where

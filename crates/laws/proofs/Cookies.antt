@@ -76,6 +76,7 @@ module _ (f : List ℕ) (y : Bytes f) (e : load_number (load_of f).answer ≡ 0)
       SomeOf (handed_out done) (kept f ++ stored_in (box f).settings.nts done)
   loaded_cookie_order calls = handed_some calls (box f) (kept f) box_holds
 
+  -- promise: no14.9
   pub loaded_cookie_places : (calls : List (M.Call rule)) → let done = M.run machine (box f) calls in
       Placed [] (handed_out done) (kept f ++ stored_in (box f).settings.nts done)
   loaded_cookie_places calls = placed [] (loaded_cookie_order calls)

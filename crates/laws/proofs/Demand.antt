@@ -4,7 +4,7 @@
 use mathlib.Core.Path.{◌≡◌, refl, ap}
 use mathlib.Core.Bool.{false}
 use mathlib.Core.List.{List}
-use mathlib.Core.Option.{none}
+use Rattle.std.specs.Prelude.{None}
 use Prim.Native.Nat.{ℕ}
 use Rattle.words.proofs.Tests.{either}
 use Rattle.association.specs.declared.Association.{Association}
@@ -24,7 +24,7 @@ use Rattle.laws.proofs.Obeys.{laws}
 use Rattle.laws.proofs.Bridge.{Ran, ran_is_run}
 
 abbrev pub Nothing : LoadOut → Type 0
-Nothing o = (pending_in o.association.state.request ≡ none) × (o.association.state.request.answered ≡ false)
+Nothing o = (pending_in o.association.state.request ≡ None) × (o.association.state.request.answered ≡ false)
 
 cut_nothing : (c : Cut) → Nothing (on_cut c)
 unfolding load_in record_in settled settled_state blank_of no_pending

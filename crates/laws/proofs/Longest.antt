@@ -12,6 +12,7 @@ use borrow.Author.Count.{below_none, below_more}
 use borrow.Author.Tests.{le-leb, le-ltb, lt-leb}
 use lib.Dec.{leb}
 use lib.ListN.{length, replicate}
+use Rattle.std.specs.Prelude.{Ok}
 use Rattle.cookiestash.specs.declared.CookieStash.{CookieStash}
 use Rattle.cookiestash.specs.Stash.{get_of, gap_of}
 use Rattle.cookiestash.specs.Whole.{seen_of}
@@ -25,7 +26,7 @@ use Rattle.association.specs.declared.Association.{Association}
 use Rattle.timer_rules.specs.declared.TimerAnswer.TheVariants.{Sent}
 use Rattle.timer_rules.specs.declared.TimerInput.{TimerInput}
 use Rattle.timer_rules.specs.Poll.{tried_of, asked_of}
-use Rattle.timer_rules.specs.Decide.{asked_with}
+use Rattle.timer_rules.specs.Decide.{oldest_len, asked_with}
 use Rattle.timer.specs.declared.TimerOut.{TimerOut}
 use Rattle.timer.specs.Timer.{timer_of}
 use Rattle.timer.specs.Numbers.{Given, not_whole, short_buffer_lem, demobilize, reset, no_cookie_lem, too_large, sent, sent_nts}
@@ -33,7 +34,6 @@ use Rattle.timer.proofs.Numbers.{given}
 use Rattle.wire_request.specs.Extension.{field_length}
 use Rattle.wire_request.specs.Request.{is_v5, has_nts, ask_valid, packet_of}
 use Rattle.wire_request.specs.Answer.{request_of}
-use Rattle.wire_request.specs.declared.Requested.TheVariants.{Written}
 use Rattle.wire_request.proofs.Longest.{length_nts, at_most}
 
 -- ---- what a timer's 20 asks for
@@ -177,9 +177,9 @@ module _ (a : Association) (i : TimerInput) (room : ℕ) (kind : SendKind) (poll
       let k : kind_of (tried_of a.state).version.kind a.settings.nts ≡ kind = cc in
       never n (ap has_nts (sym k) ∙ rw t (plain_kind (tried_of a.state).version.kind))
   by_rule (sent_nts c p) e n =
-      let l : (get_of a.settings.capacity a.stash).slot.len ≡ len = cc in
+      let l : oldest_len (seen_of a.settings.capacity a.stash) ≡ len = cc in
       let q : asked_with (seen_of a.settings.capacity a.stash) ≡ count = cc in
-      rw (← l, ← q) (modest_asked cap (min (gap_of cap (get_of cap a.stash).stash) 8) (get_of cap a.stash).slot.len (omega arith)
+      rw (← l, ← q) (modest_asked cap (min (gap_of cap (get_of cap a.stash).stash) 8) (oldest_len (seen_of cap a.stash)) (omega arith)
       (omega (arith, gap_most cap (get_of cap a.stash).stash)) (λ z. omega (arith, p, z)))
 
   -- where the timer sends a request of these numbers
@@ -203,7 +203,7 @@ module _ (a : Association) (i : TimerInput) (room : ℕ) (kind : SendKind) (poll
     -- and a buffer of so many bytes is never too short for it: what the timer asks for, and is not V5, is written
     -- promise: no12.7
     pub capacity_written : is_v5 kind ≡ false → (buffer : ℕ) → longest_of a.settings.capacity ≤ buffer →
-        request_of kind poll i.id upgrademark i.uid cookie count buffer ≡ Written (length (packet_of kind poll i.id upgrademark i.uid cookie count))
+        request_of kind poll i.id upgrademark i.uid cookie count buffer ≡ Ok (length (packet_of kind poll i.id upgrademark i.uid cookie count))
     unfolding request_of
     capacity_written v buffer h = rw (
       v,
@@ -220,7 +220,7 @@ module _ (a : Association) (i : TimerInput) (room : ℕ) (kind : SendKind) (poll
 
     -- promise: no1.6 (with 852 bytes of buffer that is never rejected, V5 apart), no12.7
     pub timer_written : is_v5 kind ≡ false → (buffer : ℕ) → 852 ≤ buffer →
-        request_of kind poll i.id upgrademark i.uid cookie count buffer ≡ Written (length (packet_of kind poll i.id upgrademark i.uid cookie count))
+        request_of kind poll i.id upgrademark i.uid cookie count buffer ≡ Ok (length (packet_of kind poll i.id upgrademark i.uid cookie count))
     timer_written v buffer h = capacity_written v buffer (omega (arith, most_768 cap))
 
 -- each is reached: by this number of cookies of this length

@@ -3,7 +3,7 @@
 use mathlib.Core.Path.{◌≡◌, refl, ap}
 use mathlib.Core.Bool.{Bool, true, false, cond}
 use mathlib.Core.List.{List}
-use mathlib.Core.Option.{none}
+use Rattle.std.specs.Prelude.{None}
 use Prim.Native.Nat.{ℕ}
 use Rattle.cookiestash.specs.StoreList.{store_list_of}
 use Rattle.association.specs.declared.Settings.{Settings}
@@ -44,7 +44,7 @@ new_request s list = by (given s list)
     by (retired v b u) = blank_request
     by (made v b u) = made_request s list
 
-pub new_pends_nothing : (s : Settings) (list : List ℕ) → pending_in (new_of s list).association.state.request ≡ none
+pub new_pends_nothing : (s : Settings) (list : List ℕ) → pending_in (new_of s list).association.state.request ≡ None
 unfolding no_pending
 new_pends_nothing s list = ap pending_in (new_request s list)
 

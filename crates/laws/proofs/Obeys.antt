@@ -4,7 +4,7 @@
 use mathlib.Core.Path.{◌≡◌, refl, sym, ap, ◌∙◌}
 use mathlib.Core.Bool.{Bool, true, false, not, cond, false≢true}
 use mathlib.Core.List.{[]}
-use mathlib.Core.Option.{none, some}
+use Rattle.std.specs.Prelude.{Option, None, Some}
 use Prim.Native.Nat.{ℕ}
 use lib.Dec.{T, eqb}
 use lib.ListN.{length}
@@ -14,7 +14,6 @@ use Rattle.association.specs.declared.Pending.{Pending}
 use Rattle.association.specs.declared.Association.{Association}
 use Rattle.association.specs.Record.{no_pending}
 use Rattle.wire_incoming.specs.declared.Reply.{Reply}
-use Rattle.wire_incoming.specs.declared.ReplyRead.{ReplyRead}
 use Rattle.timer_rules.specs.Answer as timer
 use Rattle.timer_rules.specs.declared.TimerInput.{TimerInput}
 use Rattle.timer_rules.specs.Poll.{pending_of}
@@ -48,7 +47,7 @@ use Rattle.laws_log.specs.Log as log
 use Rattle.laws_log.specs.Machine as M
 use Rattle.laws.specs.Association.{ReplyIn, arrival_of, read_as, answers_as, rule, pending_in, timed, replied, machine}
 
-module _ {a : Association} {read : ReplyRead} {t : Arrival} where
+module _ {a : Association} {read : Option Reply} {t : Arrival} where
   -- a reply that matches answers what is pending, in time
   matches : {r : Reply} → N.Matching a read t r → (live a.state.request t.time ≡ true) × (answers_as a.settings a.state.request read ≡ true)
   matches m =
@@ -77,16 +76,16 @@ module _ {a : Association} {read : ReplyRead} {t : Arrival} where
   refused_by (measured s e) dead w = absurd (dead (matches s.unkissed.acknowledged.undenied.unlimited.matching))
 
 -- what a reply is read as, beside the record that it meets
-abbrev read_by : Association → ReplyIn → ReplyRead
+abbrev read_by : Association → ReplyIn → Option Reply
 read_by a r = read_as a.settings a.state.request r
 
 -- what is pending after a choice of requests
-pending_cond : (b : Bool) (q : Pending) → pending_in (cond b (no_pending true) q) ≡ cond b none (pending_in q)
+pending_cond : (b : Bool) (q : Pending) → pending_in (cond b (no_pending true) q) ≡ cond b None (pending_in q)
 unfolding no_pending
 pending_cond true q = refl
 pending_cond false q = refl
 
-pending_asked : (b : Bool) (q p : Pending) → p.present ≡ true → pending_in (cond b p q) ≡ cond b (some p) (pending_in q)
+pending_asked : (b : Bool) (q p : Pending) → p.present ≡ true → pending_in (cond b p q) ≡ cond b (Some p) (pending_in q)
 pending_asked true q p e = rw e
 pending_asked false q p e = refl
 
@@ -99,7 +98,7 @@ live_by : (a : Association) (r : ReplyIn) → log.live rule a.settings (pending_
     (live a.state.request (arrival_of r).time ≡ true) × (answers_as a.settings a.state.request (read_by a r) ≡ true) → ⊥
 live_by a r dead m =
     let p = both a.state.request.present _ m.0 in
-    let pending : pending_in a.state.request ≡ some a.state.request = rw p.0 in
+    let pending : pending_in a.state.request ≡ Some a.state.request = rw p.0 in
     false≢true (sym dead ∙ ap (λ q. log.live rule a.settings q r) pending ∙ passes _ p.1 ∙ m.1)
 
 settings_kept : (a : Association) (c : M.Call rule) → (M.step machine a c).settings ≡ a.settings
@@ -148,7 +147,7 @@ module _ (a : Association) (r : ReplyIn) where
   reason_is : reason ≡ reason_of a.state.request.present a.state.request.answered (unexpired a.state.request.deadline (arrival_of r).time)
   reason_is = by a.state.request.present a.state.request.answered
     where
-      by : (present answered : Bool) → log.reason rule (cond present (some a.state.request) none) answered r
+      by : (present answered : Bool) → log.reason rule (cond present (Some a.state.request) None) answered r
           ≡ reason_of present answered (unexpired a.state.request.deadline (arrival_of r).time)
       by true answered = refl
       by false true = refl

@@ -9,12 +9,13 @@ use mathlib.Core.Logic.{◌⊎◌, inl, inr}
 use Prim.Native.Nat.{ℕ, ◌≤◌, ◌<◌}
 use native.Mathlib.Omega.{arith}
 use lib.Dec.{eqb}
-use lib.ListN.{length}
+use lib.ListN.{length, take}
 use borrow.Author.Tests.{lt-ltb, le-leb}
 use Rattle.words.proofs.Tests.{passes, when, unless}
 use Rattle.cookielist.specs.List.{cookies_in}
 use Rattle.cookiestash.specs.Stash as stash
-use Rattle.cookiestash.specs.Stash.{in_range, get_of}
+use Rattle.cookiestash.specs.Stash.{in_range, get_of, slot_or_empty}
+use Rattle.cookiestash.specs.Whole.{seen_of}
 use Rattle.cookiestash.specs.Queue.{cookie_of, cookies}
 use Rattle.cookiestash.specs.StoreList.{store_list_of}
 use Rattle.cookiestash.specs.Handed.{wrote}
@@ -30,14 +31,16 @@ use Rattle.association.specs.New as new
 use Rattle.association.specs.Numbers as A
 use Rattle.association.proofs.New.{capacity_in}
 use Rattle.association.proofs.Numbers as new-numbers
-use Rattle.timer_rules.proofs.Count.{asked_short}
+use Rattle.timer_rules.specs.Decide.{oldest_len}
+use Rattle.timer_rules.proofs.Count.{asked_short, oldest_is}
 use Rattle.timer_rules.specs.Poll.{tried_of}
 use Rattle.timer.specs.declared.TimerOut.{TimerOut}
 use Rattle.timer.specs.Timer.{handed, buffer_of}
 use Rattle.timer.specs.Numbers as T
 use Rattle.timer.proofs.Numbers as timer-numbers
 use Rattle.wire_request.specs.Request.{has_nts}
-use Rattle.wire_incoming.specs.declared.ReplyRead.{ReplyRead}
+use Rattle.std.specs.Prelude.{Option}
+use Rattle.wire_incoming.specs.declared.Reply.{Reply}
 use Rattle.reply_rules.specs.Answer as reply
 use Rattle.reply.specs.declared.ReplyOut.{ReplyOut}
 use Rattle.reply.specs.Numbers as R
@@ -98,7 +101,7 @@ module _ (a : Association) (inside : List (List ℕ)) (h : Holds a.settings.capa
   module _ (t : TimerIn) where
     -- what is done by a timer that gives this
     abbrev done : TimerOut → M.Done machine
-    done o = M.of_timer t (o.answer, wrote (get_of cap a.stash).slot.bytes (handed o.answer) t.buffer)
+    done o = M.of_timer t (o.answer, wrote (slot_or_empty (get_of cap a.stash)).bytes (handed o.answer) t.buffer)
 
     -- the oldest is taken
     oldest : T.Taken a t.poll (length t.buffer) → First cap a.stash inside
@@ -114,9 +117,13 @@ module _ (a : Association) (inside : List (List ℕ)) (h : Holds a.settings.capa
     timed (T.sent g n) = stays (unless _ _ (nts_kind (tried_of a.state).version.kind a.settings.nts ∙ n)) h
     timed (T.sent_nts k z) =
         let f = oldest k in
-        let x = (get_of cap a.stash).slot in
-        let e = when _ _ (nts_kind (tried_of a.state).version.kind a.settings.nts ∙ k.nts)
-        ∙ ap (λ (c : List ℕ). c ∷ []) (handed_bytes x f.cookie t.buffer f.slot (asked_short _ x.len (not_zero _ z))) in
+        let x = slot_or_empty (get_of cap a.stash) in
+        let n = oldest_len (seen_of cap a.stash) in
+        let long : n ≡ x.len = oldest_is cap a.stash in
+        let short : n ≤ 724 = asked_short _ n (not_zero _ z) in
+        let bytes : take n (wrote x.bytes n t.buffer) ≡ f.cookie =
+        subst (λ (n : ℕ). take n (wrote x.bytes n t.buffer) ≡ f.cookie) (sym long) (handed_bytes x f.cookie t.buffer f.slot (omega arith)) in
+        let e = when _ _ (nts_kind (tried_of a.state).version.kind a.settings.nts ∙ k.nts) ∙ ap (λ (c : List ℕ). c ∷ []) bytes in
         record {
           left = f.rest;
           holds = f.holds;
@@ -134,7 +141,7 @@ module _ (a : Association) (inside : List (List ℕ)) (h : Holds a.settings.capa
   listed false list i = record { inside = inside; holds = h; order = some_front inside [] }
 
   module _ (r : ReplyIn) where
-    abbrev read : ReplyRead
+    abbrev read : Option Reply
     read = read_as a.settings a.state.request r
 
     replied : {n : ℕ} {o : ReplyOut} → R.Given a read (arrival_of r) n o → Went inside a.settings.nts (M.of_reply r o.replied) o.association

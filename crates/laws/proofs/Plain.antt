@@ -46,6 +46,7 @@ module _ (s : Settings) (list : List ℕ) (met : number_of (profile_of s list) �
       SomeOf (handed_out done) (stored_from s list done)
   metered_cookie_order calls = rw (same_run calls).0 (cookie_order s list calls)
 
+  -- promise: no14.9
   pub metered_cookie_places : (calls : List (Call rule)) → let done = run machine (metered_of s list).association calls in
       Placed [] (handed_out done) (stored_from s list done)
   metered_cookie_places calls = placed [] (metered_cookie_order calls)

@@ -3,7 +3,7 @@
 use mathlib.Core.Path.{◌≡◌, refl, sym, ap, subst, ◌∙◌}
 use mathlib.Core.Bool.{Bool, true, false, cond, false≢true}
 use mathlib.Core.List.{List}
-use mathlib.Core.Option.{none, some}
+use Rattle.std.specs.Prelude.{Option, None, Some}
 use Prim.Native.Nat.{ℕ}
 use native.Mathlib.Omega.{arith}
 use lib.Dec.{eqb}
@@ -25,7 +25,7 @@ use Rattle.timer_rules.specs.declared.TimerInput.{TimerInput}
 use Rattle.timer_rules.specs.Answer as timer
 use Rattle.timer_rules.specs.Poll.{poll_of}
 use Rattle.timer.proofs.After.{rang}
-use Rattle.wire_incoming.specs.declared.ReplyRead.{ReplyRead}
+use Rattle.wire_incoming.specs.declared.Reply.{Reply}
 use Rattle.reply_clauses.specs.After.{Arrival, stepped, after_rate_kiss}
 use Rattle.reply.specs.declared.ReplyOut.{ReplyOut}
 use Rattle.reply.specs.Numbers as N
@@ -57,7 +57,7 @@ use Rattle.laws.specs.Rate.{remote_of, with_remote, crate_remote, crate_replied,
 use Rattle.laws.proofs.Along.{between, same_logs}
 
 -- what a reply is read as, beside the record that it meets
-abbrev pub read_by : Association → ReplyIn → ReplyRead
+abbrev pub read_by : Association → ReplyIn → Option Reply
 read_by a r = read_as a.settings a.state.request r
 
 -- ---- it never falls
@@ -121,10 +121,10 @@ heard_inside a n o h p w = by (eqb n 0) refl
         (λ _. held))
 
 -- what is none is not pending
-not_pending : (q : Pending) → q.present ≡ true → pending_in q ≡ none → ⊥
+not_pending : (q : Pending) → q.present ≡ true → pending_in q ≡ None → ⊥
 not_pending q t e = by q.present t e
   where
-    by : (b : Bool) → b ≡ true → cond b (some q) none ≡ none → ⊥
+    by : (b : Bool) → b ≡ true → cond b (Some q) None ≡ None → ⊥
     by true t e = let z : ◌≡◌ {A = ℕ} 0 1 = cc in omega arith
     by false t e = false≢true t
 
@@ -138,7 +138,7 @@ inside_kept a (M.reply r) w =
     heard_inside a _ _ (heard a (read_by a r) (arrival_of r) g) (paced a (read_by a r) (arrival_of r) g) w
 
 -- a RATE kiss answers a pending request, so there the two rules agree
-module _ (a : Association) (read : ReplyRead) (t : Arrival) (w : Inside a) where
+module _ (a : Association) (read : Option Reply) (t : Arrival) (w : Inside a) where
   same_remote : {n : ℕ} {o : ReplyOut} → N.Given a read t n o → cond (eqb n 5) (with_remote o.association (crate_remote a)) o.association ≡ o.association
   unfolding stepped after_rate_kiss
   same_remote (not_whole e) = refl
@@ -165,7 +165,7 @@ same_reply : (a : Association) (r : ReplyIn) → Inside a → crate_replied a r 
 same_reply a r w = λ i. ((replied a r).0, same_remote a (read_by a r) (arrival_of r) w (given a (read_by a r) (arrival_of r)) i)
 
 -- promise: no7.3 (from any record with nothing pending)
-pub unasked_same : (a : Association) → pending_in a.state.request ≡ none → (calls : List (M.Call rule)) → CrateSame a calls
+pub unasked_same : (a : Association) → pending_in a.state.request ≡ None → (calls : List (M.Call rule)) → CrateSame a calls
 unasked_same a e calls = same_logs machine Inside inside_kept crate_replied same_reply a (λ t. absurd (not_pending a.state.request t e)) calls
 
 -- and so from a new association

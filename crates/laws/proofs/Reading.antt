@@ -17,7 +17,7 @@ use Rattle.words.specs.Bytes.{be, part, to_be}
 use Rattle.words.proofs.Bytes.{be_to_be}
 use Rattle.time_types.specs.declared.PollInterval.{PollInterval}
 use Rattle.wire_header.specs.declared.HeaderVersion.{HeaderVersion}
-use Rattle.wire_header.specs.declared.HeaderRead.TheVariants.{Decoded}
+use Rattle.std.specs.Prelude.{Some}
 use Rattle.wire_header.specs.Header.{fields, header_of, bytes_of}
 use Rattle.wire_header.proofs.Fit.{Fit}
 use Rattle.wire_header.proofs.RoundTrip.{read_write}
@@ -268,11 +268,11 @@ module _ (kind : SendKind) (poll : PollInterval) (id upgrademark : ℕ) (uid coo
   -- the same header, of every kind and whatever stands behind
   -- promise: no1.1 (the reader of `wire_header` gives it back, whatever follows)
   pub header_read : SFits w8 poll.0 → id < 2 ^ 64 → upgrademark < 2 ^ 64 → (rest : List ℕ) →
-      header_of (packet ++ rest) ≡ Decoded (header_for kind poll id upgrademark)
+      header_of (packet ++ rest) ≡ Some (header_for kind poll id upgrademark)
   unfolding packet_of with_fields
   header_read p i m rest = go (has_nts kind)
     where
-      go : (t : Bool) → header_of (cond t (with_fields front uid cookie asked) front ++ rest) ≡ Decoded (header_for kind poll id upgrademark)
+      go : (t : Bool) → header_of (cond t (with_fields front uid cookie asked) front ++ rest) ≡ Some (header_for kind poll id upgrademark)
       go true =
           let fs = all_bytes (fields_for uid cookie asked) in
           ap header_of (append_assoc front fs rest) ∙ header_front front (fs ++ rest) (omega (arith, front_long))
@@ -294,7 +294,8 @@ module _ (kind : SendKind) (poll : PollInterval) (id upgrademark : ℕ) (uid coo
 
     -- with more than a tail behind it, as an authenticator is, the walk finds each field as it was written, and goes on where the packet ends
     -- promise: no1.2 (the walk of `wire_fields` finds each where it was written)
-    pub fields_read : 24 < length rest → packet_walk (packet ++ rest) ≡ walked_by 48 (fields_for uid cookie asked) (walk_of (packet ++ rest) (length packet) 16 24)
+    pub fields_read : 24 < length rest →
+        packet_walk (packet ++ rest) ≡ walked_by 48 (fields_for uid cookie asked) (walk_of (packet ++ rest) (length packet) 16 24)
     fields_read more = walks (packet ++ rest) rest (fields_for uid cookie asked) front 48 (length packet) laid front_long packet_long legible more
 
     -- the packet has one uid field, whatever stands behind

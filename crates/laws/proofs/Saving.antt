@@ -3,7 +3,7 @@
 use mathlib.Core.Path.{◌≡◌, refl, ◌∙◌}
 use mathlib.Core.Bool.{Bool, true, false}
 use mathlib.Core.List.{List}
-use mathlib.Core.Option.{Option, none, some}
+use Rattle.std.specs.Prelude.{Option, None, Some}
 use Prim.Native.Nat.{ℕ}
 use lib.Dec.{ltb, eqb}
 use lib.ListN.{length}
@@ -41,7 +41,10 @@ unasked : (a : Association) (room : ℕ) → Unasked a (save_of a room)
 unfolding save_of emptied
 unasked a room =
     either (Unasked a) (whole_of a)
-    (λ w. either (Unasked a) (ltb room (length (file_of a))) (λ s. record { not_sent = refl; request = refl }) (λ s. record { not_sent = refl; request = refl }))
+    (λ w.
+    either (Unasked a) (ltb room (length (file_of a)))
+    (λ s. record { not_sent = refl; request = refl })
+    (λ s. record { not_sent = refl; request = refl }))
     (λ w. record { not_sent = refl; request = refl })
 
 settings_kept : (a : Association) (c : Call saving_rule) → (M.step saving_machine a c).settings ≡ a.settings
@@ -64,13 +67,13 @@ answered_next a (M.reply r) = laws.answered_next a (M.reply r)
 
 -- what the log says of a reply does not ask what a timer is
 same_reason : (q : Option Pending) (w : Bool) (r : ReplyIn) → reason rule q w r ≡ reason saving_rule q w r
-same_reason none true r = refl
-same_reason none false r = refl
-same_reason (some q) w r = refl
+same_reason None true r = refl
+same_reason None false r = refl
+same_reason (Some q) w r = refl
 
 same_live : (s : Settings) (q : Option Pending) (r : ReplyIn) → live rule s q r ≡ live saving_rule s q r
-same_live s none r = refl
-same_live s (some q) r = refl
+same_live s None r = refl
+same_live s (Some q) r = refl
 
 -- promise: no6.11
 pub saving_laws : M.Laws saving_machine
@@ -99,7 +102,8 @@ pub saving_metered_demand3 : (s : Settings) (list : List ℕ) (calls : List (Cal
     let a = (metered_of s list).association in
     Accepted (log_of saving_machine a calls) → Demand3 saving_machine a calls
 saving_metered_demand3 s list calls =
-    once_over_both (λ (a : Association). Accepted (log_of saving_machine a calls) → Demand3 saving_machine a calls) (λ s list. saving_demand3 s list calls) s list
+    once_over_both (λ (a : Association). Accepted (log_of saving_machine a calls) → Demand3 saving_machine a calls)
+    (λ s list. saving_demand3 s list calls) s list
 
 -- promise: no6.11
 pub saving_metered_why : (s : Settings) (list : List ℕ) (calls : List (Call saving_rule)) → Why saving_machine (metered_of s list).association calls

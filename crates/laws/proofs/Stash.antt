@@ -7,21 +7,24 @@ use mathlib.Core.List.{List, [], ◌∷◌, ◌++◌, map, map-append, append_as
 use Prim.Native.Nat.{ℕ, ◌≤◌, ◌<◌}
 use native.Mathlib.Decide.{dec_le, dec_lt}
 use native.Mathlib.Omega.{arith}
-use borrow.Author.Tests.{lt-ltb, le-leb, lt-leb}
+use borrow.Author.Tests.{lt-ltb, lt-leb}
 use lib.ListN.{length, take, drop, length-set}
 use lib.Seq.{take_at, take-length}
 use Rattle.cookielist.specs.List.{Listed, whole, broken, cookies_in}
 use Rattle.cookiestash.specs.declared.Slot.{Slot}
 use Rattle.cookiestash.specs.declared.CookieStash.{CookieStash}
-use Rattle.cookiestash.specs.Stash.{stored, empty_slot, slot_at, new_of, in_range, store_of, rest_of, get_of}
+use Rattle.std.specs.Prelude.{Some}
+use Rattle.cookiestash.specs.Stash.{stored, empty_slot, slot_at, new_of, in_range, store_of, rest_of, get_of, slot_or_empty}
 use Rattle.cookiestash.specs.Queue.{Cookie, queue, cookie_of, seen, cookies, store_all}
 use Rattle.cookiestash.specs.StoreList.{store_listed, store_list_of}
 use Rattle.cookiestash.proofs.Range.{within, store_range, store_slots}
 use Rattle.cookiestash.proofs.Queue.{rest_queue}
+use Rattle.cookiestash.proofs.Stored.{stored_all}
 use Rattle.cookiestash.proofs.Cookies.{store_room, store_full}
 use Rattle.cookiestash.specs.Handed.{wrote}
 use Rattle.laws.specs.Some.{SomeOf}
 use Rattle.laws.specs.Cookies.{cookies_of}
+use Rattle.laws.proofs.Along.{no_cons}
 use Rattle.laws.proofs.Some.{some_all, some_before, some_front, some_rest, some_some}
 
 -- the stash holds these cookies, oldest first
@@ -40,18 +43,15 @@ pub record First (cap : ℕ) (s : CookieStash) (inside : List (List ℕ)) : Type
   pub cookie : List ℕ
   pub rest : List (List ℕ)
   pub parts : inside ≡ cookie ∷ rest
-  pub slot : seen (get_of cap s).slot ≡ cookie_of cookie
+  pub slot : seen (slot_or_empty (get_of cap s)) ≡ cookie_of cookie
   pub holds : Holds cap (get_of cap s).stash rest
 
-no_cons : {A : Type 0} (x : A) (xs : List A) → [] ≡ x ∷ xs → ⊥
-no_cons x xs e = let z : ◌≡◌ {A = ℕ} 0 1 = cc in omega arith
-
 module _ (cap : ℕ) (s : CookieStash) (i : in_range cap s ≡ true) (room : cap ≤ length s.slots) (some : 0 < s.held) where
-  took : get_of cap s ≡ record { found = true; slot = slot_at s.slots s.read; stash = rest_of cap s }
+  took : get_of cap s ≡ record { cookie = Some (slot_at s.slots s.read); stash = rest_of cap s }
   unfolding get_of
   took = rw (i, lt-ltb 0 s.held some)
 
-  oldest_first : cookies cap s ≡ seen (get_of cap s).slot ∷ cookies cap (get_of cap s).stash
+  oldest_first : cookies cap s ≡ seen (slot_or_empty (get_of cap s)) ∷ cookies cap (get_of cap s).stash
   unfolding cookies in_range
   oldest_first = let w = within cap s.read s.held i in rw took (ap (map seen) (rest_queue cap s w.1 room some w.2))
 
@@ -60,14 +60,10 @@ module _ (cap : ℕ) (s : CookieStash) (i : in_range cap s ≡ true) (room : cap
   slots_left = rw took (length-set s.slots s.read empty_slot)
 
   pub first : (inside : List (List ℕ)) → cookies cap s ≡ map cookie_of inside → First cap s inside
-  first [] e = absurd (no_cons (seen (get_of cap s).slot) (cookies cap (get_of cap s).stash) (sym e ∙ oldest_first))
+  first [] e = absurd (no_cons (seen (slot_or_empty (get_of cap s))) (cookies cap (get_of cap s).stash) (sym e ∙ oldest_first))
   first (c ∷ rest) e =
-      let k : seen (get_of cap s).slot ∷ cookies cap (get_of cap s).stash ≡ cookie_of c ∷ map cookie_of rest = sym oldest_first ∙ e in
+      let k : seen (slot_or_empty (get_of cap s)) ∷ cookies cap (get_of cap s).stash ≡ cookie_of c ∷ map cookie_of rest = sym oldest_first ∙ e in
       record { cookie = c; rest = rest; parts = refl; slot = cc; holds = record { held = cc; room = omega (arith, slots_left) } }
-
-stored_all : (n : ℕ) → n ≤ 724 → stored n ≡ n
-unfolding stored
-stored_all n h = rw (le-leb n 724 h)
 
 -- of a cookie of at most 724 bytes all are handed out
 pub handed_bytes : (x : Slot) (c buffer : List ℕ) → seen x ≡ cookie_of c → x.len ≤ 724 → take x.len (wrote x.bytes x.len buffer) ≡ c
@@ -98,7 +94,8 @@ module _ (cap : ℕ) where
     unfolding in_range store_of
     store_one c =
         let room : cap ≤ length (store_of cap s c).slots = omega (arith, store_slots cap s c, h.room) in
-        let back : (xs : List (List ℕ)) → map cookie_of xs ++ (cookie_of c ∷ []) ≡ map cookie_of (xs ++ (c ∷ [])) = λ xs. sym (map-append cookie_of xs (c ∷ [])) in
+        let back : (xs : List (List ℕ)) → map cookie_of xs ++ (cookie_of c ∷ []) ≡ map cookie_of (xs ++ (c ∷ [])) =
+        λ xs. sym (map-append cookie_of xs (c ∷ [])) in
         elim (dec_le (length c) 65535) [
           | yes l ↦
               elim (dec_lt s.held cap) [

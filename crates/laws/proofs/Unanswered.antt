@@ -2,12 +2,12 @@
 -- Assumes nothing.
 use mathlib.Core.Path.{◌≡◌, refl, ap, ◌∙◌}
 use mathlib.Core.List.{List, [], ◌∷◌}
+use Rattle.std.specs.Prelude.{Ok}
 use Prim.Native.Nat.{ℕ}
 use lib.ListN.{length}
 use Rattle.reach.specs.Register.{unanswered_of}
 use Rattle.association.specs.declared.Settings.{Settings}
 use Rattle.association.specs.declared.Association.{Association}
-use Rattle.association.specs.declared.NewAnswer.TheVariants.{Made}
 use Rattle.association.specs.Whole.{Whole}
 use Rattle.association.specs.New.{number_of, new_of}
 use Rattle.association.proofs.New.{new_unanswered}
@@ -40,7 +40,7 @@ count_along a (M.reply r ∷ cs) =
 
 -- from 8 on, where the association is new
 -- promise: no8.5
-pub new_count_along : (s : Settings) (list : List ℕ) → (new_of s list).answer ≡ Made → (calls : List (M.Call rule)) →
+pub new_count_along : (s : Settings) (list : List ℕ) → (new_of s list).answer ≡ Ok tt → (calls : List (M.Call rule)) →
     let a = (new_of s list).association in
     unanswered_in (M.after machine a calls) ≡ count_after 8 (M.log_of machine a calls)
 new_count_along s list e calls =

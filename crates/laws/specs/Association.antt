@@ -1,13 +1,11 @@
 -- The association as a machine of timers and replies (demand 3): the inputs of its calls, what the log alone can work out of them, and its steps.
 -- Assumes nothing.
-use Rattle.std.specs.Prelude.{◌≡◌, Bool, false, cond, List, [], ℕ, length}
-use Rattle.std.proofs.Math.Option.{Option, none, some}
+use Rattle.std.specs.Prelude.{◌≡◌, Bool, false, cond, List, [], ℕ, length, Option, Some, None}
 use Rattle.association.specs.declared.Settings.{Settings}
 use Rattle.association.specs.declared.Pending.{Pending}
 use Rattle.association.specs.declared.Association.{Association}
 use Rattle.wire_incoming.specs.declared.DecodedReply.{DecodedReply}
-use Rattle.wire_incoming.specs.declared.ReplyRead.{ReplyRead}
-use Rattle.wire_incoming.specs.declared.ReplyRead.TheVariants.{Decoded, Undecodable}
+use Rattle.wire_incoming.specs.declared.Reply.{Reply}
 use Rattle.wire_incoming.specs.Incoming.{read_of, decoded_of}
 use Rattle.timer_rules.specs.declared.TimerAnswer.{TimerAnswer}
 use Rattle.timer_rules.specs.Answer as timer
@@ -36,14 +34,14 @@ arrival_of (bytes packet end decrypted t) = t
 arrival_of (decoded d t) = t
 
 -- what a reply says, read with the uid of a request
-abbrev pub read_as : Settings → Pending → ReplyIn → ReplyRead
+abbrev pub read_as : Settings → Pending → ReplyIn → Option Reply
 read_as s q (bytes packet end decrypted t) = read_of s.nts q.uid packet end decrypted
-read_as s q (decoded d t) = Decoded (decoded_of d)
+read_as s q (decoded d t) = Some (decoded_of d)
 
 -- a reply answers a request if part 8 holds for its identifiers
-abbrev pub answers_as : Settings → Pending → ReplyRead → Bool
-answers_as s q (Decoded r) = answers s.nts q.id r
-answers_as s q Undecodable = false
+abbrev pub answers_as : Settings → Pending → Option Reply → Bool
+answers_as s q (Some r) = answers s.nts q.id r
+answers_as s q None = false
 
 -- the log's own rule: it reads settings, inputs and numbers, and never a record
 abbrev pub rule : Rule
@@ -59,7 +57,7 @@ rule = record {
 
 -- the request that is pending, if any
 abbrev pub pending_in : Pending → Option Pending
-pending_in q = cond q.present (some q) none
+pending_in q = cond q.present (Some q) None
 
 -- a timer's whole answer: what it returns, and what it leaves in the buffer, to which it copies the cookie's bytes
 abbrev pub timed : Association → TimerIn → (TimerAnswer × List ℕ) × Association

@@ -38,4 +38,5 @@ pub record GaveUp {D : Rule} (log : List (Entry D)) : Type 0 where
 -- any number but 0
 -- promise: no14.7
 abbrev pub NineTimers : {D : Rule} (M : Machine D) → M.Record → List (Call D) → Type 0
-NineTimers {D} M a calls = (before nine behind : List (Entry D)) → log_of M a calls ≡ before ++ (nine ++ behind) → NoZero nine → 9 ≤ timers_in nine → GaveUp nine
+NineTimers {D} M a calls =
+    (before nine behind : List (Entry D)) → log_of M a calls ≡ before ++ (nine ++ behind) → NoZero nine → 9 ≤ timers_in nine → GaveUp nine

@@ -1,7 +1,7 @@
 -- The association as a machine of timers, saves and replies (RULES, No. 6): a save appears in a log where a timer may, with its own number, and asks for
 -- nothing. The log's rule is that of specs/Association.antt. Statements about timers and replies alone are about what was done without the saves.
 -- Assumes nothing.
-use Rattle.std.specs.Prelude.{◌≡◌, false, List, [], ◌∷◌, ◌++◌, ℕ, length}
+use Rattle.std.specs.Prelude.{◌≡◌, false, List, [], ◌∷◌, ◌++◌, ℕ, length, Result}
 use Rattle.association.specs.declared.Settings.{Settings}
 use Rattle.association.specs.declared.Pending.{Pending}
 use Rattle.association.specs.declared.Association.{Association}
@@ -10,7 +10,7 @@ use Rattle.timer_rules.specs.declared.TimerAnswer.{TimerAnswer}
 use Rattle.timer_rules.specs.Answer as timer
 use Rattle.reply.specs.declared.Replied.{Replied}
 use Rattle.reply_rules.specs.Answer as reply
-use Rattle.handover_file.specs.declared.SaveAnswer.{SaveAnswer}
+use Rattle.handover_file.specs.declared.SaveRefusal.{SaveRefusal}
 use Rattle.handover_file.specs.Answers.{save_number, save_of, buffer_of}
 use Rattle.laws_log.specs.Log.{Rule}
 use Rattle.laws_log.specs.Machine.{Machine, Done, of_timer, of_reply}
@@ -28,7 +28,7 @@ asks_for s (save b) = no_pending false
 -- the whole answer of either, with what is left in the buffer
 pub data TickAnswer : Type 0 where
   polled : TimerAnswer × List ℕ → TickAnswer
-  saved : SaveAnswer × List ℕ → TickAnswer
+  saved : Result ℕ SaveRefusal × List ℕ → TickAnswer
 
 abbrev pub tick_number : TickAnswer → ℕ
 tick_number (polled x) = timer.number_of x.0

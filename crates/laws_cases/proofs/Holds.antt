@@ -32,7 +32,7 @@ chosen asked x y p q = by (eqb asked 0) refl
 asking : (gap len : ℕ) → let asked = asked_of (min gap 8) len in Right (asks gap len (cond (eqb asked 0) 24 20) asked)
 unfolding decide_of decide_nts
 asking gap len g s v i room k =
-    rw (k.whole, k.roomy, k.going, k.nts, k.found, k.gap_is, k.len_is)
+    rw (k.whole, k.roomy, k.going, k.nts, k.gap_is, k.oldest_is)
     (chosen (asked_of (min gap 8) len) (record { answer = CookieTooLarge; state = tried_of s; takes = true }) _ (refl, refl) (refl, refl))
 
 -- a reply, whatever else it says

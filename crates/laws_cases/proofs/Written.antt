@@ -15,7 +15,8 @@ use Rattle.cookiestash.specs.Whole as stash
 use Rattle.association.specs.Settings.{settings_valid}
 use Rattle.association.specs.Record.{no_pending, effort_valid, versions_valid, pending_valid, idle_valid, whole_seen, whole_of}
 use Rattle.handover_groups.specs.Settings.{settings_bytes, settings_of, settings_known}
-use Rattle.handover_groups.specs.State.{effort_bytes, effort_of, version_bytes, version_of, version_known, polls_bytes, polls_of, source_bytes, source_of, source_known}
+use Rattle.handover_groups.specs.State.{effort_bytes, effort_of, version_bytes, version_of, version_known, polls_bytes, polls_of}
+use Rattle.handover_groups.specs.State.{source_bytes, source_of, source_known}
 use Rattle.handover_file.specs.Sections.{body_length, found}
 use Rattle.handover_file.specs.Cookies.{cookie_bytes, stash_bytes, len_of, first_of, run_of, stash_fits, held_in, stash_known, slot_for, empty_at, stash_of}
 use Rattle.handover_file.specs.File.{file_of, known, record_in, retired, settled_settings, settled_state, settled}
@@ -58,7 +59,8 @@ salvaged_hold =
     & end
 
 pub compared_hold : All Right compared
-unfolding version_number settings_numbers state_numbers held_of aged_of same_reading field_of fields_of list_of entry_bytes stored in_range wrap queue seen cookies
+unfolding version_number settings_numbers state_numbers held_of aged_of same_reading field_of fields_of list_of entry_bytes
+    stored in_range wrap queue seen cookies
 compared_hold =
     refl
     & refl
@@ -66,10 +68,12 @@ compared_hold =
     & end
 
 pub handed_hold : All Right handed
-unfolding be part zeros trailing stored empty_slot wrap full in_range put_of rest_of get_of gap_of queue seen cookies stash.padded stash.free_slots stash.whole_of
-    settings_valid no_pending effort_valid versions_valid pending_valid idle_valid whole_seen whole_of settings_bytes settings_of settings_known effort_bytes effort_of
-    version_bytes version_of version_known polls_bytes polls_of source_bytes source_of source_known record_of body_length found cookie_bytes stash_bytes len_of first_of
-    run_of stash_fits held_in stash_known slot_for empty_at stash_of file_of known record_in retired settled_settings settled_state settled load_in load_of
+unfolding be part zeros trailing stored empty_slot wrap full in_range put_of rest_of get_of gap_of queue seen cookies
+    stash.padded stash.free_slots stash.whole_of settings_valid no_pending effort_valid versions_valid pending_valid idle_valid
+    whole_seen whole_of settings_bytes settings_of settings_known effort_bytes effort_of version_bytes version_of version_known
+    polls_bytes polls_of source_bytes source_of source_known record_of body_length found cookie_bytes stash_bytes len_of first_of
+    run_of stash_fits held_in stash_known slot_for empty_at stash_of file_of known record_in retired settled_settings settled_state
+    settled load_in load_of
 handed_hold =
     refl
     & refl

@@ -1,7 +1,7 @@
 -- RULES, "Either side of each edge": the starred cases as one table over the definitions. A case is a call of a definition with its expected result, and
 -- `Right` says what the case claims. proofs/Holds.antt has the one theorem: every claim of the table holds.
 -- Assumes nothing.
-use Rattle.std.specs.Prelude.{◌≡◌, Bool, true, false, List, [], ◌∷◌, ℕ, ◌-◌, ◌^◌, ℤ, pos, negsuc}
+use Rattle.std.specs.Prelude.{◌≡◌, Bool, true, false, List, [], ◌∷◌, ℕ, ◌-◌, ◌^◌, ℤ, pos, negsuc, Some}
 use Rattle.words.specs.Signed.{half_to_zero}
 use Rattle.reach.specs.Register.{polled_of, unanswered_of}
 use Rattle.cookiestash.specs.Stash.{slot_of, new_of, get_of}
@@ -83,9 +83,8 @@ pub record Taking (g : Settings) (s : State) (v : Seen) (room gap length : ℕ) 
   pub roomy : short_buffer g room ≡ false
   pub going : startup_over g s ≡ false
   pub nts : g.nts ≡ true
-  pub found : v.found ≡ true
   pub gap_is : v.gap ≡ gap
-  pub len_is : v.len ≡ length
+  pub oldest_is : v.oldest ≡ Some length
 
 -- a reply that was read, of a version that is expected and with a list that is not broken
 pub record Heard (g : Settings) (s : State) (r : Reply) (t : Arrival) : Type 0 where
@@ -96,13 +95,11 @@ abbrev pub Right : Case → Type 0
 Right nine_stored =
     (a b c d e f g h i : List ℕ) →
     AllShort (a ∷ b ∷ c ∷ d ∷ e ∷ f ∷ g ∷ h ∷ i ∷ []) →
-    ((get_of 8 (store_all 8 new_of (a ∷ b ∷ c ∷ d ∷ e ∷ f ∷ g ∷ h ∷ i ∷ []))).found ≡ true)
-    × ((get_of 8 (store_all 8 new_of (a ∷ b ∷ c ∷ d ∷ e ∷ f ∷ g ∷ h ∷ i ∷ []))).slot ≡ slot_of b)
+    (get_of 8 (store_all 8 new_of (a ∷ b ∷ c ∷ d ∷ e ∷ f ∷ g ∷ h ∷ i ∷ []))).cookie ≡ Some (slot_of b)
 Right nine_in_four =
     (a b c d e f g h i : List ℕ) →
     AllShort (a ∷ b ∷ c ∷ d ∷ e ∷ f ∷ g ∷ h ∷ i ∷ []) →
-    ((get_of 4 (store_all 4 new_of (a ∷ b ∷ c ∷ d ∷ e ∷ f ∷ g ∷ h ∷ i ∷ []))).found ≡ true)
-    × ((get_of 4 (store_all 4 new_of (a ∷ b ∷ c ∷ d ∷ e ∷ f ∷ g ∷ h ∷ i ∷ []))).slot ≡ slot_of f)
+    (get_of 4 (store_all 4 new_of (a ∷ b ∷ c ∷ d ∷ e ∷ f ∷ g ∷ h ∷ i ∷ []))).cookie ≡ Some (slot_of f)
 Right (counts r n) = unanswered_of (record { 0 = r }) ≡ n
 Right (polled r n) = polled_of (record { 0 = r }) ≡ record { 0 = n }
 Right (asks gap len n k) =

@@ -1,7 +1,7 @@
 -- Cases of what is written and read, byte by byte: the three requests of docs/REQUESTS.md and what the writer rejects, the file of docs/HANDOVER.md, damaged
 -- cookie lists (No. 9), and a comparison in which every field differs (No. 10). The bytes are copied from the papers; no definition makes them.
 -- Assumes nothing.
-use Rattle.std.specs.Prelude.{◌≡◌, true, false, List, [], ◌∷◌, ◌++◌, ℕ, ◌-◌, ◌^◌, ℤ, pos, negsuc, length, replicate}
+use Rattle.std.specs.Prelude.{◌≡◌, true, false, List, [], ◌∷◌, ◌++◌, ℕ, ◌-◌, ◌^◌, ℤ, pos, negsuc, length, replicate, Ok}
 use Rattle.identifiers.specs.Names.{named}
 use Rattle.time_types.specs.Poll.{interval}
 use Rattle.cookiestash.specs.declared.Slot.{Slot}
@@ -13,9 +13,8 @@ use Rattle.association.specs.declared.Association.{Association}
 use Rattle.association.specs.declared.Pending.{Pending}
 use Rattle.wire_request.specs.Request.{packet_of}
 use Rattle.wire_request.specs.Answer as request
-use Rattle.handover_file.specs.declared.LoadAnswer.TheVariants.{Loaded}
 use Rattle.handover_file.specs.File.{file_of}
-use Rattle.handover_file.specs.Answers.{loaded, load_of}
+use Rattle.handover_file.specs.Answers.{told, loaded, load_of}
 use Rattle.salvage.specs.Salvage.{salvage_of, clean_of}
 use Rattle.handover_compare.specs.declared.fields.Field.{Field}
 use Rattle.handover_compare.specs.Fields.{list_of, entry_bytes}
@@ -238,18 +237,11 @@ pub data Case : Type 0 where
 abbrev pub Right : Case → Type 0
 Right (packet kind poll id mark uid cookie asked bytes) = packet_of kind (interval poll) id mark uid cookie asked ≡ bytes
 Right (writes kind c asked room n) = request.number_of (request.request_of kind (interval (pos 6)) 1 0 uid (replicate c 7) asked room) ≡ n
-Right (loads bytes a) = load_of bytes ≡ loaded (Loaded false) a
+Right (loads bytes a) = load_of bytes ≡ loaded (told false) a
 Right (saves a bytes) = file_of a ≡ bytes
 Right (salvages bytes kept skipped places len) =
-    salvage_of bytes (length bytes) ≡ record {
-      number = 0;
-      kept = kept;
-      skipped = skipped;
-      gaps = length places;
-      places = places
-          ++ replicate (32 - length places) 0;
-      len = len;
-    }
+    salvage_of bytes (length bytes)
+    ≡ Ok (record { kept = kept; skipped = skipped; gaps = length places; places = places ++ replicate (32 - length places) 0; len = len })
 Right (cleans bytes clean) = clean_of bytes ≡ clean
 Right (differ a b fields) = list_of a b ≡ fields
 Right (enters field bytes) = entry_bytes field ≡ bytes

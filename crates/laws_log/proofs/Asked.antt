@@ -4,12 +4,12 @@
 use mathlib.Core.Path.{◌≡◌, refl}
 use mathlib.Core.Bool.{Bool, true, false, not, ◌&&◌}
 use mathlib.Core.List.{List, [], ◌∷◌, ◌++◌}
-use mathlib.Core.Option.{Option, none, some}
+use Rattle.std.specs.Prelude.{Option, Some, None}
 use Prim.Native.Nat.{ℕ}
 use lib.Dec.{T, eqb, eqb→eq}
 use Rattle.laws_log.specs.Log.{Rule, Entry, timed, replied, sent, measured, NoPoll, next, asked_from, struck}
 use Rattle.laws_log.specs.Why.{NoZero}
-use Rattle.laws_log.proofs.Strike.{not_T, asked_append, asked_none}
+use Rattle.laws_log.proofs.Strike.{not_T, asked_append, asked_none, behind_struck}
 
 module _ (D : Rule) (s : D.Settings) where
   stays : (q : Option D.Request) (e : Entry D) → T (not (sent e)) → T (not (measured e)) → next D s q e ≡ q
@@ -27,12 +27,12 @@ module _ (D : Rule) (s : D.Settings) where
   -- promise: demand.3
   pub struck_measured : (before since : List (Entry D)) (r r' : D.Reply) (n : ℕ) → NoPoll since →
       struck D s (before ++ replied r 0 ∷ since) (replied r' n) ≡ true
-  struck_measured before since r r' n p = rw (asked_append D s none before (replied r 0 ∷ since), asked_none D s since p)
+  struck_measured before since r r' n p = behind_struck D s before since r r' n p
 
   -- promise: demand.3
   pub struck_sent : (before since : List (Entry D)) (t : D.Timer) (r : D.Reply) (n : ℕ) → NoPoll since → NoZero since →
       struck D s (before ++ timed t 20 ∷ since) (replied r n) ≡ not (D.unexpired (D.asks s t) r && D.answers s (D.asks s t) r)
-  struck_sent before since t r n p z = rw (asked_append D s none before (timed t 20 ∷ since), asked_stays (some (D.asks s t)) since p z)
+  struck_sent before since t r n p z = rw (asked_append D s None before (timed t 20 ∷ since), asked_stays (Some (D.asks s t)) since p z)
 
 -- The three kinds.
 pub data Kind {D : Rule} : List (Entry D) → Type 0 where

@@ -3,7 +3,7 @@
 use mathlib.Core.Path.{◌≡◌, refl, sym, ap, ◌∙◌}
 use mathlib.Core.Bool.{Bool, true, false, cond, not, false≢true}
 use mathlib.Core.List.{List, [], ◌∷◌, ◌++◌}
-use mathlib.Core.Option.{Option, none}
+use Rattle.std.specs.Prelude.{Option, None}
 use Prim.Native.Nat.{ℕ, zero, suc, ◌≤◌}
 use native.Mathlib.Omega.{arith}
 use lib.Dec.{T, eqb, eqb-suc-zero}
@@ -73,11 +73,11 @@ module _ (D : Rule) (s : D.Settings) where
   asked_append q (x ∷ xs) ys = asked_append (next D s q x) xs ys
 
   -- with nothing asked, all but a sent poll leaves it so
-  stays_none : (e : Entry D) → T (not (sent e)) → next D s none e ≡ none
+  stays_none : (e : Entry D) → T (not (sent e)) → next D s None e ≡ None
   stays_none (timed t n) h = rw (not_T (eqb n 20) h)
-  stays_none (replied r n) h = cond_same (eqb n 0) none
+  stays_none (replied r n) h = cond_same (eqb n 0) None
 
-  pub asked_none : (xs : List (Entry D)) → NoPoll xs → asked_from D s none xs ≡ none
+  pub asked_none : (xs : List (Entry D)) → NoPoll xs → asked_from D s None xs ≡ None
   asked_none [] h = refl
   asked_none (x ∷ xs) h = rw (stays_none x h.0) (asked_none xs h.1)
 
@@ -94,7 +94,7 @@ module _ (D : Rule) (s : D.Settings) where
   sound_right q [] ys h = h
   sound_right q (x ∷ xs) ys h = sound_right (next D s q x) xs ys h.1
 
-  none_measured : (xs : List (Entry D)) → NoPoll xs → Sound none xs → measured_in xs ≡ 0
+  none_measured : (xs : List (Entry D)) → NoPoll xs → Sound None xs → measured_in xs ≡ 0
   none_measured [] p h = refl
   none_measured (timed t n ∷ xs) p h = none_measured xs p.1 (rw (stays_none (timed t n) p.0) at h.1)
   none_measured (replied r n ∷ xs) p h = rw (h.0 refl, none_measured xs p.1 (rw (stays_none (replied r n) tt) at h.1))
@@ -104,7 +104,7 @@ module _ (D : Rule) (s : D.Settings) where
   few_measured q (timed t n ∷ xs) p h = few_measured (next D s q (timed t n)) xs p.1 h.1
   few_measured q (replied r n ∷ xs) p h = by_number (eqb n 0) (few_measured q xs p.1) h.1
     where
-      by_number : (b : Bool) → (Sound q xs → measured_in xs ≤ 1) → Sound (cond b none q) xs → cond b (suc (measured_in xs)) (measured_in xs) ≤ 1
+      by_number : (b : Bool) → (Sound q xs → measured_in xs ≤ 1) → Sound (cond b None q) xs → cond b (suc (measured_in xs)) (measured_in xs) ≤ 1
       by_number true more k = omega (arith, none_measured xs p.1 k)
       by_number false more k = more k
 
@@ -116,13 +116,13 @@ module _ (D : Rule) (s : D.Settings) where
       by true k = refl
       by false k = k refl
 
-  behind_struck : (before mid : List (Entry D)) (r r' : D.Reply) (n : ℕ) → NoPoll mid → struck D s (before ++ replied r 0 ∷ mid) (replied r' n) ≡ true
-  behind_struck before mid r r' n p = rw (asked_append none before (replied r 0 ∷ mid), asked_none mid p)
+  pub behind_struck : (before mid : List (Entry D)) (r r' : D.Reply) (n : ℕ) → NoPoll mid → struck D s (before ++ replied r 0 ∷ mid) (replied r' n) ≡ true
+  behind_struck before mid r r' n p = rw (asked_append None before (replied r 0 ∷ mid), asked_none mid p)
 
   behind_unmeasured : (q : Option D.Request) (mid behind : List (Entry D)) (r r' : D.Reply) (n : ℕ) → NoPoll mid →
       Sound q (replied r 0 ∷ (mid ++ replied r' n ∷ behind)) → n ≡ 0 → ⊥
   behind_unmeasured q mid behind r r' n p h z =
-      let last : Sound none (replied r' n ∷ behind) = rw (asked_none mid p) at (sound_right none mid (replied r' n ∷ behind) h.1) in
+      let last : Sound None (replied r' n ∷ behind) = rw (asked_none mid p) at (sound_right None mid (replied r' n ∷ behind) h.1) in
       false≢true (sym (rw z at (last.0 refl)))
 
 -- The machine.
@@ -193,25 +193,25 @@ module _ {D : Rule} (M : Machine D) (L : Laws M) where
   logged_strike (false ∷ ms) (x ∷ xs) = ap (λ (l : List (Entry D)). note M x ∷ l) (logged_strike ms xs)
 
   -- promise: no3.6, no5.7, demand.3 (of any machine that obeys the five laws)
-  pub demand3 : (a : M.Record) (calls : List (Call D)) → M.pending a ≡ none → Accepted (log_of M a calls) → Demand3 M a calls
+  pub demand3 : (a : M.Record) (calls : List (Call D)) → M.pending a ≡ None → Accepted (log_of M a calls) → Demand3 M a calls
   demand3 a calls new ok =
       let s = M.settings a in
       let log = log_of M a calls in
       let both : Same a (marks D s log) log (run M a calls) (after M a calls) = rw new at (same calls a ok) in
-      let quiet : Calm s none (run M a calls) = rw new at (calm calls a ok) in
-      let fair : Sound D s none log = calm_sound s none (run M a calls) quiet in
+      let quiet : Calm s None (run M a calls) = rw new at (calm calls a ok) in
+      let fair : Sound D s None log = calm_sound s None (run M a calls) quiet in
       record {
         same_end = both.0;
         same_answers = both.1;
         same_log = ap (logged M) both.1 ∙ logged_strike (marks D s log) (run M a calls);
-        no_action = λ before behind r x e h. (calm_right s none before (of_reply r x ∷ behind) (rw e at quiet)).0 h;
+        no_action = λ before behind r x e h. (calm_right s None before (of_reply r x ∷ behind) (rw e at quiet)).0 h;
         one_measured = λ before mid behind e p.
             few_measured D s (asked D s before) mid p
-            (sound_left D s (asked D s before) mid behind (sound_right D s none before (mid ++ behind) (rw e at fair)));
-        measured_kept = λ before behind r e. kept D s (asked D s before) r behind (sound_right D s none before (replied r 0 ∷ behind) (rw e at fair));
+            (sound_left D s (asked D s before) mid behind (sound_right D s None before (mid ++ behind) (rw e at fair)));
+        measured_kept = λ before behind r e. kept D s (asked D s before) r behind (sound_right D s None before (replied r 0 ∷ behind) (rw e at fair));
         rest_struck = λ before mid behind r r' n e p. (
           behind_struck D s before mid r r' n p,
           behind_unmeasured D s (asked D s before) mid behind r r' n p
-              (sound_right D s none before (replied r 0 ∷ (mid ++ replied r' n ∷ behind)) (rw e at fair)),
+              (sound_right D s None before (replied r 0 ∷ (mid ++ replied r' n ∷ behind)) (rw e at fair)),
         );
       }

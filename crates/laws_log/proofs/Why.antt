@@ -5,7 +5,7 @@
 use mathlib.Core.Path.{◌≡◌, refl, sym, ap, ◌∙◌}
 use mathlib.Core.Bool.{Bool, true, false, cond, not, ◌||◌}
 use mathlib.Core.List.{List, [], ◌∷◌, ◌++◌}
-use mathlib.Core.Option.{Option, none, some}
+use Rattle.std.specs.Prelude.{Option, Some, None}
 use Prim.Native.Nat.{ℕ, ◌<◌}
 use native.Mathlib.Omega.{arith}
 use lib.Dec.{T, eqb, eqb→eq}
@@ -48,14 +48,6 @@ answered_no [] z = refl
 answered_no (timed t n ∷ es) z = rw (cond_same (eqb n 20) false) (answered_no es z.1)
 answered_no (replied r n ∷ es) z = rw (not_T (eqb n 0) z.0) (answered_no es z.1)
 
-no_poll_left : {D : Rule} (xs ys : List (Entry D)) → NoPoll (xs ++ ys) → NoPoll xs
-no_poll_left [] ys p = tt
-no_poll_left (x ∷ xs) ys p = (p.0, no_poll_left xs ys p.1)
-
-no_poll_right : {D : Rule} (xs ys : List (Entry D)) → NoPoll (xs ++ ys) → NoPoll ys
-no_poll_right [] ys p = p
-no_poll_right (x ∷ xs) ys p = no_poll_right xs ys p.1
-
 -- ---- a log in which each reply that comes so far is told its reason
 module _ (D : Rule) (s : D.Settings) where
   abbrev Says : Option D.Request → Bool → Entry D → Type 0
@@ -75,16 +67,16 @@ module _ (D : Rule) (s : D.Settings) where
   told_right q w (x ∷ xs) ys h = told_right (next D s q x) (next_answered w x) xs ys h.1
 
   -- where nothing is asked for there is a reason
-  some_reason : (w : Bool) (r : D.Reply) → 0 < reason D none w r
+  some_reason : (w : Bool) (r : D.Reply) → 0 < reason D None w r
   some_reason true r = omega arith
   some_reason false r = omega arith
 
   -- so nothing is measured before a poll was sent
-  polled : (older : List (Entry D)) (r : D.Reply) (since : List (Entry D)) → Told none false (older ++ replied r 0 ∷ since) → NoPoll older → ⊥
+  polled : (older : List (Entry D)) (r : D.Reply) (since : List (Entry D)) → Told None false (older ++ replied r 0 ∷ since) → NoPoll older → ⊥
   polled older r since h p =
-      let e : 0 ≡ reason D (asked D s older) (answered_from false older) r = (told_right none false older (replied r 0 ∷ since) h).0 tt in
-      let k : 0 ≡ reason D none (answered_from false older) r = rw (asked_none D s older p) at e in
-      not_both (reason D none (answered_from false older) r) (sym k) (some_reason (answered_from false older) r)
+      let e : 0 ≡ reason D (asked D s older) (answered_from false older) r = (told_right None false older (replied r 0 ∷ since) h).0 tt in
+      let k : 0 ≡ reason D None (answered_from false older) r = rw (asked_none D s older p) at e in
+      not_both (reason D None (answered_from false older) r) (sym k) (some_reason (answered_from false older) r)
 
   -- the reason that a log gives
   abbrev why : List (Entry D) → D.Reply → ℕ
@@ -92,7 +84,7 @@ module _ (D : Rule) (s : D.Settings) where
 
   why_answered : (older since : List (Entry D)) (m r : D.Reply) → NoPoll since → why (older ++ replied m 0 ∷ since) r ≡ 13
   why_answered older since m r p = rw (
-    asked_append D s none older (replied m 0 ∷ since),
+    asked_append D s None older (replied m 0 ∷ since),
     asked_none D s since p,
     answered_append false older
         (replied m 0 ∷ since),
@@ -101,7 +93,7 @@ module _ (D : Rule) (s : D.Settings) where
 
   why_open : (older since : List (Entry D)) (t : D.Timer) (r : D.Reply) → NoPoll since → NoZero since →
       why (older ++ timed t 20 ∷ since) r ≡ cond (D.unexpired (D.asks s t) r) 0 14
-  why_open older since t r p z = rw (asked_append D s none older (timed t 20 ∷ since), asked_stays D s (some (D.asks s t)) since p z)
+  why_open older since t r p z = rw (asked_append D s None older (timed t 20 ∷ since), asked_stays D s (Some (D.asks s t)) since p z)
 
   why_unsent : (before : List (Entry D)) (r : D.Reply) → NoPoll before → NoZero before → why before r ≡ 12
   why_unsent before r p z = rw (asked_none D s before p, answered_no before z)
@@ -113,7 +105,7 @@ module _ (D : Rule) (s : D.Settings) where
     late : Late s before r → Story before r 14
     live : Story before r 0
 
-  story : (before : List (Entry D)) (r : D.Reply) → Told none false before → Story before r (why before r)
+  story : (before : List (Entry D)) (r : D.Reply) → Told None false before → Story before r (why before r)
   story before r h = by before (kind before) h
     where
       open_by : (older since : List (Entry D)) (t : D.Timer) → NoPoll since → NoZero since → (b : Bool) → D.unexpired (D.asks s t) r ≡ b →
@@ -121,7 +113,7 @@ module _ (D : Rule) (s : D.Settings) where
       open_by older since t p z true e = live
       open_by older since t p z false e = late (record { older = older; since = since; poll = t; parts = refl; last = p; unmeasured = z; passed = e })
 
-      by : (log : List (Entry D)) → Kind log → Told none false log → Story log r (why log r)
+      by : (log : List (Entry D)) → Kind log → Told None false log → Story log r (why log r)
       by _ (unsent log p z) h = rw (why_unsent log r p z) (never p)
       by _ (spent older since m p) h =
           rw (why_answered older since m r p) (answered
@@ -129,24 +121,24 @@ module _ (D : Rule) (s : D.Settings) where
       by _ (open_poll older since t p z) h = rw (why_open older since t r p z) (open_by older since t p z (D.unexpired (D.asks s t) r) refl)
 
   -- with no poll sent none is measured, so the reason is 12
-  no_zero : (w : Bool) (xs : List (Entry D)) → NoPoll xs → Told none w xs → NoZero xs
+  no_zero : (w : Bool) (xs : List (Entry D)) → NoPoll xs → Told None w xs → NoZero xs
   no_zero w [] p h = tt
   no_zero w (timed t n ∷ xs) p h = (tt, no_zero w xs p.1 (rw (not_T (eqb n 20) p.0) at h.1))
   no_zero w (replied r n ∷ xs) p h = by (eqb n 0) refl (no_zero w xs p.1)
     where
-      by : (b : Bool) → eqb n 0 ≡ b → (Told none w xs → NoZero xs) → T (not (eqb n 0)) × NoZero xs
+      by : (b : Bool) → eqb n 0 ≡ b → (Told None w xs → NoZero xs) → T (not (eqb n 0)) × NoZero xs
       by true e more =
           let z : n ≡ 0 = eqb→eq n 0 (rw e tt) in
-          let k : 0 ≡ reason D none w r = (rw z at h.0) tt in
-          absurd (not_both (reason D none w r) (sym k) (some_reason w r))
+          let k : 0 ≡ reason D None w r = (rw z at h.0) tt in
+          absurd (not_both (reason D None w r) (sym k) (some_reason w r))
       by false e more = (rw e tt, more (rw e at h.1))
 
-  module _ (before behind : List (Entry D)) (r : D.Reply) (n : ℕ) (h : Told none false (before ++ replied r n ∷ behind)) (c : T (considered n)) where
+  module _ (before behind : List (Entry D)) (r : D.Reply) (n : ℕ) (h : Told None false (before ++ replied r n ∷ behind)) (c : T (considered n)) where
     is_why : says n ≡ why before r
-    is_why = (told_right none false before (replied r n ∷ behind) h).0 c
+    is_why = (told_right None false before (replied r n ∷ behind) h).0 c
 
-    before_told : Told none false before
-    before_told = told_left none false before (replied r n ∷ behind) h
+    before_told : Told None false before
+    before_told = told_left None false before (replied r n ∷ behind) h
 
     -- what was said is the story's
     says_why : (k : ℕ) → says k ≡ k → n ≡ k → why before r ≡ k
@@ -203,10 +195,10 @@ module _ {D : Rule} (M : Machine D) (L : Laws M) where
   all (c ∷ cs) a = (one a c, rw (L.settings_kept a c, L.pending_next a c, L.answered_next a c) at (all cs (step M a c)))
 
   -- promise: no3.5 (of any machine that obeys the laws)
-  pub why_told : (a : M.Record) (calls : List (Call D)) → M.pending a ≡ none → M.answered a ≡ false → Why M a calls
+  pub why_told : (a : M.Record) (calls : List (Call D)) → M.pending a ≡ None → M.answered a ≡ false → Why M a calls
   why_told a calls new unanswered =
       let s = M.settings a in
-      let h : Told D s none false (log_of M a calls) = rw (new, unanswered) at (all calls a) in
+      let h : Told D s None false (log_of M a calls) = rw (new, unanswered) at (all calls a) in
       record {
         never_sent_lem = λ before behind r n e c. let k = rw e at h in (is_12 D s before behind r n k c, of_12 D s before behind r n k c);
         already_measured_lem = λ before behind r n e c. let k = rw e at h in (is_13 D s before behind r n k c, of_13 D s before behind r n k c);

@@ -1,7 +1,6 @@
 -- A log, and what it alone says (RULES, "The three demands"): the log holds each call's inputs and number. Nothing here depends on a record.
 -- Assumes nothing.
-use Rattle.std.specs.Prelude.{Bool, true, false, cond, not, ◌&&◌, ◌||◌, List, [], ◌∷◌, ℕ, suc, T, eqb}
-use Rattle.std.proofs.Math.Option.{Option, none, some}
+use Rattle.std.specs.Prelude.{Bool, true, false, cond, not, ◌&&◌, ◌||◌, List, [], ◌∷◌, ℕ, suc, T, eqb, Option, Some, None}
 
 -- What RULES says about the inputs: the request that a sent poll asks for, part 8 for a reply's identifiers, and its time at most the deadline.
 pub record Rule : Type 1 where
@@ -52,8 +51,8 @@ measured_in (e ∷ es) = cond (measured e) (suc (measured_in es)) (measured_in e
 
 -- The request that is asked for after one more call: a sent poll asks, a measured reply leaves none, and nothing else changes it.
 abbrev pub next : (D : Rule) → D.Settings → Option D.Request → Entry D → Option D.Request
-next D s q (timed t n) = cond (eqb n 20) (some (D.asks s t)) q
-next D s q (replied r n) = cond (eqb n 0) none q
+next D s q (timed t n) = cond (eqb n 20) (Some (D.asks s t)) q
+next D s q (replied r n) = cond (eqb n 0) None q
 
 abbrev pub asked_from : (D : Rule) → D.Settings → Option D.Request → List (Entry D) → Option D.Request
 asked_from D s q [] = q
@@ -62,7 +61,7 @@ asked_from D s q (e ∷ es) = asked_from D s (next D s q e) es
 -- The last poll sent, unmeasured, as a log from a new association says it.
 -- promise: demand.3 (by the log alone)
 abbrev pub asked : (D : Rule) → D.Settings → List (Entry D) → Option D.Request
-asked D s log = asked_from D s none log
+asked D s log = asked_from D s None log
 
 -- Whether a reply has been measured since the last sent poll (RULES, No. 3): a sent poll makes it no, a measured reply yes, and nothing else changes it.
 -- promise: no3.5
@@ -79,9 +78,9 @@ answered_from w (e ∷ es) = answered_from (next_answered w e) es
 --     unmeasured and its deadline < now. This holds of each reply that was read, with an unbroken list and an expected version.
 --     edit: laws_log/a_measured_poll_was_never_sent
 abbrev pub reason : (D : Rule) → Option D.Request → Bool → D.Reply → ℕ
-reason D none false r = 12
-reason D none true r = 13
-reason D (some q) w r = cond (D.unexpired q r) 0 14
+reason D None false r = 12
+reason D None true r = 13
+reason D (Some q) w r = cond (D.unexpired q r) 0 14
 
 -- Which of these a number says, 0 if none; and the numbers of replies that get this far: well-formed, and of a version that is expected (not 2).
 abbrev pub says : ℕ → ℕ
@@ -93,8 +92,8 @@ considered n = well_formed n && not (eqb n 2)
 
 -- The reply answers what is asked for, in time.
 abbrev pub live : (D : Rule) → D.Settings → Option D.Request → D.Reply → Bool
-live D s none r = false
-live D s (some q) r = D.unexpired q r && D.answers s q r
+live D s None r = false
+live D s (Some q) r = D.unexpired q r && D.answers s q r
 
 abbrev pub strikes : (D : Rule) → D.Settings → Option D.Request → Entry D → Bool
 strikes D s q (timed t n) = false
@@ -111,7 +110,7 @@ marks_from D s q [] = []
 marks_from D s q (e ∷ es) = strikes D s q e ∷ marks_from D s (next D s q e) es
 
 abbrev pub marks : (D : Rule) → D.Settings → List (Entry D) → List Bool
-marks D s log = marks_from D s none log
+marks D s log = marks_from D s None log
 
 abbrev pub strike : {A : Type 0} → List Bool → List A → List A
 strike [] xs = xs

@@ -1,7 +1,6 @@
 -- A machine that is driven by timers and replies, its runs and their logs, and the laws that make striking sound.
 -- Assumes nothing.
-use Rattle.std.specs.Prelude.{◌≡◌, Bool, false, List, [], ◌∷◌, ℕ, T}
-use Rattle.std.proofs.Math.Option.{Option}
+use Rattle.std.specs.Prelude.{◌≡◌, Bool, false, List, [], ◌∷◌, ℕ, T, Option}
 use Rattle.laws_log.specs.Log.{Rule, Entry, timed, replied, next, live, well_formed, refusal, next_answered, reason, says, considered}
 
 pub record Machine (D : Rule) : Type 1 where

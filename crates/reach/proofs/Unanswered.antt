@@ -2,7 +2,8 @@
 -- Assumes nothing.
 use mathlib.Core.Path.{◌≡◌, refl, ap, ◌∙◌}
 use mathlib.Core.Bool.{Bool, true, false, cond}
-use Prim.Native.Nat.{ℕ, zero, suc, ◌+◌, ◌*◌, ◌/◌, ◌%◌, ◌≤◌, min}
+use mathlib.Core.Logic.{◌≢◌}
+use Prim.Native.Nat.{ℕ, zero, suc, ◌+◌, ◌*◌, ◌/◌, ◌%◌, ◌≤◌, ◌<◌, min}
 use native.Mathlib.Omega.{arith}
 use lib.Dec.{eqb}
 use borrow.Author.Tests.{eq-eqb, ne_eqb, eqb-true, eqb-false}
@@ -39,6 +40,39 @@ only_6 n x e = even (suc (suc (suc (suc (suc (suc n)))))) x 5 (omega arith) (onl
 
 pub only_7 : (n x : ℕ) → x % 256 ≡ 128 → trailing (suc (suc (suc (suc (suc (suc (suc (suc n)))))))) x ≡ 7
 only_7 n x e = even (suc (suc (suc (suc (suc (suc (suc n))))))) x 6 (omega arith) (only_6 n (x / 2) (omega arith))
+
+-- none of the eight bits is set
+pub none_of_8 : trailing 8 0 ≡ 8
+unfolding trailing
+none_of_8 = refl
+
+-- what the comparisons of the code find, for `grind`
+module _ (x : ℕ) where
+  pub at_0 : x % 2 ≢ 0 → trailing 8 x ≡ 0
+  at_0 h = only_0 7 x (omega arith)
+
+  pub at_1 : x % 2 ≡ 0 → x % 4 ≢ 0 → trailing 8 x ≡ 1
+  at_1 e h = only_1 6 x (omega arith)
+
+  pub at_2 : x % 4 ≡ 0 → x % 8 ≢ 0 → trailing 8 x ≡ 2
+  at_2 e h = only_2 5 x (omega arith)
+
+  pub at_3 : x % 8 ≡ 0 → x % 16 ≢ 0 → trailing 8 x ≡ 3
+  at_3 e h = only_3 4 x (omega arith)
+
+  pub at_4 : x % 16 ≡ 0 → x % 32 ≢ 0 → trailing 8 x ≡ 4
+  at_4 e h = only_4 3 x (omega arith)
+
+  pub at_5 : x % 32 ≡ 0 → x % 64 ≢ 0 → trailing 8 x ≡ 5
+  at_5 e h = only_5 2 x (omega arith)
+
+  pub at_6 : x % 64 ≡ 0 → x % 128 ≢ 0 → trailing 8 x ≡ 6
+  at_6 e h = only_6 1 x (omega arith)
+
+  pub at_7 : x % 128 ≡ 0 → x < 256 → x ≢ 0 → trailing 8 x ≡ 7
+  at_7 e b h = only_7 0 x (omega arith)
+
+pub ruleset lowest = (at_0, at_1, at_2, at_3, at_4, at_5, at_6, at_7, none_of_8)
 
 -- ---- a poll
 

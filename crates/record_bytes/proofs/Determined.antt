@@ -3,11 +3,15 @@
 use mathlib.Core.Path.{refl, sym, ◌∙◌}
 use Rattle.words.specs.Determined.{Determined, DeterminedLent}
 use Rattle.record_bytes.proofs.open_record.Reads as open-record
+use Rattle.record_bytes.proofs.no_record.Reads as no-record
 use Rattle.record_bytes.proofs.store_state.Reads as store-state
 use Rattle.record_bytes.proofs.store_head.Reads as store-head
 
 pub open_record_determined : Determined open-record.Post
 open_record_determined κs a y z e f p q = p ∙ sym q
+
+pub no_record_determined : Determined no-record.Post
+no_record_determined κs a y z e f p q = p ∙ sym q
 
 pub store_state_determined : DeterminedLent store-state.Post (λ κs e. e.0.now)
 store_state_determined κs a y z e f p q = (refl, p.0 ∙ sym q.0)

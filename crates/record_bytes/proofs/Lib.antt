@@ -1,5 +1,6 @@
 -- Laws that belong to no one function.
 pub mod State
+pub mod Head
 pub mod Packed
 pub mod Unpacked
 pub mod RoundTrip

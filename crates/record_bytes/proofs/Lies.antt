@@ -12,7 +12,7 @@ use Rattle.words.specs.Bytes.{part}
 use Rattle.words.proofs.Bytes.{Bytes, length_part}
 use Rattle.cookiestash.specs.declared.Slot.{Slot}
 use Rattle.cookiestash.specs.declared.CookieStash.{CookieStash}
-use Rattle.cookiestash.specs.Stash.{empty_slot, get_of}
+use Rattle.cookiestash.specs.Stash.{empty_slot, get_of, slot_or_empty}
 use Rattle.cookiestash.specs.StoreList.{store_list_of}
 use Rattle.cookiestash.specs.Falling.{none_dropped, dropped_of}
 use Rattle.cookiestash.specs.Handed.{handed_of}
@@ -125,12 +125,13 @@ module _ (a : Association) (b : List ℕ) (l : Lies a b) where
   put t = ap (λ (x : List ℕ). with_stash cap x t) l.is ∙ with_stash_lem a l.uid t
 
   pub takes : (t : Bool) (ys : List ℕ) → taken_in cap t b ys
-      ≡ took (packed (A.with_stash a (cond t (get_of cap a.stash).stash a.stash))) (cond t (handed_of (get_of cap a.stash).slot ys) ys)
+      ≡ took (packed (A.with_stash a (cond t (get_of cap a.stash).stash a.stash))) (cond t (handed_of (slot_or_empty (get_of cap a.stash)) ys) ys)
   unfolding taken_in
   takes true ys =
-      ap (λ (t : Bool). cond t (took (with_stash cap b (get_of cap (stash_in b cap)).stash) (handed_of (get_of cap (stash_in b cap)).slot ys)) (took b ys)) sized
-      ∙ ap (λ (s : CookieStash). took (with_stash cap b (get_of cap s).stash) (handed_of (get_of cap s).slot ys)) l.own
-      ∙ ap (λ (x : List ℕ). took x (handed_of (get_of cap a.stash).slot ys)) (put (get_of cap a.stash).stash)
+      ap (λ (t : Bool). cond t (took (with_stash cap b (get_of cap (stash_in b cap)).stash) (handed_of (slot_or_empty (get_of cap (stash_in b cap))) ys))
+      (took b ys)) sized
+      ∙ ap (λ (s : CookieStash). took (with_stash cap b (get_of cap s).stash) (handed_of (slot_or_empty (get_of cap s)) ys)) l.own
+      ∙ ap (λ (x : List ℕ). took x (handed_of (slot_or_empty (get_of cap a.stash)) ys)) (put (get_of cap a.stash).stash)
   takes false ys = ap (λ (x : List ℕ). took x ys) l.is
 
   pub refills : (t : Bool) (list : List ℕ) →

@@ -1,21 +1,20 @@
 -- The state in its 63 bytes: what is written has its length, is of a kind and is read back; and the other way round.
 -- Assumes nothing.
-use Prim.Native.Nat.{ℕ, zero, suc, ◌+◌}
+use Prim.Native.Nat.{ℕ, ◌+◌}
 use mathlib.Core.Path.{◌≡◌, refl, sym, ap, ◌∙◌}
 use mathlib.Core.Bool.{true, ◌&&◌}
-use mathlib.Core.List.{List, [], ◌∷◌, ◌++◌, append-nil}
+use mathlib.Core.List.{List, ◌∷◌, ◌++◌, append-nil}
 use native.Mathlib.Omega.{arith}
 use lib.ListN.{length, get_or, drop, drop_of_length-le}
 use lib.Seq.{drop-cons, take_all}
-use Rattle.words.specs.Bytes.{part, to_be}
-use Rattle.words.proofs.Bytes.{Bytes, part_drop, bytes_part, length_part, length_to_be}
+use Rattle.words.specs.Bytes.{part}
+use Rattle.words.proofs.Bytes.{Bytes, part_drop, bytes_part, length_part, word, word_again}
 use Rattle.words.proofs.Tests.{both}
 use Rattle.association.specs.declared.Pending.{Pending}
 use Rattle.association.specs.declared.State.{State}
-use Rattle.handover_groups.specs.Codes.{yes_code}
 use Rattle.handover_groups.specs.State.{version_bytes, version_of, version_known, polls_bytes, polls_of, source_bytes, source_of, source_known}
-use Rattle.handover_groups.proofs.OfCodes.{word, word_again, yes_kept, yes_again}
-use Rattle.handover_groups.proofs.OfState.{version_back, version_known_lem, version_long, version_again, polls_back, polls_long, polls_again, source_back, source_known_lem, source_long, source_again}
+use Rattle.handover_groups.proofs.OfCodes.{yes_kept, yes_again}
+use Rattle.handover_groups.proofs.OfState.{version_back, version_known_lem, version_again, polls_back, polls_again, source_back, source_known_lem, source_again}
 use Rattle.record_bytes.specs.State.{tries_bytes, tries_of, pending_bytes, pending_of, pending_known, state_bytes, state_of, state_known, PendingFit, StateFit}
 
 -- ---- what is written is read back
@@ -42,9 +41,6 @@ pending_long p n = omega (arith, n)
 
 -- a group, read out of the groups
 module _ (s : State) where
-  bytes : List ℕ
-  bytes = state_bytes s
-
   the_version : part (state_bytes s) 3 2 ≡ version_bytes s.version
   unfolding state_bytes tries_bytes version_bytes part
   the_version = refl
@@ -127,30 +123,3 @@ state_again b n y e =
     ∙ ap (λ (x : List ℕ). part b 0 3 ++ (part b 3 2 ++ x)) (part_drop b 5 2)
     ∙ ap (λ (x : List ℕ). part b 0 3 ++ x) (part_drop b 3 2)
     ∙ part_drop b 0 3
-
--- ---- the bytes, one by one
-
--- the n bytes from an offset on
-abbrev pub spelled : List ℕ → ℕ → ℕ → List ℕ
-spelled l k zero = []
-spelled l k (suc n) = get_or l k 0 ∷ spelled l (suc k) n
-
-pub spelled_is : (l : List ℕ) (k n : ℕ) → length l ≡ k + n → spelled l k n ≡ drop k l
-spelled_is l k zero e = sym (drop_of_length-le l {i = k} (omega arith))
-spelled_is l k (suc n) e = ap (λ (x : List ℕ). get_or l k 0 ∷ x) (spelled_is l (suc k) n (omega arith)) ∙ sym (drop-cons l k 0 (omega arith))
-
--- each group by its bytes
-pub state_spelled : (s : State) {t a : ℕ} {v p g i d : List ℕ} → v ≡ version_bytes s.version → p ≡ polls_bytes s.polls → g ≡ source_bytes s.source →
-    t ≡ yes_code s.request.present → a ≡ yes_code s.request.answered → i ≡ to_be 8 s.request.id → d ≡ to_be 8 s.request.deadline →
-    length s.request.uid ≡ 32 →
-    s.effort.reach.0 ∷ s.effort.tries ∷ s.effort.unanswered
-    ∷ (spelled v 0 2 ++ (spelled p 0 2 ++ (spelled g 0 6 ++ (t ∷ a ∷ (spelled i 0 8 ++ (spelled d 0 8 ++ spelled s.request.uid 0 32)))))) ≡ state_bytes s
-unfolding state_bytes tries_bytes pending_bytes
-state_spelled s {v = v} {p = p} {g = g} {i = i} {d = d} ev ep eg et ea ei ed n =
-    let wv = spelled_is v 0 2 (ap length ev ∙ version_long s.version) ∙ ev in
-    let wp = spelled_is p 0 2 (ap length ep ∙ polls_long s.polls) ∙ ep in
-    let wg = spelled_is g 0 6 (ap length eg ∙ source_long s.source) ∙ eg in
-    let wi = spelled_is i 0 8 (ap length ei ∙ length_to_be 8 s.request.id) ∙ ei in
-    let wd = spelled_is d 0 8 (ap length ed ∙ length_to_be 8 s.request.deadline) ∙ ed in
-    let wu = spelled_is s.request.uid 0 32 n in
-    λ j. s.effort.reach.0 ∷ s.effort.tries ∷ s.effort.unanswered ∷ (wv j ++ (wp j ++ (wg j ++ (et j ∷ ea j ∷ (wi j ++ (wd j ++ wu j))))))

@@ -2,56 +2,76 @@
 -- Assumes nothing.
 use Prim.Native.Nat.{ℕ, ◌≤◌}
 use mathlib.Core.Path.{◌≡◌, refl, sym, ap, ◌∙◌}
-use mathlib.Core.Bool.{Bool, true, false, cond}
-use mathlib.Core.List.{List, [], ◌∷◌, ◌++◌, append_assoc, append-nil}
+use mathlib.Core.Bool.{Bool, true, false, cond, ◌&&◌}
+use mathlib.Core.List.{List, [], ◌∷◌, ◌++◌, append_assoc}
 use native.Mathlib.Omega.{arith}
 use borrow.Author.Tests.{le-leb, lt-leb}
 use borrow.Rule.Slice.PartMut.{put_mid}
-use lib.ListN.{length, get_or, take, drop, set, replicate, length-append, length-drop, drop_of_length-le}
-use lib.Seq.{take-length, take_at, drop_at, drop-drop, drop-cons, set_at}
+use lib.ListN.{length, get_or, take, drop, set, length-append, length-drop}
+use lib.Seq.{take_at, drop_at, drop-drop, drop-cons, set_at}
+use Rattle.words.specs.Bytes.{part}
 use Rattle.words.proofs.Tests.{when, unless}
 use Rattle.association.specs.declared.Settings.{Settings}
 use Rattle.association.specs.declared.State.{State}
-use Rattle.handover_groups.specs.Settings.{settings_bytes}
+use Rattle.handover_groups.specs.Settings.{settings_bytes, settings_known}
 use Rattle.handover_groups.proofs.OfSettings.{settings_long}
 use Rattle.record_bytes.specs.declared.Opened.{Opened}
-use Rattle.record_bytes.specs.State.{state_bytes}
-use Rattle.record_bytes.specs.Record.{ok_in, ok, settings_in, opened, opened_of, stored_state, headed}
+use Rattle.record_bytes.specs.State.{state_bytes, state_known}
+use Rattle.record_bytes.proofs.Head.{head_part}
+use Rattle.std.specs.Prelude.{Some, None}
+use Rattle.std.specs.Bool.{then_some}
+use Rattle.record_stash.specs.Rows.{sized_in}
+use Rattle.record_bytes.specs.Record.{ok_in, ok, opened, opened_of, stored_state, headed}
 
 -- ---- opened
 
 module _ (b : List ℕ) where
-  pub not_opened : ok b ≡ false → opened false (replicate 92 0) ≡ opened_of b
+  pub not_opened : ok b ≡ false → None ≡ opened_of b
   unfolding opened_of
-  not_opened e = sym (unless (opened true b) (opened false (replicate 92 0)) e)
+  not_opened e = sym (unless (Some (opened b)) None e)
 
-  pub is_opened : ok b ≡ true → opened true b ≡ opened_of b
+  then_opened : then_some (ok b) (opened b) ≡ opened_of b
   unfolding opened_of
-  is_opened e = sym (when (opened true b) (opened false (replicate 92 0)) e)
+  then_opened = by (ok b)
+    where
+      by : (t : Bool) → then_some t (opened b) ≡ cond t (Some (opened b)) None
+      by true = refl
+      by false = refl
 
-  pub ok_by : (s : Settings) (t : Bool) → s ≡ settings_in b → ok_in b s.capacity ≡ t → ok b ≡ t
-  unfolding ok
-  ok_by s t e k = ap (λ (x : Settings). ok_in b x.capacity) (sym e) ∙ k
+  -- what was found in the head of the bytes, and the three tests
+  pub opened_by : (head : List ℕ) → head ≡ take 92 b → {r : Opened} → r ≡ opened b → {s k : Bool} → s ≡ sized_in b r.settings.capacity →
+      k ≡ (s && (settings_known (part head 0 27) && state_known (part head 29 63))) → then_some k r ≡ opened_of b
+  unfolding ok ok_in
+  opened_by head e {r = r} er es ek =
+      let settings = ap (λ (x : List ℕ). settings_known (part x 0 27)) e ∙ ap settings_known (head_part b 0 27 (omega arith)) in
+      let state = ap (λ (x : List ℕ). state_known (part x 29 63)) e ∙ ap state_known (head_part b 29 63 (omega arith)) in
+      let sized = es ∙ ap (λ (x : Opened). sized_in b x.settings.capacity) er in
+      (λ i. then_some ((ek ∙ (λ j. sized j && (settings j && state j))) i) (er i)) ∙ then_opened
 
 -- ---- what a call finds
 
-ok_of_either : (b z : List ℕ) (t : Bool) → (cond t (opened true b) (opened false z)).ok ≡ t
-ok_of_either b z true = refl
-ok_of_either b z false = refl
+-- a record, opened
+pub record Found (b : List ℕ) (r : Opened) : Type 0 where
+  pub ok : ok b ≡ true
+  pub is : r ≡ opened b
 
-module _ (b : List ℕ) (r : Opened) (e : r ≡ opened_of b) where
-  pub found_ok : ok b ≡ r.ok
-  unfolding opened_of
-  found_ok = sym (ap (λ (x : Opened). x.ok) e ∙ ok_of_either b (replicate 92 0) (ok b))
+pub found : (b : List ℕ) (r : Opened) → Some r ≡ opened_of b → Found b r
+unfolding opened_of
+found b r e = by (ok b) refl e
+  where
+    by : (t : Bool) → ok b ≡ t → Some r ≡ cond t (Some (opened b)) None → Found b r
+    by true k f = record { ok = k; is = cc }
+    by false k f = absurd (let z : ◌≡◌ {A = ℕ} 0 1 = cc in omega arith)
 
-  pub found_is : ok b ≡ true → r ≡ opened true b
-  found_is o = e ∙ sym (is_opened b o)
+pub none_found : (b : List ℕ) → None ≡ opened_of b → ok b ≡ false
+unfolding opened_of
+none_found b e = by (ok b) refl e
+  where
+    by : (t : Bool) → ok b ≡ t → None ≡ cond t (Some (opened b)) None → ok b ≡ false
+    by true k f = absurd (let z : ◌≡◌ {A = ℕ} 0 1 = cc in omega arith)
+    by false k f = k
 
 -- ---- written
-
--- bytes copied over a part that has no more of them
-pub copied : (x s w y : List ℕ) → w ≡ s → length x ≤ length s → y ≡ take (length w) w ++ drop (length w) x → y ≡ s
-copied x s w y e n f = f ∙ (λ i. take-length w i ++ drop_of_length-le x {i = length w} (omega (arith, ap length e)) i) ∙ append-nil w ∙ e
 
 module _ (b : List ℕ) where
   pub state_short : (q : State) → length b ≤ 91 → b ≡ stored_state b q

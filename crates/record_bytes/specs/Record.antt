@@ -7,7 +7,7 @@
 --     92  for each place of the stash, as many as the capacity: 724 bytes, length 2
 --
 -- Assumes nothing.
-use Rattle.std.specs.Prelude.{ℕ, Bool, true, false, ◌&&◌, cond, List, ◌∷◌, ◌++◌, leb, length, take, drop, replicate}
+use Rattle.std.specs.Prelude.{ℕ, Bool, ◌&&◌, cond, List, ◌∷◌, ◌++◌, leb, length, take, drop, Option, Some, None}
 use Rattle.words.specs.Bytes.{part}
 use Rattle.association.specs.declared.Settings.{Settings}
 use Rattle.association.specs.declared.State.{State}
@@ -49,12 +49,13 @@ ok b = ok_in b (settings_in b).capacity
 
 -- ---- opened, and written
 
--- whether they are a record, with settings and state; bytes that are no record have those of 92 zeros
-abbrev pub opened : Bool → List ℕ → Opened
-opened t b = record { ok = t; settings = settings_in b; state = state_in b }
+-- the settings and the state that stand in bytes
+abbrev pub opened : List ℕ → Opened
+opened b = record { settings = settings_in b; state = state_in b }
 
-unfoldable pub opened_of : List ℕ → Opened
-opened_of b = cond (ok b) (opened true b) (opened false (replicate 92 0))
+-- those of a record; none of bytes that are no record
+unfoldable pub opened_of : List ℕ → Option Opened
+opened_of b = cond (ok b) (Some (opened b)) None
 
 -- another state; bytes that are too short for a head do not change
 unfoldable pub stored_state : List ℕ → State → List ℕ

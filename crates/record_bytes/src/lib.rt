@@ -3,232 +3,116 @@
 // Rule: RULES, "Settings and a whole record"; the layout is in specs/Record.antt, the state's in specs/State.antt.
 #![tactic(auto)]
 
-ghost use Rattle.std.specs.Prelude.{◌≡◌, false, ◌≤◌, length, replicate};
-ghost use Rattle.handover_groups.specs.Codes.{yes_code};
+ghost use Rattle.std.specs.Prelude.{◌≡◌, replicate};
+ghost use Rattle.words.specs.Bytes.{part};
 ghost use Rattle.handover_groups.proofs.OfSettings.{SettingsFit};
-ghost use Rattle.record_bytes.specs.State.{tries_of, pending_of, pending_known, state_bytes, state_of, state_known, StateFit};
-ghost use Rattle.record_bytes.specs.Record.{ok_in, opened, opened_of, stored_state, headed};
+ghost use Rattle.record_bytes.specs.State.{pending_bytes, state_bytes, state_known, StateFit};
+ghost use Rattle.record_bytes.specs.Record.{state_in, opened, opened_of, stored_state, headed};
 
 use association::{Effort, Pending, Settings, State};
 use reach::Reach;
 
-// What is read from lent bytes: whether they are a record, its settings and its state.
+// What the bytes of a record hold, except its stash: its settings and its state.
 #[derive(Clone, Copy)]
 pub struct Opened {
-    pub ok: bool,
     pub settings: Settings,
     pub state: State,
 }
 
-fn tries_of(b: &[u8]) -> Effort
-    requires { length b.now ≡ 3 }
-    ensures { result ≡ tries_of b.now }
+// Reads the state from the head of a record.
+// Kept: beside `state_in` of handover_load, which has a body for each part and no request; both read the parts by functions of handover_groups.
+fn state_in(head: &[u8; 92]) -> State
+    ensures { result ≡ state_in head.now }
 {
-    Effort {
-        reach: Reach(b[0]),
-        tries: b[1],
-        unanswered: b[2],
-    }
-}
-
-fn uid_of(b: &[u8]) -> [u8; 32]
-    requires { length b.now ≡ 32 }
-    ensures { result ≡ b.now }
-{
-    let mut uid = [0u8; 32];
-    uid.copy_from_slice(b);
-    uid
-}
-
-fn pending_of(b: &[u8]) -> Pending
-    requires { length b.now ≡ 50 }
-    ensures { result ≡ pending_of b.now }
-{
-    let id = words::be64_at(b, 2);
-    let deadline = words::be64_at(b, 10);
-    let uid = uid_of(&b[18..50]);
-    Pending {
-        present: b[0] == 1,
-        id,
-        uid,
-        deadline,
-        answered: b[1] == 1,
-    }
-}
-
-fn pending_known(b: &[u8]) -> bool
-    requires { length b.now ≡ 50 }
-    ensures { result ≡ pending_known b.now }
-{
-    if b[0] <= 1 { b[1] <= 1 } else { false }
-}
-
-// Reads the state from 63 bytes.
-fn state_of(b: &[u8]) -> State
-    requires { length b.now ≡ 63 }
-    ensures { result ≡ state_of b.now }
-{
-    let effort = tries_of(&b[0..3]);
-    let version = handover_groups::version_of(&b[3..5]);
-    let polls = handover_groups::polls_of(&b[5..7]);
-    let source = handover_groups::source_of(&b[7..13]);
-    let request = pending_of(&b[13..63]);
+    let mut uid = [0; 32];
+    uid.copy_from_slice(&head[60..92]);
     State {
-        effort,
-        version,
-        polls,
-        source,
-        request,
+        effort: Effort {
+            reach: Reach(head[29]),
+            tries: head[30],
+            unanswered: head[31],
+        },
+        version: handover_groups::version_of(&head[32..34]),
+        polls: handover_groups::polls_of(&head[34..36]),
+        source: handover_groups::source_of(&head[36..42]),
+        request: Pending {
+            present: head[42] == 1,
+            answered: head[43] == 1,
+            id: words::be64_at(head, 44),
+            deadline: words::be64_at(head, 52),
+            uid,
+        },
     }
 }
 
-// Whether every code in them is known.
-fn state_known(b: &[u8]) -> bool
-    requires { length b.now ≡ 63 }
-    ensures { result ≡ state_known b.now }
+// What the head of a record holds, whatever its codes are.
+#[tactic(auto, unfolding(words::specs::Bytes::part))]
+fn read_head(head: &[u8; 92]) -> Opened
+    ensures { result ≡ opened head.now }
 {
-    if handover_groups::version_known(&b[3..5]) {
-        if handover_groups::source_known(&b[7..13]) {
-            return pending_known(&b[13..63]);
-        }
-    }
-    false
-}
-
-// Whether the bytes are a record of the capacity.
-fn known(b: &[u8], capacity: u8) -> bool
-    requires { 92 ≤ length b.now }
-    ensures { result ≡ ok_in b.now capacity }
-{
-    if !record_stash::sized(b, capacity) {
-        return false;
-    }
-    if handover_groups::settings_known(&b[0..27]) {
-        return state_known(&b[29..92]);
-    }
-    false
-}
-
-// The result for bytes that are no record.
-fn none() -> Opened
-    ensures { result ≡ opened false (replicate 92 0) }
-{
-    let zeros = [0u8; 92];
-    let settings = handover_groups::settings_of(&zeros[0..27]);
-    let state = state_of(&zeros[29..92]);
     Opened {
-        ok: false,
-        settings,
-        state,
+        settings: handover_groups::settings_of(&head[0..27]),
+        state: state_in(head),
     }
 }
 
-// Every call on a record starts here. It answers for any bytes.
+// Whether every code of the state in the head of a record is known.
+fn state_known(head: &[u8; 92]) -> bool
+    ensures { result ≡ state_known (part head.now 29 63) }
+{
+    handover_groups::version_known(&head[32..34])
+        && handover_groups::source_known(&head[36..42])
+        && head[42] <= 1
+        && head[43] <= 1
+}
+
+// Every call on a record starts here. It answers for any bytes: None says that they are no record.
 // promise: exports.1
-pub fn open_record(b: &[u8]) -> Opened
+pub fn open_record(b: &[u8]) -> Option<Opened>
     ensures { result ≡ opened_of b.now }
 {
-    if b.len() < record_stash::HEAD {
-        return none();
-    }
-    let settings = handover_groups::settings_of(&b[0..27]);
-    if !known(b, settings.capacity) {
-        return none();
-    }
-    let state = state_of(&b[29..92]);
-    Opened {
-        ok: true,
-        settings,
-        state,
-    }
+    let head = b.first_chunk()?;
+    let found = read_head(head);
+    let known = record_stash::sized(b, found.settings.capacity)
+        && handover_groups::settings_known(&head[0..27])
+        && state_known(head);
+    known.then_some(found)
 }
 
-fn flag(b: bool) -> u8
-    ensures { result ≡ yes_code b }
+// What is shown of bytes that are no record: what 92 zeros hold.
+pub fn no_record() -> Opened
+    ensures { result ≡ opened (replicate 92 0) }
 {
-    if b { 1 } else { 0 }
+    let zeros = [0; 92];
+    read_head(&zeros)
+}
+
+// The 50 bytes of the pending request.
+fn pending_bytes(request: Pending) -> [u8; 50]
+    ensures { result ≡ pending_bytes request }
+{
+    let mut bytes = [0; 50];
+    bytes[0] = u8::from(request.present);
+    bytes[1] = u8::from(request.answered);
+    bytes[2..10].copy_from_slice(&words::be64_bytes(request.id));
+    bytes[10..18].copy_from_slice(&words::be64_bytes(request.deadline));
+    bytes[18..50].copy_from_slice(&request.uid);
+    bytes
 }
 
 // The 63 bytes of a state, so that it is put back by one copy.
 fn state_bytes(s: State) -> [u8; 63]
     ensures { result ≡ state_bytes s }
 {
-    let effort = s.effort;
-    let reach = effort.reach;
-    let request = s.request;
-    let v = handover_groups::version_bytes(s.version);
-    let p = handover_groups::polls_bytes(s.polls);
-    let g = handover_groups::source_bytes(s.source);
-    let present = flag(request.present);
-    let answered = flag(request.answered);
-    let i = words::be64_bytes(request.id);
-    let d = words::be64_bytes(request.deadline);
-    let u = request.uid;
-    [
-        reach.0,
-        effort.tries,
-        effort.unanswered,
-        v[0],
-        v[1],
-        p[0],
-        p[1],
-        g[0],
-        g[1],
-        g[2],
-        g[3],
-        g[4],
-        g[5],
-        present,
-        answered,
-        i[0],
-        i[1],
-        i[2],
-        i[3],
-        i[4],
-        i[5],
-        i[6],
-        i[7],
-        d[0],
-        d[1],
-        d[2],
-        d[3],
-        d[4],
-        d[5],
-        d[6],
-        d[7],
-        u[0],
-        u[1],
-        u[2],
-        u[3],
-        u[4],
-        u[5],
-        u[6],
-        u[7],
-        u[8],
-        u[9],
-        u[10],
-        u[11],
-        u[12],
-        u[13],
-        u[14],
-        u[15],
-        u[16],
-        u[17],
-        u[18],
-        u[19],
-        u[20],
-        u[21],
-        u[22],
-        u[23],
-        u[24],
-        u[25],
-        u[26],
-        u[27],
-        u[28],
-        u[29],
-        u[30],
-        u[31],
-    ]
+    let mut bytes = [0; 63];
+    bytes[0] = s.effort.reach.0;
+    bytes[1] = s.effort.tries;
+    bytes[2] = s.effort.unanswered;
+    bytes[3..5].copy_from_slice(&handover_groups::version_bytes(s.version));
+    bytes[5..7].copy_from_slice(&handover_groups::polls_bytes(s.polls));
+    bytes[7..13].copy_from_slice(&handover_groups::source_bytes(s.source));
+    bytes[13..63].copy_from_slice(&pending_bytes(s.request));
+    bytes
 }
 
 // Writes the state in place; its types say that it fits. Bytes that are too short for a head do not change.
@@ -239,8 +123,7 @@ pub fn store_state(b: &mut [u8], s: State)
     if b.len() < record_stash::HEAD {
         return;
     }
-    let w = state_bytes(s);
-    b[29..92].copy_from_slice(&w);
+    b[29..92].copy_from_slice(&state_bytes(s));
 }
 
 // Writes the head of a record with an empty stash and a reading place. Bytes that are too short for a head do not change.
@@ -251,8 +134,7 @@ pub fn store_head(b: &mut [u8], settings: Settings, read: u8, state: State)
     if b.len() < record_stash::HEAD {
         return;
     }
-    let first = handover_groups::settings_bytes(settings);
-    b[0..27].copy_from_slice(&first);
+    b[0..27].copy_from_slice(&handover_groups::settings_bytes(settings));
     b[27] = read;
     b[28] = 0;
     store_state(b, state);

@@ -1,8 +1,8 @@
 -- The parts of the reply on lent bytes do what the definition says.
 -- Assumes nothing.
 use Prim.Native.Nat.{ℕ}
-use mathlib.Core.Path.{◌≡◌, sym, ap, subst, ◌∙◌}
-use mathlib.Core.Bool.{Bool, true, false, cond}
+use mathlib.Core.Path.{◌≡◌, refl, sym, ap, subst, ◌∙◌}
+use mathlib.Core.Bool.{Bool, true, false, ◌&&◌, cond}
 use mathlib.Core.List.{List}
 use Rattle.words.proofs.Bytes.{Bytes}
 use Rattle.words.proofs.Tests.{when, unless}
@@ -12,9 +12,9 @@ use Rattle.cookiestash.specs.Whole.{seen_of}
 use Rattle.association.specs.declared.Association.{Association}
 use Rattle.association.specs.declared.Settings.{Settings}
 use Rattle.association.specs.declared.State.{State}
-use Rattle.association.specs.Record.{with_state, whole_seen}
-use Rattle.wire_incoming.specs.declared.ReplyRead.{ReplyRead}
-use Rattle.wire_incoming.specs.declared.ReplyRead.TheVariants as R
+use Rattle.association.specs.Record.{with_state, whole_of}
+use Rattle.std.specs.Prelude.{Option, Some, None}
+use Rattle.wire_incoming.specs.declared.Reply.{Reply}
 use Rattle.reply_clauses.specs.After.{Arrival}
 use Rattle.reply_rules.specs.declared.Verdict.{Verdict}
 use Rattle.reply_rules.specs.declared.ReplyAnswer.TheVariants.{Undecodable, NotWhole}
@@ -26,33 +26,32 @@ use Rattle.record_stash.proofs.With.{of_sized, seen_is}
 use Rattle.record_bytes.specs.declared.Opened.{Opened}
 use Rattle.record_bytes.specs.State.{StateFit}
 use Rattle.record_bytes.specs.Record.{settings_in, ok, unpacked, opened, opened_of, stored_state}
-use Rattle.record_bytes.proofs.Packed.{of_ok}
 use Rattle.record_bytes.proofs.RoundTrip.{bytes_again}
 use Rattle.record_bytes.proofs.Lies.{opened_lies, state_lies, refills}
-use Rattle.record_bytes.proofs.Writes.{found_ok, found_is}
+use Rattle.record_bytes.proofs.Writes.{found, none_found}
 use Rattle.record_calls.specs.Reply.{gave, no_record, reply_packed, answered, replied_call, settled_in}
 
 -- what was seen of a record, judged, left and fell out is the reply by value
-by_value : (a : Association) (read : ReplyRead) (t : Arrival) (rs : Seen) (v : Verdict) → rs ≡ seen_of a.settings.capacity a.stash →
+by_value : (a : Association) (read : Option Reply) (t : Arrival) (rs : Seen) (v : Verdict) → rs ≡ seen_of a.settings.capacity a.stash →
     v ≡ verdict_of a.settings a.state rs read t →
     judged a t.list v ≡ replied_of a read t
 unfolding replied_of
 by_value a read t rs v es ev = ap (judged a t.list) (ev ∙ ap (λ (s : Seen). verdict_of a.settings a.state s read t) es)
 
 module _ (b : List ℕ) (t : Arrival) where
-  pub refused : (read : ReplyRead) (r : Opened) → r ≡ opened_of b → r.ok ≡ false → gave no_record b ≡ replied_call b read t
+  pub refused : (read : Option Reply) → None ≡ opened_of b → gave no_record b ≡ replied_call b read t
   unfolding replied_call
-  refused read r e k = sym (unless (reply_packed (replied_of (unpacked b) read t)) (gave no_record b) (found_ok b r e ∙ k))
+  refused read e = sym (unless (reply_packed (replied_of (unpacked b) read t)) (gave no_record b) (none_found b e))
 
   -- what is read goes by the settings and the state
-  module _ (how : Settings → State → ReplyRead) (y : Bytes b) (v : Verdict) (f : StateFit v.state) (rs : Seen) (p : Replied) (c : List ℕ)
+  module _ (how : Settings → State → Option Reply) (y : Bytes b) (v : Verdict) (f : StateFit v.state) (rs : Seen) (p : Replied) (c : List ℕ)
       (o : ok b ≡ true) where
     abbrev Says : Opened → Type 0
     Says r = rs ≡ seen_in b r.settings.capacity → v ≡ verdict_of r.settings r.state rs (how r.settings r.state) t →
         gave p c ≡ settled_in r.settings.capacity v t.list b →
         gave p c ≡ replied_call b (how (unpacked b).settings (unpacked b).state) t
 
-    base : Says (opened true b)
+    base : Says (opened b)
     unfolding replied_call unpacked settled_in
     base es ev eg =
         let a = unpacked b in
@@ -66,45 +65,34 @@ module _ (b : List ℕ) (t : Arrival) where
         ∙ ap reply_packed q
         ∙ sym (when (reply_packed (replied_of a read t)) (gave no_record b) o)
 
-  pub told : (how : Settings → State → ReplyRead) → Bytes b → (r : Opened) → r ≡ opened_of b → r.ok ≡ true → (v : Verdict) → StateFit v.state →
+  pub told : (how : Settings → State → Option Reply) → Bytes b → (r : Opened) → Some r ≡ opened_of b → (v : Verdict) → StateFit v.state →
       (rs : Seen) → rs ≡ seen_in b r.settings.capacity →
       v ≡ verdict_of r.settings r.state rs (how r.settings r.state) t → (p : Replied) (c : List ℕ) →
       gave p c ≡ settled_in r.settings.capacity v t.list b →
       gave p c ≡ replied_call b (how (unpacked b).settings (unpacked b).state) t
-  told how y r e k v f rs es ev p c eg =
-      let o = found_ok b r e ∙ k in
-      subst (Says how y v f rs p c o) (sym (found_is b r e o)) (base how y v f rs p c o) es ev eg
+  told how y r e v f rs es ev p c eg =
+      let o = found b r e in
+      subst (Says how y v f rs p c o.ok) (sym o.is) (base how y v f rs p c o.ok) es ev eg
 
--- ---- a reply that cannot be decoded leaves the record
+-- ---- a reply that cannot be decoded leaves the record, at any time and with any list: 1 if the record is whole, else 32
 
-module _ (b : List ℕ) (y : Bytes b) (o : ok b ≡ true) (rs : Seen) (w : Bool) (t : Arrival) where
-  -- 1 where the record is whole, else 32
+module _ (b : List ℕ) (y : Bytes b) (t : Arrival) where
   abbrev left : Bool → Verdict
   left k = cond k (leaves Undecodable (unpacked b).state) (leaves NotWhole (unpacked b).state)
 
-  packed_left : (k : Bool) → reply_packed (judged (unpacked b) t.list (left k))
+  packed_left : ok b ≡ true → (k : Bool) → reply_packed (judged (unpacked b) t.list (left k))
       ≡ gave (record { answer = cond k Undecodable NotWhole; dropped = none_dropped }) b
-  packed_left true = ap (gave (record { answer = Undecodable; dropped = none_dropped })) (bytes_again b y o)
-  packed_left false = ap (gave (record { answer = NotWhole; dropped = none_dropped })) (bytes_again b y o)
+  packed_left o true = ap (gave (record { answer = Undecodable; dropped = none_dropped })) (bytes_again b y o)
+  packed_left o false = ap (gave (record { answer = NotWhole; dropped = none_dropped })) (bytes_again b y o)
 
-  abbrev LeftBy : Opened → Type 0
-  LeftBy r = rs ≡ seen_in b r.settings.capacity → w ≡ whole_seen r.settings rs r.state →
-      gave (record { answer = cond w Undecodable NotWhole; dropped = none_dropped }) b ≡ replied_call b R.Undecodable t
-
-  base_left : LeftBy (opened true b)
-  unfolding replied_call replied_of verdict_of unpacked
-  base_left es ew =
-      let a = unpacked b in
-      let cap = (settings_in b).capacity in
-      let s = es ∙ seen_is cap b (of_sized b cap (of_ok b o).sized) in
-      let k : w ≡ whole_seen a.settings (seen_of cap a.stash) a.state = ew ∙ ap (λ (v : Seen). whole_seen a.settings v a.state) s in
-      sym (packed_left w) ∙ ap (λ (k : Bool). reply_packed (judged a t.list (left k))) k
-      ∙ sym (when (reply_packed (replied_of a R.Undecodable t)) (gave no_record b) o)
-
--- promise: exports.9
-pub undecodable_is : (b : List ℕ) → Bytes b → (r : Opened) → r ≡ opened_of b → r.ok ≡ true → (rs : Seen) → rs ≡ seen_in b r.settings.capacity → (w : Bool) →
-    w ≡ whole_seen r.settings rs r.state → (t : Arrival) →
-    gave (record { answer = cond w Undecodable NotWhole; dropped = none_dropped }) b ≡ replied_call b R.Undecodable t
-undecodable_is b y r e k rs es w ew t =
-    let o = found_ok b r e ∙ k in
-    subst (LeftBy b y o rs w t) (sym (found_is b r e o)) (base_left b y o rs w t) es ew
+  -- promise: exports.9
+  pub undecodable_is : replied_call b None t
+      ≡ gave (record { answer = cond (ok b && whole_of (unpacked b)) Undecodable NotWhole; dropped = none_dropped }) b
+  unfolding replied_call replied_of verdict_of whole_of
+  undecodable_is = by (ok b) refl
+    where
+      by : (k : Bool) → ok b ≡ k →
+          cond k (reply_packed (replied_of (unpacked b) None t)) (gave no_record b)
+          ≡ gave (record { answer = cond (k && whole_of (unpacked b)) Undecodable NotWhole; dropped = none_dropped }) b
+      by true o = packed_left o (whole_of (unpacked b))
+      by false o = refl

@@ -1,9 +1,8 @@
 -- The reply on a record in lent bytes: the reply on what they unpack to, packed again. Bytes that are no record: 32, and nothing changes.
 -- Assumes nothing.
-use Rattle.std.specs.Prelude.{◌≡◌, cond, List, ℕ}
+use Rattle.std.specs.Prelude.{cond, List, ℕ, Option, Some}
 use Rattle.cookiestash.specs.Falling.{none_dropped}
-use Rattle.wire_incoming.specs.declared.ReplyRead.{ReplyRead}
-use Rattle.wire_incoming.specs.declared.ReplyRead.TheVariants.{Decoded, Undecodable}
+use Rattle.wire_incoming.specs.declared.Reply.{Reply}
 use Rattle.wire_incoming.specs.declared.DecodedReply.{DecodedReply}
 use Rattle.wire_incoming.specs.Incoming.{decoded_of}
 use Rattle.reply_clauses.specs.After.{Arrival}
@@ -31,25 +30,18 @@ reply_packed o = gave o.replied (packed o.association)
 abbrev pub no_record : Replied
 no_record = record { answer = NotWhole; dropped = none_dropped }
 
--- from what was read, in either form
+-- from what was read, in any form
 -- promise: exports.3
-unfoldable pub replied_call : List ℕ → ReplyRead → Arrival → ReplyCall
+unfoldable pub replied_call : List ℕ → Option Reply → Arrival → ReplyCall
 replied_call b read t = cond (ok b) (reply_packed (replied_of (unpacked b) read t)) (gave no_record b)
 
 -- the byte form (V3, V4)
 abbrev pub reply_call : List ℕ → List ℕ → ℕ → List ℕ → Arrival → ReplyCall
 reply_call b packet end decrypted t = replied_call b (read_with (unpacked b).settings (unpacked b).state packet end decrypted) t
 
-abbrev pub ReplyIn : List ℕ → List ℕ → ℕ → List ℕ → Arrival → Replied → List ℕ → Type 0
-ReplyIn b packet end decrypted t r c = gave r c ≡ reply_call b packet end decrypted t
-
 -- the decoded form (V5 only)
 abbrev pub reply_decoded_call : List ℕ → DecodedReply → Arrival → ReplyCall
-reply_decoded_call b d t = replied_call b (Decoded (decoded_of d)) t
-
--- a decoded reply with an unknown code, at any time and with any list: 1 if the record is whole
-abbrev pub UndecodableIn : List ℕ → Replied → Type 0
-UndecodableIn b r = (t : Arrival) → gave r b ≡ replied_call b Undecodable t
+reply_decoded_call b d t = replied_call b (Some (decoded_of d)) t
 
 -- a verdict, carried out on the record in place: its state, then the cookies of the list
 abbrev pub answered : ReplyAnswer → Refilled → ReplyCall

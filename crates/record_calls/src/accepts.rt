@@ -4,19 +4,15 @@
 ghost use Rattle.std.specs.Prelude.{◌≡◌};
 ghost use Rattle.record_calls.specs.Accept.{accept_call};
 
-use association_accept::{AcceptAnswer, Bloom};
+use association_accept::{AcceptRefusal, Bloom};
 
 // Reads the record's settings, its state and the summary of its stash; changes nothing.
+// Kept, 2 and 5: beside `accept` of association_accept, for a record in bytes, with its parameters. The rule stands once, in `accept_seen`.
 // promise: exports.3
-pub fn accept(b: &[u8], stratum: u8, local: &[u32], bloom: Bloom) -> AcceptAnswer
+pub fn accept(b: &[u8], stratum: u8, local: &[u32], bloom: Bloom) -> Result<(), AcceptRefusal>
     ensures { result ≡ accept_call b.now stratum local.now bloom }
 {
-    let found = record_bytes::open_record(b);
-    if !found.ok {
-        return AcceptAnswer::NotWhole;
-    }
-    let settings = found.settings;
-    let state = found.state;
-    let seen = record_stash::see(b, settings.capacity);
-    association_accept::accept_seen(settings, state, seen, stratum, local, bloom)
+    let found = record_bytes::open_record(b).ok_or(AcceptRefusal::NotWhole)?;
+    let seen = record_stash::see(b, found.settings.capacity);
+    association_accept::accept_seen(found.settings, found.state, seen, stratum, local, bloom)
 }

@@ -1,59 +1,61 @@
 -- The rows of a record: read for the file, and then cleared.
 -- Assumes nothing.
 use Prim.Native.Nat.{ℕ, ◌+◌, ◌-◌, ◌*◌, ◌≤◌, ◌<◌}
-use mathlib.Core.Path.{◌≡◌, refl, sym, ap, subst, ◌∙◌}
-use mathlib.Core.List.{List, ◌++◌}
+use mathlib.Core.Path.{◌≡◌, refl, sym, ap, ◌∙◌}
+use mathlib.Core.List.{List, [], ◌++◌}
+use native.Mathlib.Decide.{dec_lt}
 use native.Mathlib.Omega.{arith}
 use borrow.Rule.Slice.PartMut.{put_mid}
 use lib.ListN.{length, get_or, take, drop, set, replicate, length-set, length-replicate, length-drop, replicate-append-replicate}
 use lib.Seq.{get_or-drop, get_or-set_same, get_or-set_other, take-take, take_all, length-take-le}
 use Rattle.words.specs.Bytes.{be, part}
 use Rattle.cookiestash.specs.declared.Slot.{Slot}
-use Rattle.cookiestash.specs.Stash.{empty_slot, slot_at}
-use Rattle.cookiestash.specs.Whole.{WholeSlot, Whole}
+use Rattle.cookiestash.specs.Stash.{stored, empty_slot, slot_at}
+use Rattle.cookiestash.proofs.Stored.{stored_bounds}
 use Rattle.cookiestash.specs.Queue.{seen}
-use Rattle.handover_file.specs.Cookies.{cookie_bytes, empty_at}
-use Rattle.words.specs.Put.{Put}
+use Rattle.handover_file.specs.Steps.{cookie}
+use Rattle.handover_file.specs.Cookies.{empty_at}
+use Rattle.handover_save.proofs.Writing.{none_seen}
 use Rattle.record_stash.specs.Rows.{slot_in, stash_in, Sized}
 use Rattle.record_stash.specs.Slots.{Becomes}
 use Rattle.record_stash.proofs.Mid.{part_same, mid_below, mid_inside, mid_long}
+use Rattle.record_stash.proofs.Rows.{len_is}
 use Rattle.record_stash.proofs.Change.{slot_at_lem}
+use Rattle.record_stash.proofs.Stores.{eight, past}
 use Rattle.record_stash.proofs.Zeros.{zero_at, slots_zero}
 
 -- ---- a row
-
-pub len_in : (b : List ℕ) (at : ℕ) → (slot_in b at).len ≡ be (part b (at + 724) 2)
-unfolding slot_in
-len_in b at = refl
 
 pub bytes_in : (b : List ℕ) (at n : ℕ) → n ≤ 724 → take (at + n - at) (drop at b) ≡ take n (slot_in b at).bytes
 unfolding slot_in part
 bytes_in b at n h = let e : at + n - at ≡ n = omega arith in ap (λ (k : ℕ). take k (drop at b)) e ∙ sym (take-take n 724 (drop at b) h)
 
--- what is said of the slot at a place of the stash is said of the row there
+-- what the row of a place holds is what the slot there holds
 module _ (cap : ℕ) (b : List ℕ) (s : Sized b cap) (k : ℕ) (h : k < cap) where
-  pub row_whole : Whole cap (stash_in b cap) → WholeSlot (slot_in b (92 + k * 726))
-  row_whole w = subst WholeSlot (slot_at_lem cap b s k h) (w.each k (omega (arith, w.room)))
+  pub row_seen : (len n : ℕ) → len ≡ be (part b (92 + k * 726 + 724) 2) → n ≡ stored len →
+      cookie len (take (92 + k * 726 + n - (92 + k * 726)) (drop (92 + k * 726) b)) ≡ seen (slot_at (stash_in b cap).slots k)
+  unfolding seen
+  row_seen len n d e =
+      let at = 92 + k * 726 in
+      let x = slot_in b at in
+      let l : len ≡ x.len = d ∙ sym (len_is b at) in
+      let m : n ≤ 724 = omega (arith, stored_bounds len, e) in
+      (λ i. cookie (l i) (bytes_in b at n m i))
+      ∙ ap (λ (j : ℕ). cookie x.len (take j x.bytes)) (e ∙ ap stored l)
+      ∙ ap seen (sym (slot_at_lem cap b s k h))
 
-  pub row_fits : (at m : ℕ) → at + length (cookie_bytes (seen (slot_at (stash_in b cap).slots k))) ≤ m →
-      at + length (cookie_bytes (seen (slot_in b (92 + k * 726)))) ≤ m
-  row_fits at m f = subst (λ (x : Slot). at + length (cookie_bytes (seen x)) ≤ m) (slot_at_lem cap b s k h) f
+-- and there is no cookie past the capacity
+empty_seen : cookie 0 [] ≡ seen empty_slot
+unfolding seen stored empty_slot
+empty_seen = refl
 
-  pub row_put : {out p : List ℕ} {at r : ℕ} → Put out at (cookie_bytes (seen (slot_in b (92 + k * 726)))) r p →
-      Put out at (cookie_bytes (seen (slot_at (stash_in b cap).slots k))) r p
-  row_put {out = out} {p = p} {at = at} {r = r} f = subst (λ (x : Slot). Put out at (cookie_bytes (seen x)) r p) (sym (slot_at_lem cap b s k h)) f
-
-  pub row_len : (len : ℕ) → len ≡ be (part b (92 + k * 726 + 724) 2) → len ≡ (slot_at (stash_in b cap).slots k).len
-  row_len len e = e ∙ sym (len_in b (92 + k * 726)) ∙ ap (λ (x : Slot). x.len) (sym (slot_at_lem cap b s k h))
-
-module _ (cap : ℕ) (b : List ℕ) where
-  pub reads : (stash_in b cap).read ≡ get_or b 27 0
-  unfolding stash_in
-  reads = refl
-
-  pub holds : (stash_in b cap).held ≡ get_or b 28 0
-  unfolding stash_in
-  holds = refl
+module _ (cap : ℕ) (b : List ℕ) (s : Sized b cap) (k : ℕ) (h : cap ≤ k) where
+  pub none_seen_in : cookie 0 [] ≡ seen (slot_at (stash_in b cap).slots k)
+  none_seen_in =
+      elim (dec_lt k 8) [
+        | yes l ↦ empty_seen ∙ ap seen (sym (past cap b s k h l))
+        | no m ↦ none_seen (stash_in b cap).slots k (omega (arith, eight cap b s))
+      ]
 
 -- ---- the rows cleared, and the count
 

@@ -1,97 +1,66 @@
 // Loads the hand-over file into lent bytes: the cookies are written in place, and no record is held on the stack.
 // Promises: for any file, the answer of its definition, and every byte: the loaded record, or zeros; with 31 the bytes do not change.
 // Rule: RULES, No. 6, No. 12 and No. 14; definitions in specs/Load.antt.
-ghost use Rattle.std.specs.Prelude.{◌≡◌, true, false, length, get_or, replicate};
-ghost use Rattle.handover_file.specs.Cookies.{stash_fits, stash_known, empty_at, stash_of};
+ghost use Rattle.std.specs.Prelude.{◌≡◌, Err, length, get_or, replicate};
+ghost use Rattle.handover_file.specs.Cookies.{empty_at, stash_of};
 ghost use Rattle.handover_file.specs.Answers.{load_of};
 ghost use Rattle.record_stash.specs.Rows.{stash_in, Sized};
 ghost use Rattle.record_stash.specs.Slots.{Becomes};
 ghost use Rattle.record_bytes.specs.Record.{packed};
 ghost use Rattle.record_files.specs.Load.{gave, loaded_by};
 
-use association::{Settings, State};
-use handover_file::LoadAnswer;
-use handover_file::cut::Held;
+use handover_file::cut::Cookies;
+use handover_file::{LoadRefusal, Loaded};
+use handover_load::FileRead;
+use record_new::InBytes;
 
-// Writes the cookies of a body to an empty stash with the body's reading place.
-fn lay_all(b: &mut [u8], capacity: u8, body: &[u8])
-    requires { (Sized b.old capacity)
-        × (stash_fits body.now ≡ true)
-        × (stash_known capacity body.now ≡ true)
-        × (stash_in b.old capacity ≡ empty_at (get_or body.now 0 0)) }
-    ensures { Becomes capacity b.old b.new (stash_of capacity body.now) }
+// Writes the cookies of a file that was read to an empty stash with the file's reading place.
+// Kept: `Sized` stands in the contract, as `record_stash` has it.
+fn lay_all(b: &mut [u8], found: FileRead)
+    requires { (Sized b.old found.settings.capacity)
+        × (stash_in b.old found.settings.capacity ≡ empty_at (get_or found.stash.now 0 0)) }
+    ensures { Becomes found.entry.settings.capacity b.old b.new
+        (stash_of found.entry.settings.capacity found.entry.stash.now) }
 {
-    let mut at: usize = 1;
-    loop {
-        match handover_file::cut::held_at(body, at) {
-            Held::One { len, start, end } => {
-                record_stash::lay(b, capacity, len, &body[start..end]);
-                at = end;
-            }
-            Held::End => {
-                return;
-            }
-            Held::Broken => {
-                return;
-            }
-        }
+    for cookie in Cookies::new(found.stash) {
+        record_stash::lay(b, found.settings.capacity, cookie.len, cookie.bytes);
     }
 }
 
-// What loading reports: its number, and whether a version in the file was of the retired kind.
-#[derive(Clone, Copy)]
-pub struct LoadTold {
-    pub number: u8,
-    pub retired: bool,
-}
-
-// Writes a record to bytes whose number fits its capacity: its head, then the cookies of the body.
-fn write(b: &mut [u8], settings: Settings, state: State, st: &[u8])
-    requires { (Sized b.old settings.capacity) × (stash_fits st.now ≡ true) × (stash_known settings.capacity st.now ≡ true) }
-    ensures { b.new ≡ packed (record { settings = settings; stash = stash_of settings.capacity st.now; state = state }) }
+// Writes the record that was read to bytes whose number fits its capacity: its head, then the cookies.
+// Kept: `Sized` stands in the contract, as `record_stash` has it.
+fn write(b: &mut [u8], found: FileRead)
+    requires { Sized b.old found.settings.capacity }
+    ensures { b.new ≡ packed (record {
+      settings = found.entry.settings;
+      stash = stash_of found.entry.settings.capacity found.entry.stash.now;
+      state = found.entry.state;
+    }) }
 {
     record_stash::clear(b);
-    let read = handover_load::place_of(st);
-    record_bytes::store_head(b, settings, read, state);
-    lay_all(b, settings.capacity, st);
+    let read = handover_load::place_of(found.stash);
+    record_bytes::store_head(b, found.settings, read, found.state);
+    lay_all(b, found);
 }
 
-// A rejected file leaves zeros.
-fn refused(b: &mut [u8], number: u8) -> LoadTold
-    ensures { (result ≡ record { number = number; retired = false }) × (b.new ≡ replicate (length b.old) 0) }
-{
-    record_stash::clear(b);
-    LoadTold {
-        number,
-        retired: false,
-    }
-}
-
-// Reads a file into lent bytes.
+// Reads a file into lent bytes. A rejected file leaves zeros.
+// Kept: beside `load` of handover_load, which makes a record; here none is held, and the lent bytes are written. The file is read by one `read` for both.
 // promise: exports.3, exports.4
-pub fn load(b: &mut [u8], file: &[u8]) -> LoadTold
+pub fn load(b: &mut [u8], file: &[u8]) -> Result<Loaded, InBytes<LoadRefusal>>
     ensures { gave result b.new ≡ loaded_by b.old (load_of file.now) }
 {
-    let found = handover_load::read::read(file);
-    let answer = found.answer;
-    let settings = found.settings;
-    let state = found.state;
-    let start = found.start;
-    let end = found.end;
-    match answer {
-        LoadAnswer::Loaded { retired } => {
-            let cap = settings.capacity as usize;
-            if b.len() != record_stash::HEAD + cap * record_stash::ROW {
-                return LoadTold {
-                    number: 31,
-                    retired: false,
-                };
-            }
-            write(b, settings, state, &file[start..end]);
-            LoadTold { number: 0, retired }
+    let found = match handover_load::read::read(file) {
+        Ok(found) => found,
+        Err(refusal) => {
+            record_stash::clear(b);
+            return Err(InBytes::Said(refusal));
         }
-        LoadAnswer::WrongMark => refused(b, 61),
-        LoadAnswer::WrongLength => refused(b, 62),
-        LoadAnswer::NoAssociation => refused(b, 63),
+    };
+    if b.len() != record_stash::HEAD + usize::from(found.settings.capacity) * record_stash::ROW {
+        return Err(InBytes::WrongSize);
     }
+    write(b, found);
+    Ok(Loaded {
+        retired: found.retired,
+    })
 }

@@ -1,3 +1,3 @@
 -- Laws that belong to no one function.
-pub mod Made
+pub mod Carried
 pub mod Determined

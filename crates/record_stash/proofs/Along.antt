@@ -1,95 +1,48 @@
--- A list that is stored cookie by cookie: with what is read from an offset on stored, the stash and the sums are what they are to be.
+-- A list that is stored cookie by cookie in lent bytes.
 -- Assumes nothing.
-use Prim.Native.Nat.{ℕ, ◌-◌, ◌≤◌, ◌<◌}
-use mathlib.Core.Path.{◌≡◌, refl, sym, ap, subst, ◌∙◌}
+use Prim.Native.Nat.{ℕ, ◌<◌}
+use mathlib.Core.Path.{◌≡◌, refl, subst, ◌∙◌}
 use mathlib.Core.Bool.{true, false}
-use mathlib.Core.List.{List}
-use native.Mathlib.Omega.{arith}
+use mathlib.Core.List.{List, [], ◌∷◌}
 use lib.ListN.{length}
-use Rattle.words.specs.Bytes.{part}
+use Rattle.std.proofs.Common.{Option}
 use Rattle.words.proofs.Bytes.{Bytes}
-use Rattle.cookielist.specs.declared.Entry.TheVariants.{Cookie}
-use Rattle.cookielist.specs.List.{entry_at, is_whole, cookies_from, cookies_in}
-use Rattle.cookielist.proofs.Reader.{placed, whole_cookie}
-use Rattle.cookiestash.specs.declared.CookieStash.{CookieStash}
+use Rattle.cookielist.specs.List.{is_whole, cookies_in}
+use Rattle.cookielist.specs.Cookies.{cookies_given}
 use Rattle.cookiestash.specs.declared.Dropped.{Dropped}
-use Rattle.cookiestash.specs.declared.Fallen.{Fallen}
 use Rattle.cookiestash.specs.Stash.{store_of}
-use Rattle.cookiestash.specs.StoreList.{store_listed, store_list_of}
-use Rattle.cookiestash.specs.Falling.{fallen_of, fallen_listed, tally_of, dropped_of, none_dropped, plus_of, Fit}
-use Rattle.cookiestash.proofs.Falling.{added, from_none, less_fits, falls_broken, falls_cookie, fits}
-use Rattle.cookiestash.proofs.StoreList.{listed_broken, listed_cookie}
+use Rattle.cookiestash.specs.Falling.{fallen_of, none_dropped, counted_of}
+use Rattle.cookiestash.proofs.StoreList as L
 use Rattle.record_stash.specs.Rows.{stash_in, Sized}
 use Rattle.record_stash.specs.Slots.{Becomes, RefilledIn}
 use Rattle.record_stash.proofs.Change.{same}
-use Rattle.record_stash.proofs.Stores.{eight, typed}
+use Rattle.record_stash.proofs.Stores.{typed}
 
-pub record Along (cap : ℕ) (b₀ b l : List ℕ) (at : ℕ) (d : Dropped) : Type 0 where
-  pub within : at ≤ length l
-  pub sound : is_whole (cookies_from l at) ≡ true
-  pub left : store_listed cap (stash_in b cap) (cookies_from l at) ≡ store_list_of cap (stash_in b₀ cap) l
-  pub fell : added d (fallen_listed cap (stash_in b cap) (cookies_from l at)) ≡ dropped_of cap (stash_in b₀ cap) l
-  pub fit : Fit (dropped_of cap (stash_in b₀ cap) l)
-  pub kept : Becomes cap b₀ b (stash_in b cap)
-  pub long : length b ≡ length b₀
+module _ (cap : ℕ) (b₀ l : List ℕ) where
+  -- the stash in the bytes is as it is to be, and the other bytes are as they were
+  pub record Along (b : List ℕ) (cs : List (List ℕ)) (d : Dropped) : Type 0 where
+    pub stash : L.Along cap (stash_in b₀ cap) l (stash_in b cap) cs d
+    pub kept : Becomes cap b₀ b (stash_in b cap)
+    pub long : length b ≡ length b₀
 
-pub broken : (cap : ℕ) (l b : List ℕ) (d : Dropped) → Sized b cap → is_whole (cookies_in l) ≡ false → d ≡ none_dropped → RefilledIn cap l b b d
-unfolding store_list_of dropped_of
-broken cap l b d s f e =
-    record {
-      becomes = subst (Becomes cap b b) (sym (listed_broken cap (stash_in b cap) (cookies_in l) f)) (same cap b s);
-      falls = e ∙ sym (ap tally_of (falls_broken cap (stash_in b cap) (cookies_in l) f));
-    }
+  pub broken : Sized b₀ cap → is_whole (cookies_in l) ≡ false → RefilledIn cap l b₀ b₀ none_dropped
+  broken s f =
+      let e = L.stores_none cap (stash_in b₀ cap) l f in
+      record { becomes = subst (Becomes cap b₀ b₀) e.0 (same cap b₀ s); falls = e.1 }
 
-pub begins : (cap : ℕ) (l b : List ℕ) (d : Dropped) → Sized b cap → Bytes b → Bytes l → length l < 18446744073709551616 → is_whole (cookies_in l) ≡ true →
-    d ≡ none_dropped → Along cap b b l 0 d
-unfolding store_list_of dropped_of cookies_in
-begins cap l b d s y z k f e =
-    record {
-      within = omega arith;
-      sound = f;
-      left = refl;
-      fell = ap (λ (x : Dropped). added x (fallen_listed cap (stash_in b cap) (cookies_from l 0))) e
-          ∙ from_none (fallen_listed cap (stash_in b cap) (cookies_from l 0));
-      fit = fits cap (stash_in b cap) (typed cap b s y) l z k;
-      kept = same cap b s;
-      long = refl;
-    }
+  pub begins : Sized b₀ cap → Bytes b₀ → Bytes l → length l < 18446744073709551616 → is_whole (cookies_in l) ≡ true → Along b₀ (cookies_given l) none_dropped
+  begins s y z k f = record { stash = L.begins cap (stash_in b₀ cap) l (typed cap b₀ s y) z k f; kept = same cap b₀ s; long = refl }
 
-module _ (cap : ℕ) (b₀ b l : List ℕ) (at : ℕ) (d : Dropped) (o : Along cap b₀ b l at d) (z : Bytes l) (start end : ℕ)
-    (e : entry_at l at ≡ Cookie start end) where
-  abbrev cookie : List ℕ
-  cookie = part l start (end - start)
-
-  rest_whole : is_whole (cookies_from l end) ≡ true
-  rest_whole = sym (whole_cookie _ _ _ _ e) ∙ o.sound
-
-  -- what fell out by the cookie, beside what falls out behind it
-  fell_more : added (plus_of d (fallen_of cap (stash_in b cap) cookie)) (fallen_listed cap (store_of cap (stash_in b cap) cookie) (cookies_from l end))
-      ≡ dropped_of cap (stash_in b₀ cap) l
-  fell_more = sym (falls_cookie cap (stash_in b cap) (eight cap b o.kept.sized) d l z at start end e rest_whole) ∙ o.fell
-
-  pub fits_more : (f : Fallen) → f ≡ fallen_of cap (stash_in b cap) cookie → Fit (plus_of d f)
-  fits_more f q =
-      subst (λ (x : Fallen). Fit (plus_of d x)) (sym q)
-      (less_fits (plus_of d (fallen_of cap (stash_in b cap) cookie)) (dropped_of cap (stash_in b₀ cap) l)
-      (fallen_listed cap (store_of cap (stash_in b cap) cookie) (cookies_from l end)) fell_more o.fit)
-
-  pub goes_on : (c : List ℕ) (f : Fallen) (g : Dropped) → Becomes cap b c (store_of cap (stash_in b cap) cookie) → f ≡ fallen_of cap (stash_in b cap) cookie →
-      g ≡ plus_of d f → length c ≡ length b → Along cap b₀ c l end g
-  goes_on c f g h q r n =
+  pub goes_on : (b c cookie : List ℕ) (cs : List (List ℕ)) (d : Dropped) (f : Option ℕ) → Along b (cookie ∷ cs) d →
+      Becomes cap b c (store_of cap (stash_in b cap) cookie) → f ≡ fallen_of cap (stash_in b cap) cookie → length c ≡ length b → Along c cs (counted_of d f)
+  goes_on b c cookie cs d f o h e n =
       record {
-        within = (placed _ _ _ _ e).within;
-        sound = rest_whole;
-        left = ap (λ (x : CookieStash). store_listed cap x (cookies_from l end)) h.stash ∙ sym (listed_cookie cap (stash_in b cap) l at start end e rest_whole)
-            ∙ o.left;
-        fell = (λ i. added ((r ∙ ap (plus_of d) q) i) (fallen_listed cap (h.stash i) (cookies_from l end))) ∙ fell_more;
-        fit = o.fit;
+        stash = rw (h.stash, e) (L.goes_on cap (stash_in b₀ cap) l (stash_in b cap) cookie cs d o.stash);
         kept = record { stash = refl; settings = h.settings ∙ o.kept.settings; state = h.state ∙ o.kept.state; sized = h.sized };
         long = n ∙ o.long;
       }
 
--- all is stored
-pub ends : (cap : ℕ) (b₀ b l : List ℕ) (at : ℕ) (d : Dropped) → Along cap b₀ b l at d → store_listed cap (stash_in b cap) (cookies_from l at) ≡ stash_in b cap →
-    added d (fallen_listed cap (stash_in b cap) (cookies_from l at)) ≡ d → RefilledIn cap l b₀ b d
-ends cap b₀ b l at d o e f = record { becomes = subst (Becomes cap b₀ b) (sym e ∙ o.left) o.kept; falls = sym f ∙ o.fell }
+  pub ends : (b : List ℕ) (d : Dropped) → Along b [] d → RefilledIn cap l b₀ b d
+  ends b d o =
+      let e = L.ends cap (stash_in b₀ cap) l (stash_in b cap) d o.stash in
+      record { becomes = subst (Becomes cap b₀ b) e.0 o.kept; falls = e.1 }

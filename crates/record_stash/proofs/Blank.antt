@@ -6,8 +6,9 @@ use mathlib.Core.Bool.{Bool, true, false, ◌&&◌, cond}
 use mathlib.Core.List.{List, [], ◌∷◌}
 use native.Mathlib.Omega.{arith}
 use lib.Dec.{eqb}
-use lib.ListN.{length, get_or, take, drop, replicate, length-drop}
-use lib.Seq.{take_all, take-take, drop-drop}
+use lib.ListN.{get_or, take, drop, replicate}
+use lib.Seq.{take-take}
+use Rattle.std.proofs.Common.{None, Some}
 use Rattle.words.specs.Bytes.{part, zeros}
 use Rattle.words.proofs.Zeros.{of_zeros}
 use Rattle.cookiestash.specs.declared.Seen.{Seen}
@@ -24,17 +25,9 @@ zeros_split zero l = refl
 zeros_split (suc n) [] = refl
 zeros_split (suc n) (x ∷ l) = ap (λ (t : Bool). eqb x 0 && t) (zeros_split n l) ∙ sym (and_assoc (eqb x 0) (zeros (take n l)) (zeros (drop n l)))
 
--- what was scanned and what lies ahead decide together
-pub zeros_more : (b : List ℕ) (at end : ℕ) (t u : Bool) → at ≤ end → u ≡ zeros (take (end - at) (drop at b)) →
-    t && zeros (drop at b) ≡ (t && u) && zeros (drop end b)
-zeros_more b at end t u h e =
-    let n : at + (end - at) ≡ end = omega arith in
-    let rest = drop-drop (end - at) at b ∙ ap (λ (k : ℕ). drop k b) n in
-    ap (λ (x : Bool). t && x) (zeros_split (end - at) (drop at b) ∙ (λ i. sym e i && zeros (rest i)))
-    ∙ sym (and_assoc t u (zeros (drop end b)))
-
-pub zeros_rest : (b : List ℕ) (at : ℕ) (t u : Bool) → at ≤ length b → u ≡ zeros (take (length b - at) (drop at b)) → t && u ≡ t && zeros (drop at b)
-zeros_rest b at t u h e = ap (λ (x : Bool). t && x) (e ∙ ap zeros (take_all (length b - at) (drop at b) (omega (arith, length-drop at b))))
+-- a piece and what lies behind it decide together
+pub zeros_on : (n : ℕ) (l piece behind : List ℕ) → piece ≡ take n l → behind ≡ drop n l → zeros l ≡ zeros piece && zeros behind
+zeros_on n l piece behind p q = zeros_split n l ∙ (λ i. zeros (sym p i) && zeros (sym q i))
 
 -- the start of what lies behind an offset
 pub start_part : (b : List ℕ) (at n k : ℕ) → n ≤ k → part (take k (drop at b)) 0 n ≡ part b at n
@@ -71,13 +64,12 @@ module _ (cap read m : ℕ) where
   has_room = let n : cap - 0 ≡ cap = omega arith in ap (λ (t : Bool). cap - cond t (0 - 1) 0) holds_none ∙ n
 
   pub seen_none : (t : Bool) → t ≡ range_of cap read 0 →
-      ◌≡◌ {A = Seen} (record { whole = t; found = false; len = 0; gap = cap; read = read; held = 0 }) (seen_from cap read 0 true (replicate m 0))
+      ◌≡◌ {A = Seen} (record { whole = t; oldest = None; gap = cap; read = read; held = 0 }) (seen_from cap read 0 true (replicate m 0))
   unfolding seen_from
   seen_none t e =
       λ i. record {
         whole = (e ∙ sym is_whole) i;
-        found = sym holds_none i;
-        len = cond (sym holds_none i) (get_or (replicate m 0) read 0) 0;
+        oldest = cond (sym holds_none i) (Some (get_or (replicate m 0) read 0)) None;
         gap = sym has_room i;
         read = read;
         held = 0;

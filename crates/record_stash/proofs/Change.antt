@@ -17,8 +17,9 @@ use mathlib.Core.Bool.{true, false}
 use borrow.Author.Tests.{ltb-true}
 use lib.Dec.{ltb}
 use Rattle.words.proofs.Tests.{both}
+use Rattle.std.proofs.Common.{None, Some}
 use Rattle.cookiestash.specs.declared.Taken.{Taken}
-use Rattle.cookiestash.specs.Stash.{stored, slot_of, empty_slot, slot_at, wrap, range_of, in_range, rest_of, get_of}
+use Rattle.cookiestash.specs.Stash.{stored, slot_of, empty_slot, slot_at, wrap, range_of, in_range, rest_of, get_of, slot_or_empty}
 use Rattle.cookiestash.specs.Whole.{has_of}
 use Rattle.cookiestash.proofs.Range.{within}
 use Rattle.cookiestash.specs.Handed.{handed_of}
@@ -205,17 +206,26 @@ has cap read held e =
 
 module _ (cap : ℕ) (s : CookieStash) where
   get_found : has_of cap s.read s.held ≡ true →
-      get_of cap s ≡ record { found = true; slot = slot_at s.slots s.read; stash = changed s s.read empty_slot (wrap cap (s.read + 1)) (s.held - 1) }
+      get_of cap s ≡ record { cookie = Some (slot_at s.slots s.read); stash = changed s s.read empty_slot (wrap cap (s.read + 1)) (s.held - 1) }
   unfolding get_of in_range rest_of
   get_found e = simp e
 
-  get_none : has_of cap s.read s.held ≡ false → get_of cap s ≡ record { found = false; slot = empty_slot; stash = s }
+  get_none : has_of cap s.read s.held ≡ false → get_of cap s ≡ record { cookie = None; stash = s }
   unfolding get_of in_range
   get_none e = simp e
 
 empty_none : stored empty_slot.len ≡ 0
 unfolding empty_slot stored
 empty_none = refl
+
+module _ (cap : ℕ) (b : List ℕ) where
+  pub reads : (stash_in b cap).read ≡ get_or b 27 0
+  unfolding stash_in
+  reads = refl
+
+  pub holds : (stash_in b cap).held ≡ get_or b 28 0
+  unfolding stash_in
+  holds = refl
 
 module _ (cap : ℕ) (b : List ℕ) (s : Sized b cap) where
   -- the slot at a place of the stash
@@ -227,17 +237,10 @@ module _ (cap : ℕ) (b : List ℕ) (s : Sized b cap) where
   pub same : Becomes cap b b (stash_in b cap)
   same = record { stash = refl; settings = refl; state = refl; sized = s }
 
-  pub reads : (stash_in b cap).read ≡ get_or b 27 0
-  unfolding stash_in
-  reads = refl
-
-  pub holds : (stash_in b cap).held ≡ get_or b 28 0
-  unfolding stash_in
-  holds = refl
-
   module _ (ys : List ℕ) where
     pub taken_by : has_of cap (get_or b 27 0) (get_or b 28 0) ≡ true → (c zs : List ℕ) (next : ℕ) → next ≡ wrap cap (get_or b 27 0 + 1) →
-        Becomes cap b c (changed (stash_in b cap) (get_or b 27 0) (kept_slot 0 []) next (get_or b 28 0 - 1)) → zs ≡ handed_of (slot_in b (92 + get_or b 27 0 * 726)) ys →
+        Becomes cap b c (changed (stash_in b cap) (get_or b 27 0) (kept_slot 0 []) next (get_or b 28 0 - 1)) →
+        zs ≡ handed_of (slot_in b (92 + get_or b 27 0 * 726)) ys →
         TakenIn cap b c ys zs
     unfolding stash_in
     taken_by e c zs next en f g =
@@ -247,7 +250,7 @@ module _ (cap : ℕ) (b : List ℕ) (s : Sized b cap) where
         = (λ i. changed (stash_in b cap) (get_or b 27 0) (kept_none i) (en i) (get_or b 28 0 - 1)) ∙ sym (ap (λ (x : Taken). x.stash) t) in
         record {
           becomes = subst (Becomes cap b c) p f;
-          leaves = g ∙ ap (λ (x : Slot). handed_of x ys) (sym (slot_at_lem (get_or b 27 0) h.1) ∙ sym (ap (λ (x : Taken). x.slot) t));
+          leaves = g ∙ ap (λ (x : Slot). handed_of x ys) (sym (slot_at_lem (get_or b 27 0) h.1) ∙ sym (ap slot_or_empty t));
         }
 
     pub left_by : has_of cap (get_or b 27 0) (get_or b 28 0) ≡ false → TakenIn cap b b ys ys
@@ -256,5 +259,5 @@ module _ (cap : ℕ) (b : List ℕ) (s : Sized b cap) where
         let t = get_none cap (stash_in b cap) e in
         record {
           becomes = subst (Becomes cap b b) (sym (ap (λ (x : Taken). x.stash) t)) same;
-          leaves = sym (handed_none empty_slot ys empty_none) ∙ ap (λ (x : Taken). handed_of x.slot ys) (sym t);
+          leaves = sym (handed_none empty_slot ys empty_none) ∙ ap (λ (x : Taken). handed_of (slot_or_empty x) ys) (sym t);
         }

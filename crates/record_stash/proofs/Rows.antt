@@ -72,7 +72,7 @@ lens b cap = map (λ (x : Slot). x.len) (slots_in b 92 cap)
 pub lens_long : (b : List ℕ) (cap : ℕ) → length (lens b cap) ≡ cap
 lens_long b cap = length-map (slots_in b 92 cap) (λ (x : Slot). x.len) ∙ slots_long b 92 cap
 
-len_is : (b : List ℕ) (at : ℕ) → (slot_in b at).len ≡ be (part b (at + 724) 2)
+pub len_is : (b : List ℕ) (at : ℕ) → (slot_in b at).len ≡ be (part b (at + 724) 2)
 unfolding slot_in
 len_is b at = refl
 
@@ -112,7 +112,8 @@ lens_past [] zero = refl
 lens_past [] (suc k) = ap (λ (l : List ℕ). 0 ∷ l) (lens_past [] k)
 lens_past (x ∷ xs) k = ap (λ (l : List ℕ). x.len ∷ l) (lens_past xs k)
 
-pub seen_in_lem : (b : List ℕ) (cap : ℕ) → seen_from cap (get_or b 27 0) (get_or b 28 0) (all_padded (slots_in b 92 cap)) (lens_in b cap) ≡ seen_of cap (stash_in b cap)
+pub seen_in_lem : (b : List ℕ) (cap : ℕ) →
+    seen_from cap (get_or b 27 0) (get_or b 28 0) (all_padded (slots_in b 92 cap)) (lens_in b cap) ≡ seen_of cap (stash_in b cap)
 unfolding stash_in lens_in lens_of
 seen_in_lem b cap =
     (λ i. seen_from cap (get_or b 27 0) (get_or b 28 0) (sym (padded_past (slots_in b 92 cap) (8 - cap)) i) (sym (lens_past (slots_in b 92 cap) (8 - cap)) i))

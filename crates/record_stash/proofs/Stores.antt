@@ -1,7 +1,7 @@
 -- A cookie that is stored in lent bytes, and a list of them.
 -- Assumes nothing.
 use Prim.Native.Nat.{ℕ, ◌+◌, ◌-◌, ◌*◌, ◌≤◌, ◌<◌, ◌^◌}
-use mathlib.Core.Path.{◌≡◌, refl, sym, ap, subst, ◌∙◌}
+use mathlib.Core.Path.{◌≡◌, sym, ap, subst, ◌∙◌}
 use mathlib.Core.Bool.{true, false}
 use mathlib.Core.List.{List, [], ◌++◌}
 use native.Mathlib.Decide.{dec_lt}
@@ -12,12 +12,12 @@ use lib.Seq.{get_or-append-add}
 use Rattle.words.specs.Bytes.{be, part}
 use Rattle.words.proofs.Bytes.{Bytes, length_part, bytes_part, be_below}
 use Rattle.cookiestash.specs.declared.Slot.{Slot}
-use Rattle.cookiestash.specs.declared.Fallen.{Fallen}
+use Rattle.std.proofs.Common.{Option, Some}
 use Rattle.cookiestash.specs.Stash.{stored, slot_of, empty_slot, slot_at, wrap, full, range_of, in_range, put_of, store_of}
 use Rattle.cookiestash.specs.Whole.{Typed}
 use Rattle.cookiestash.specs.Falling.{none_fallen, oldest_of, fallen_of}
 use Rattle.record_stash.specs.Rows.{slot_in, slots_in, stash_in, Sized}
-use Rattle.record_stash.proofs.Rows.{slots_long}
+use Rattle.record_stash.proofs.Rows.{slots_long, len_is}
 use Rattle.record_stash.specs.Slots.{kept_slot, Becomes, changed, StoredIn}
 use Rattle.record_stash.proofs.Change.{slot_at_lem, same, kept_stored}
 
@@ -35,30 +35,27 @@ module _ (cap : ℕ) (b : List ℕ) (x : Slot) (place : ℕ) (p : place ≡ wrap
 
 -- ---- what falls out
 
-len_in : (b : List ℕ) (at : ℕ) → (slot_in b at).len ≡ be (part b (at + 724) 2)
-unfolding slot_in
-len_in b at = refl
-
 module _ (cap : ℕ) (b : List ℕ) where
   pub none_falls : get_or b 28 0 < cap → oldest_of cap (stash_in b cap) ≡ none_fallen
   unfolding stash_in oldest_of full
   none_falls h = simp (lt-leb cap (get_or b 28 0) h)
 
-  full_falls : cap ≤ get_or b 28 0 → oldest_of cap (stash_in b cap) ≡ record { fell = true; len = (slot_at (stash_in b cap).slots (get_or b 27 0)).len }
+  full_falls : cap ≤ get_or b 28 0 → oldest_of cap (stash_in b cap) ≡ Some (slot_at (stash_in b cap).slots (get_or b 27 0)).len
   unfolding stash_in oldest_of full
   full_falls h = simp (le-leb cap (get_or b 28 0) h)
 
   pub one_falls : Sized b cap → cap ≤ get_or b 28 0 → get_or b 27 0 < cap → (len : ℕ) → len ≡ be (part b (92 + get_or b 27 0 * 726 + 724) 2) →
-      record { fell = true; len = len } ≡ oldest_of cap (stash_in b cap)
+      Some len ≡ oldest_of cap (stash_in b cap)
   one_falls s h r len l =
-      let u : len ≡ (slot_at (stash_in b cap).slots (get_or b 27 0)).len = l ∙ sym (len_in b (92 + get_or b 27 0 * 726))
+      let u : len ≡ (slot_at (stash_in b cap).slots (get_or b 27 0)).len = l ∙ sym (len_is b (92 + get_or b 27 0 * 726))
       ∙ ap (λ (y : Slot). y.len) (sym (slot_at_lem cap b s (get_or b 27 0) r)) in
-      (λ i. record { fell = true; len = u i }) ∙ sym (full_falls h)
+      ap Some u ∙ sym (full_falls h)
 
 -- ---- a cookie is stored, or not
 
 module _ (cap : ℕ) (b c : List ℕ) where
-  out_store : range_of cap (get_or b 27 0) (get_or b 28 0) ≡ false → (store_of cap (stash_in b cap) c ≡ stash_in b cap) × (fallen_of cap (stash_in b cap) c ≡ none_fallen)
+  out_store : range_of cap (get_or b 27 0) (get_or b 28 0) ≡ false →
+      (store_of cap (stash_in b cap) c ≡ stash_in b cap) × (fallen_of cap (stash_in b cap) c ≡ none_fallen)
   unfolding store_of fallen_of in_range stash_in
   out_store e = (simp e, simp e)
 
@@ -67,8 +64,8 @@ module _ (cap : ℕ) (b c : List ℕ) where
   unfolding store_of fallen_of in_range stash_in
   long_store e h = (simp (e, lt-leb (length c) 65535 h), simp (e, lt-leb (length c) 65535 h))
 
-  put_store : range_of cap (get_or b 27 0) (get_or b 28 0) ≡ true → length c ≤ 65535 → (store_of cap (stash_in b cap) c ≡ put_of cap (stash_in b cap) (slot_of c)) ×
-      (fallen_of cap (stash_in b cap) c ≡ oldest_of cap (stash_in b cap))
+  put_store : range_of cap (get_or b 27 0) (get_or b 28 0) ≡ true → length c ≤ 65535 →
+      (store_of cap (stash_in b cap) c ≡ put_of cap (stash_in b cap) (slot_of c)) × (fallen_of cap (stash_in b cap) c ≡ oldest_of cap (stash_in b cap))
   unfolding store_of fallen_of in_range stash_in
   put_store e h = (simp (e, le-leb (length c) 65535 h), simp (e, le-leb (length c) 65535 h))
 
@@ -79,7 +76,7 @@ module _ (cap : ℕ) (b c : List ℕ) where
     pub long_by : range_of cap (get_or b 27 0) (get_or b 28 0) ≡ true → 65535 < length c → StoredIn cap c b b none_fallen
     long_by e h = let p = long_store e h in (subst (Becomes cap b b) (sym p.0) (same cap b s), sym p.1)
 
-    pub put_by : range_of cap (get_or b 27 0) (get_or b 28 0) ≡ true → length c ≤ 65535 → (n : ℕ) → n ≡ stored (length c) → (d : List ℕ) (f : Fallen) →
+    pub put_by : range_of cap (get_or b 27 0) (get_or b 28 0) ≡ true → length c ≤ 65535 → (n : ℕ) → n ≡ stored (length c) → (d : List ℕ) (f : Option ℕ) →
         Becomes cap b d (put_of cap (stash_in b cap) (kept_slot (length c) (take n c))) → f ≡ oldest_of cap (stash_in b cap) → StoredIn cap c b d f
     put_by e h n en d f g q = let p = put_store e h in
         (subst (Becomes cap b d) (ap (put_of cap (stash_in b cap)) (kept_stored c n en) ∙ sym p.0) g, q ∙ sym p.1)
@@ -104,7 +101,7 @@ module _ (cap : ℕ) (b : List ℕ) (s : Sized b cap) where
   unfolding empty_slot
   sized_none = (length-replicate {A = ℕ} 724 0, omega arith)
 
-  past : (k : ℕ) → cap ≤ k → k < 8 → slot_at (stash_in b cap).slots k ≡ empty_slot
+  pub past : (k : ℕ) → cap ≤ k → k < 8 → slot_at (stash_in b cap).slots k ≡ empty_slot
   unfolding stash_in
   past k h l =
       let d : Slot = record { bytes = []; len = 0 } in

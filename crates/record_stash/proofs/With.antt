@@ -2,10 +2,10 @@
 -- Assumes nothing.
 use Prim.Native.Nat.{ℕ, zero, suc, ◌+◌, ◌-◌, ◌*◌, ◌≤◌}
 use mathlib.Core.Path.{◌≡◌, sym, ap, ◌∙◌}
-use mathlib.Core.Bool.{Bool, true, false, cond}
+use mathlib.Core.Bool.{Bool, true}
 use mathlib.Core.List.{List, ◌∷◌, ◌++◌, append_assoc}
 use native.Mathlib.Omega.{arith}
-use borrow.Author.Tests.{leb-true, eqb-true, le-leb, eq-eqb, ne_eqb}
+use borrow.Author.Tests.{leb-true, eqb-true, le-leb, eq-eqb}
 use lib.Dec.{leb, eqb}
 use lib.ListN.{length, get_or, take, drop, replicate, drop_of_length-le}
 use lib.Seq.{drop-cons, take_at}
@@ -16,23 +16,8 @@ use Rattle.cookiestash.specs.declared.CookieStash.{CookieStash}
 use Rattle.cookiestash.specs.declared.Dropped.{Dropped}
 use Rattle.cookiestash.specs.Stash.{stored, empty_slot, range_of, put_of}
 use Rattle.cookiestash.specs.Whole.{seen_of}
-use Rattle.cookiestash.specs.Falling.{none_dropped}
 use Rattle.record_stash.specs.Rows.{slot_in, slots_in, stash_in, sized_in, Sized, row_of, rows_of}
-use Rattle.record_stash.specs.Slots.{
-  with_stash,
-  unseen,
-  seen_in,
-  took,
-  taken_in,
-  refilled,
-  refilled_in,
-  kept_slot,
-  laid_in,
-  Becomes,
-  TakenIn,
-  LaidIn,
-  RefilledIn,
-}
+use Rattle.record_stash.specs.Slots.{with_stash, seen_in, took, taken_in, refilled, refilled_in, kept_slot, laid_in, Becomes, TakenIn, LaidIn, RefilledIn}
 use Rattle.record_stash.proofs.Rows.{slots_long}
 
 -- ---- the test of the number of bytes
@@ -87,65 +72,25 @@ of_becomes cap b c t y g =
     sym (with_own cap c g.sized y)
     ∙ (λ i. g.settings i ++ ((g.stash i).read ∷ (g.stash i).held ∷ (g.state i ++ rows_of (take cap (g.stash i).slots))))
 
--- ---- each public function, by what was tested
-
-not_both : (t : Bool) {A : Type 0} → t ≡ true → t ≡ false → A
-not_both t p q = let z : ◌≡◌ {A = ℕ} 0 1 = ap (λ (u : Bool). cond u 1 0) (sym q ∙ p) in absurd (omega arith)
+-- ---- each public function that changed the bytes
 
 module _ (cap : ℕ) (b : List ℕ) where
-  pub not_seen : sized_in b cap ≡ false → unseen ≡ seen_in b cap
-  unfolding seen_in
-  not_seen s = sym (rw s)
-
   pub seen_is : sized_in b cap ≡ true → seen_in b cap ≡ seen_of cap (stash_in b cap)
   unfolding seen_in
   seen_is s = rw s
 
-  module _ (takes : Bool) (ys : List ℕ) where
-    pub not_asked : takes ≡ false → took b ys ≡ taken_in cap takes b ys
-    unfolding taken_in
-    not_asked t = sym (rw t)
+  pub taken_is : (takes : Bool) (ys : List ℕ) → takes ≡ true → sized_in b cap ≡ true → (c zs : List ℕ) → Bytes c → TakenIn cap b c ys zs →
+      took c zs ≡ taken_in cap takes b ys
+  unfolding taken_in
+  taken_is takes ys t s c zs y g = (λ i. took (of_becomes cap b c _ y g.becomes i) (g.leaves i)) ∙ sym (rw (t, s))
 
-    module _ (t : takes ≡ true) where
-      pub none_taken : sized_in b cap ≡ false → took b ys ≡ taken_in cap takes b ys
-      unfolding taken_in
-      none_taken s = sym (rw (t, s))
+  pub refilled_is : (stores : Bool) (list : List ℕ) → stores ≡ true → sized_in b cap ≡ true → (c : List ℕ) (d : Dropped) → Bytes c → RefilledIn cap list b c d →
+      refilled d c ≡ refilled_in cap stores list b
+  unfolding refilled_in
+  refilled_is stores list t s c d y g = (λ i. refilled (g.falls i) (of_becomes cap b c _ y g.becomes i)) ∙ sym (rw (t, s))
 
-      pub taken_is : sized_in b cap ≡ true → (c zs : List ℕ) → Bytes c → TakenIn cap b c ys zs → took c zs ≡ taken_in cap takes b ys
-      unfolding taken_in
-      taken_is s c zs y g = (λ i. took (of_becomes cap b c _ y g.becomes i) (g.leaves i)) ∙ sym (rw (t, s))
-
-  module _ (stores : Bool) (list : List ℕ) where
-    pub not_stored : (d : Dropped) → d ≡ none_dropped → stores ≡ false → refilled d b ≡ refilled_in cap stores list b
-    unfolding refilled_in
-    not_stored d e t = ap (λ (x : Dropped). refilled x b) e ∙ sym (rw t)
-
-    module _ (t : stores ≡ true) where
-      pub none_stored : (d : Dropped) → d ≡ none_dropped → sized_in b cap ≡ false → refilled d b ≡ refilled_in cap stores list b
-      unfolding refilled_in
-      none_stored d e s = ap (λ (x : Dropped). refilled x b) e ∙ sym (rw (t, s))
-
-      pub refilled_is : sized_in b cap ≡ true → (c : List ℕ) (d : Dropped) → Bytes c → RefilledIn cap list b c d → refilled d c ≡ refilled_in cap stores list b
-      unfolding refilled_in
-      refilled_is s c d y g = (λ i. refilled (g.falls i) (of_becomes cap b c _ y g.becomes i)) ∙ sym (rw (t, s))
-
-  module _ (len : ℕ) (kept : List ℕ) where
-    pub laid_unsized : sized_in b cap ≡ false → LaidIn cap len kept b b
-    unfolding laid_in
-    laid_unsized s = record { is = sym (rw s); becomes = λ z r k. not_both (sized_in b cap) (of_sized b cap z) s }
-
-    module _ (s : sized_in b cap ≡ true) where
-      pub laid_out : range_of cap (get_or b 27 0) (get_or b 28 0) ≡ false → LaidIn cap len kept b b
-      unfolding laid_in
-      laid_out r = record { is = sym (rw (s, r)); becomes = λ z q k. not_both (range_of cap (get_or b 27 0) (get_or b 28 0)) q r }
-
-      module _ (r : range_of cap (get_or b 27 0) (get_or b 28 0) ≡ true) (n : ℕ) (e : n ≡ stored len) where
-        pub laid_unkept : (length kept ≡ n → ⊥) → LaidIn cap len kept b b
-        unfolding laid_in
-        laid_unkept k =
-            let q : eqb (length kept) (stored len) ≡ false = ap (eqb (length kept)) (sym e) ∙ ne_eqb (length kept) n k in
-            record { is = sym (rw (s, r, q)); becomes = λ z w l. absurd (k (l ∙ sym e)) }
-
-        pub laid_is : length kept ≡ n → (c : List ℕ) → Bytes c → Becomes cap b c (put_of cap (stash_in b cap) (kept_slot len kept)) → LaidIn cap len kept b c
-        unfolding laid_in
-        laid_is k c y g = record { is = of_becomes cap b c _ y g ∙ sym (rw (s, r, eq-eqb (length kept) (stored len) (k ∙ e))); becomes = λ z w l. g }
+  pub laid_is : (len : ℕ) (kept : List ℕ) → sized_in b cap ≡ true → range_of cap (get_or b 27 0) (get_or b 28 0) ≡ true → (n : ℕ) → n ≡ stored len →
+      length kept ≡ n → (c : List ℕ) → Bytes c → Becomes cap b c (put_of cap (stash_in b cap) (kept_slot len kept)) → LaidIn cap len kept b c
+  unfolding laid_in
+  laid_is len kept s r n e k c y g =
+      record { is = of_becomes cap b c _ y g ∙ sym (rw (s, r, eq-eqb (length kept) (stored len) (k ∙ e))); becomes = λ z w l. g }

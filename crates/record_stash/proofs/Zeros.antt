@@ -83,6 +83,3 @@ rows_zero zero = refl
 rows_zero (suc n) =
     let e : 726 + n * 726 ≡ suc n * 726 = omega arith in
     (λ i. row_zero i ++ rows_zero n i) ∙ replicate-append-replicate 726 (n * 726) 0 ∙ ap (λ (k : ℕ). replicate k 0) e
-
-pub cleared : (b : List ℕ) (n : ℕ) → b ≡ replicate n 0 → length b ≡ n
-cleared b n e = ap length e ∙ length-replicate {A = ℕ} n 0

@@ -1,14 +1,13 @@
 -- A stash in lent bytes that is read and changed in place (RULES, part 3, No. 5 and No. 12): what `cookiestash` says about it by value.
 -- If the number of bytes does not fit the capacity, they are not read, and none of them changes.
 -- Assumes nothing.
-use Rattle.std.specs.Prelude.{ℕ, ◌-◌, ◌≡◌, Bool, true, false, ◌&&◌, cond, List, ◌∷◌, ◌++◌, eqb, length, get_or, take, set, replicate}
+use Rattle.std.specs.Prelude.{ℕ, ◌-◌, ◌≡◌, Bool, true, false, ◌&&◌, cond, List, ◌∷◌, ◌++◌, eqb, length, get_or, take, set, replicate, Option, None}
 use Rattle.words.specs.Bytes.{part}
 use Rattle.cookiestash.specs.declared.Slot.{Slot}
 use Rattle.cookiestash.specs.declared.CookieStash.{CookieStash}
 use Rattle.cookiestash.specs.declared.Seen.{Seen}
-use Rattle.cookiestash.specs.declared.Fallen.{Fallen}
 use Rattle.cookiestash.specs.declared.Dropped.{Dropped}
-use Rattle.cookiestash.specs.Stash.{stored, range_of, put_of, store_of, get_of}
+use Rattle.cookiestash.specs.Stash.{stored, range_of, put_of, store_of, get_of, slot_or_empty}
 use Rattle.cookiestash.specs.Whole.{seen_of}
 use Rattle.cookiestash.specs.StoreList.{store_list_of}
 use Rattle.cookiestash.specs.Falling.{fallen_of, none_dropped, dropped_of}
@@ -24,7 +23,7 @@ with_stash cap b s = part b 0 27 ++ (s.read ∷ s.held ∷ (part b 29 63 ++ rows
 
 -- the summary of bytes that are no stash: it is not whole
 abbrev pub unseen : Seen
-unseen = record { whole = false; found = false; len = 0; gap = 0; read = 0; held = 0 }
+unseen = record { whole = false; oldest = None; gap = 0; read = 0; held = 0 }
 
 -- promise exports.2: The stash is read, a cookie taken, cookies stored and laid within the bytes. Every other byte stays.
 --     edit: record_stash/a_cookie_goes_to_another_row, record_stash/the_last_byte_of_a_row_stays, record_stash/a_length_is_read_from_the_bytes,
@@ -47,7 +46,7 @@ took b buffer = record { bytes = b; left = buffer }
 unfoldable pub taken_in : ℕ → Bool → List ℕ → List ℕ → Took
 taken_in cap takes b buffer =
     cond (takes && sized_in b cap)
-    (took (with_stash cap b (get_of cap (stash_in b cap)).stash) (handed_of (get_of cap (stash_in b cap)).slot buffer))
+    (took (with_stash cap b (get_of cap (stash_in b cap)).stash) (handed_of (slot_or_empty (get_of cap (stash_in b cap))) buffer))
     (took b buffer)
 
 -- ---- cookies are stored
@@ -104,13 +103,13 @@ pub record LaidIn (cap len : ℕ) (kept b c : List ℕ) : Type 0 where
       Becomes cap b c (put_of cap (stash_in b cap) (kept_slot len kept))
 
 -- a cookie is stored
-abbrev pub StoredIn : ℕ → List ℕ → List ℕ → List ℕ → Fallen → Type 0
+abbrev pub StoredIn : ℕ → List ℕ → List ℕ → List ℕ → Option ℕ → Type 0
 StoredIn cap cookie b c f = (Becomes cap b c (store_of cap (stash_in b cap) cookie)) × (f ≡ fallen_of cap (stash_in b cap) cookie)
 
 -- the oldest is taken
 pub record TakenIn (cap : ℕ) (b c buffer left : List ℕ) : Type 0 where
   pub becomes : Becomes cap b c (get_of cap (stash_in b cap)).stash
-  pub leaves : left ≡ handed_of (get_of cap (stash_in b cap)).slot buffer
+  pub leaves : left ≡ handed_of (slot_or_empty (get_of cap (stash_in b cap))) buffer
 
 -- a list is stored
 pub record RefilledIn (cap : ℕ) (list b c : List ℕ) (d : Dropped) : Type 0 where

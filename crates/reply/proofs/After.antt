@@ -7,16 +7,21 @@ use mathlib.Core.Bool.{true, false, ◌&&◌, ◌||◌, cond}
 use Prim.Native.Nat.{ℕ}
 use lib.Dec.{T, leb, eqb}
 use lib.Signed.{◌≤ℤ◌, ≤ℤ_refl}
+use Rattle.std.specs.Prelude.{Option}
 use Rattle.words.proofs.Tests.{unless}
 use Rattle.time_types.specs.Poll.{interval, after_rate}
 use Rattle.time_types.proofs.Rate.{rate_keeps}
 use Rattle.association.specs.declared.Association.{Association}
+use Rattle.association.specs.declared.Effort.{Effort}
 use Rattle.association.specs.declared.Polls.{Polls}
+use Rattle.association.specs.declared.State.{State}
 use Rattle.association.specs.Record.{no_pending, with_state}
-use Rattle.wire_incoming.specs.declared.ReplyRead.{ReplyRead}
+use Rattle.wire_incoming.specs.declared.Reply.{Reply}
 use Rattle.reply_clauses.specs.After.{Arrival, stepped, after_rate_kiss, after_denial, after_measured}
 use Rattle.reply_clauses.proofs.Remote.{raised_keeps}
+use Rattle.reply_rules.specs.declared.ReplyAnswer.{ReplyAnswer}
 use Rattle.reply.specs.declared.ReplyOut.{ReplyOut}
+use Rattle.reply.specs.Reply.{out}
 use Rattle.reply.specs.Numbers.{
   Given,
   not_whole,
@@ -46,28 +51,53 @@ pub record Heard (a : Association) (n : ℕ) (o : ReplyOut) : Type 0 where
   pub same : T ((leb 1 n && leb n 4) || leb 12 n) → o.association ≡ a
   pub version : T (leb 7 n && leb n 11) → o.association ≡ with_state a (stepped a.state)
 
-module _ (a : Association) (read : ReplyRead) (t : Arrival) where
+-- with most numbers nothing changes
+unchanged : {a : Association} {n : ℕ} {r : ReplyAnswer} → eqb n 0 ≡ false → (T (leb 7 n && leb n 11) → ⊥) → Heard a n (out r a)
+unchanged z v =
+    record {
+      settings = refl;
+      request = sym (unless _ _ z);
+      effort = λ _. refl;
+      unanswered = sym (unless _ _ z);
+      same = λ _. refl;
+      version = λ t. absurd (v t);
+    }
+
+-- a matching reply that is not measured leaves effort and request
+matched : {a : Association} {n : ℕ} {r : ReplyAnswer} (s : State) → eqb n 0 ≡ false → (T ((leb 1 n && leb n 4) || leb 12 n) → ⊥) →
+    s.effort ≡ a.state.effort → s.request ≡ a.state.request → (T (leb 7 n && leb n 11) → s ≡ stepped a.state) → Heard a n (out r (with_state a s))
+matched {a} s z k f q v =
+    record {
+      settings = refl;
+      request = q ∙ sym (unless _ _ z);
+      effort = λ _. f;
+      unanswered = ap (λ (e : Effort). e.unanswered) f ∙ sym (unless _ _ z);
+      same = λ t. absurd (k t);
+      version = λ t. ap (with_state a) (v t);
+    }
+
+module _ (a : Association) (read : Option Reply) (t : Arrival) where
   -- promise 11.6: Kisses, 10 and 11 leave the request pending.
   --     edit: reply_rules/a_kiss_clears_the_request
   -- promise 11.9: The numbers 1, 2, 4, 12, 13, 14, 32 and 33 leave the record unchanged.
   -- promise: 11.6 (its `request`, `settings`, `version`), 11.9 (its `same`), no8.4 (its `unanswered`), demand.1
   pub heard : {n : ℕ} {o : ReplyOut} → Given a read t n o → Heard a n o
   unfolding stepped after_rate_kiss after_denial after_measured
-  heard (not_whole e) = record { settings = refl; request = refl; effort = λ _. refl; unanswered = refl; same = λ _. refl; version = absurd }
-  heard (undecodable w e) = record { settings = refl; request = refl; effort = λ _. refl; unanswered = refl; same = λ _. refl; version = absurd }
-  heard (broken_list d e) = record { settings = refl; request = refl; effort = λ _. refl; unanswered = refl; same = λ _. refl; version = absurd }
-  heard (unexpected_version l e) = record { settings = refl; request = refl; effort = λ _. refl; unanswered = refl; same = λ _. refl; version = absurd }
-  heard (never_sent_lem x e) = record { settings = refl; request = refl; effort = λ _. refl; unanswered = refl; same = λ _. refl; version = absurd }
-  heard (already_measured_lem x e) = record { settings = refl; request = refl; effort = λ _. refl; unanswered = refl; same = λ _. refl; version = absurd }
-  heard (late x e) = record { settings = refl; request = refl; effort = λ _. refl; unanswered = refl; same = λ _. refl; version = absurd }
-  heard (no_match i e) = record { settings = refl; request = refl; effort = λ _. refl; unanswered = refl; same = λ _. refl; version = absurd }
-  heard (rate m e) = record { settings = refl; request = refl; effort = λ _. refl; unanswered = refl; same = absurd; version = absurd }
-  heard (denied u e f) = record { settings = refl; request = refl; effort = λ _. refl; unanswered = refl; same = absurd; version = absurd }
-  heard (denied_nts u e f) = record { settings = refl; request = refl; effort = λ _. refl; unanswered = refl; same = absurd; version = λ _. refl }
-  heard (ntsn v e) = record { settings = refl; request = refl; effort = λ _. refl; unanswered = refl; same = absurd; version = λ _. refl }
-  heard (other_kiss w e) = record { settings = refl; request = refl; effort = λ _. refl; unanswered = refl; same = absurd; version = λ _. refl }
-  heard (bad_stratum k e) = record { settings = refl; request = refl; effort = λ _. refl; unanswered = refl; same = absurd; version = λ _. refl }
-  heard (not_server s e) = record { settings = refl; request = refl; effort = λ _. refl; unanswered = refl; same = absurd; version = λ _. refl }
+  heard (not_whole e) = unchanged refl (λ t. t)
+  heard (undecodable w e) = unchanged refl (λ t. t)
+  heard (broken_list d e) = unchanged refl (λ t. t)
+  heard (unexpected_version l e) = unchanged refl (λ t. t)
+  heard (never_sent_lem x e) = unchanged refl (λ t. t)
+  heard (already_measured_lem x e) = unchanged refl (λ t. t)
+  heard (late x e) = unchanged refl (λ t. t)
+  heard (no_match i e) = unchanged refl (λ t. t)
+  heard (rate m e) = matched _ refl (λ t. t) refl refl absurd
+  heard (denied u e f) = matched _ refl (λ t. t) refl refl absurd
+  heard (denied_nts u e f) = matched _ refl (λ t. t) refl refl (λ _. refl)
+  heard (ntsn v e) = matched _ refl (λ t. t) refl refl (λ _. refl)
+  heard (other_kiss w e) = matched _ refl (λ t. t) refl refl (λ _. refl)
+  heard (bad_stratum k e) = matched _ refl (λ t. t) refl refl (λ _. refl)
+  heard (not_server s e) = matched _ refl (λ t. t) refl refl (λ _. refl)
   heard (measured s e) = record { settings = refl; request = refl; effort = λ u. absurd (u refl); unanswered = refl; same = absurd; version = absurd }
 
 -- ---- the poll values
@@ -85,7 +115,7 @@ unmoved {a} e p =
     let same = ap (λ (x : Polls). x.remote) p in
     record { last = ap (λ (x : Polls). x.last) p; remote = λ _. same ∙ sym (unless _ _ e); least = rw same (≤ℤ_refl a.state.polls.remote.0) }
 
-module _ (a : Association) (read : ReplyRead) (t : Arrival) where
+module _ (a : Association) (read : Option Reply) (t : Arrival) where
   -- promise: 11.4 (its `remote`, `last`)
   pub paced : {n : ℕ} {o : ReplyOut} → Given a read t n o → Paced a n o
   unfolding stepped after_rate_kiss after_denial after_measured

@@ -4,11 +4,12 @@ use mathlib.Core.Path.{◌≡◌, ap, ◌∙◌}
 use mathlib.Core.Bool.{cond}
 use mathlib.Core.List.{List}
 use Prim.Native.Nat.{ℕ}
+use Rattle.std.specs.Prelude.{Option}
 use Rattle.cookiestash.specs.StoreList.{store_list_of}
 use Rattle.cookiestash.specs.Falling.{none_dropped, dropped_of}
 use Rattle.cookiestash.specs.Whole.{seen_of}
 use Rattle.association.specs.declared.Association.{Association}
-use Rattle.wire_incoming.specs.declared.ReplyRead.{ReplyRead}
+use Rattle.wire_incoming.specs.declared.Reply.{Reply}
 use Rattle.reply_clauses.specs.After.{Arrival}
 use Rattle.reply_rules.specs.declared.Verdict.{Verdict}
 use Rattle.reply_rules.specs.Judge.{verdict_of}
@@ -22,7 +23,7 @@ judged_in c a list v =
     (record { settings = a.settings; stash = cond v.stores (store_list_of c a.stash list) a.stash; state = v.state })
 
 -- promise: no12.4
-pub reply_8 : (a : Association) → a.settings.capacity ≡ 8 → (read : ReplyRead) (t : Arrival) →
+pub reply_8 : (a : Association) → a.settings.capacity ≡ 8 → (read : Option Reply) (t : Arrival) →
     replied_of a read t ≡ judged_in 8 a t.list (verdict_of a.settings a.state (seen_of 8 a.stash) read t)
 unfolding replied_of
 reply_8 a e read t =

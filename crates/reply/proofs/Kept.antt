@@ -5,6 +5,7 @@ use mathlib.Core.Bool.{Bool, true, false, cond}
 use mathlib.Core.List.{List}
 use Prim.Native.Nat.{ℕ}
 use lib.Dec.{eqb}
+use Rattle.std.specs.Prelude.{Option}
 use Rattle.words.proofs.Zeros.{of_zeros}
 use Rattle.words.proofs.Tests.{passes, both}
 use Rattle.reach.proofs.Unanswered.{answered_unanswered}
@@ -15,10 +16,11 @@ use Rattle.cookiestash.proofs.StoreList.{store_list_whole}
 use Rattle.version.specs.Upgrade.{stepped_of}
 use Rattle.version.proofs.Retired.{stepped_stays}
 use Rattle.association.specs.declared.Association.{Association}
-use Rattle.association.specs.Record.{no_pending, versions_valid, pending_valid, idle_valid}
+use Rattle.association.specs.declared.State.{State}
+use Rattle.association.specs.Record.{no_pending, with_state, versions_valid, pending_valid, idle_valid}
 use Rattle.association.specs.Whole.{Whole}
 use Rattle.association.proofs.Whole.{versions_kept}
-use Rattle.wire_incoming.specs.declared.ReplyRead.{ReplyRead}
+use Rattle.wire_incoming.specs.declared.Reply.{Reply}
 use Rattle.reply_clauses.specs.After.{Arrival, stepped, after_rate_kiss, after_denial, after_measured}
 use Rattle.reply.specs.declared.ReplyOut.{ReplyOut}
 use Rattle.reply.specs.Reply.{replied_of}
@@ -61,11 +63,24 @@ module _ (cap : ℕ) (s : CookieStash) (list : List ℕ) where
       passes _ first.0 ∙ passes _ (both (eqb s.held 0) _ first.1).0 ∙ of_zeros 32
 
 -- whichever number is given
-module _ (a : Association) (read : ReplyRead) (t : Arrival) (w : Whole a) where
+module _ (a : Association) (read : Option Reply) (t : Arrival) (w : Whole a) where
   -- the upgrade step leads to no retired kind
   stepped_on : versions_valid a.settings.start (stepped_of a.state.version false) ≡ true
   stepped_on = versions_kept a.settings.start a.state.version (stepped_of a.state.version false) (stepped_stays a.state.version.kind false)
       w.versions
+
+  -- a matching reply that is not measured leaves effort and request
+  matched_whole : (s : State) → s.version ≡ stepped_of a.state.version false → s.effort ≡ a.state.effort → s.request ≡ a.state.request →
+      Whole (with_state a s)
+  matched_whole s v f q =
+      record {
+        settings = w.settings;
+        stash = w.stash;
+        counted = rw f w.counted;
+        versions = rw v stepped_on;
+        request = rw q w.request;
+        idle = rw q w.idle;
+      }
 
   given_whole : {n : ℕ} {o : ReplyOut} → Given a read t n o → Whole o.association
   unfolding stepped after_rate_kiss after_denial after_measured no_pending pending_valid
@@ -77,67 +92,13 @@ module _ (a : Association) (read : ReplyRead) (t : Arrival) (w : Whole a) where
   given_whole (already_measured_lem x e) = w
   given_whole (late x e) = w
   given_whole (no_match i e) = w
-  given_whole (rate m e) = record {
-    settings = w.settings;
-    stash = w.stash;
-    counted = w.counted;
-    versions = stepped_on;
-    request = w.request;
-    idle = w.idle;
-  }
-  given_whole (denied u e f) = record {
-    settings = w.settings;
-    stash = w.stash;
-    counted = w.counted;
-    versions = stepped_on;
-    request = w.request;
-    idle
-        = w.idle;
-  }
-  given_whole (denied_nts u e f) = record {
-    settings = w.settings;
-    stash = w.stash;
-    counted = w.counted;
-    versions = stepped_on;
-    request = w.request;
-    idle
-        = w.idle;
-  }
-  given_whole (ntsn v e) = record {
-    settings = w.settings;
-    stash = w.stash;
-    counted = w.counted;
-    versions = stepped_on;
-    request = w.request;
-    idle = w.idle;
-  }
-  given_whole (other_kiss k e) = record {
-    settings = w.settings;
-    stash = w.stash;
-    counted = w.counted;
-    versions = stepped_on;
-    request = w.request;
-    idle
-        = w.idle;
-  }
-  given_whole (bad_stratum k e) = record {
-    settings = w.settings;
-    stash = w.stash;
-    counted = w.counted;
-    versions = stepped_on;
-    request = w.request;
-    idle
-        = w.idle;
-  }
-  given_whole (not_server s e) = record {
-    settings = w.settings;
-    stash = w.stash;
-    counted = w.counted;
-    versions = stepped_on;
-    request = w.request;
-    idle
-        = w.idle;
-  }
+  given_whole (rate m e) = matched_whole _ refl refl refl
+  given_whole (denied u e f) = matched_whole _ refl refl refl
+  given_whole (denied_nts u e f) = matched_whole _ refl refl refl
+  given_whole (ntsn v e) = matched_whole _ refl refl refl
+  given_whole (other_kiss k e) = matched_whole _ refl refl refl
+  given_whole (bad_stratum k e) = matched_whole _ refl refl refl
+  given_whole (not_server s e) = matched_whole _ refl refl refl
   given_whole (measured s e) =
       record {
         settings = w.settings;

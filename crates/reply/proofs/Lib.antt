@@ -6,3 +6,4 @@ pub mod Kept
 pub mod Eight
 pub mod Measured
 pub mod Determined
+pub mod Forms

@@ -8,11 +8,10 @@ use native.Mathlib.Omega.{arith}
 use borrow.Author.Tests.{eq-eqb, ne_eqb, ltb-true, le-ltb}
 use lib.IntN.{ℤ, pos, negsuc}
 use lib.Signed.{lt_z}
+use Rattle.std.specs.Prelude.{Option, Some}
 use Rattle.time_types.specs.Poll.{larger}
 use Rattle.association.specs.declared.Association.{Association}
 use Rattle.wire_incoming.specs.declared.Reply.{Reply}
-use Rattle.wire_incoming.specs.declared.ReplyRead.{ReplyRead}
-use Rattle.wire_incoming.specs.declared.ReplyRead.TheVariants as R
 use Rattle.reply_clauses.specs.After.{Arrival, stepped, raised, after_measured}
 use Rattle.reply_rules.specs.Answer.{number_of}
 use Rattle.reply.specs.declared.ReplyOut.{ReplyOut}
@@ -67,11 +66,11 @@ larger_is a b = by (lt_z a b) refl
     by true e = record { one = inr refl; first = not_above a b e; second = same_not_below b }
     by false e = record { one = inl refl; first = same_not_below a; second = e }
 
-decoded_same : {r x : Reply} → R.Decoded r ≡ R.Decoded x → r ≡ x
+decoded_same : {r x : Reply} → Some r ≡ Some x → r ≡ x
 decoded_same e = cc
 
-module _ (a : Association) (read : ReplyRead) (t : Arrival) where
-  left_by : {n : ℕ} {o : ReplyOut} → Given a read t n o → n ≡ 0 → (r : Reply) → read ≡ R.Decoded r → Left a r o
+module _ (a : Association) (read : Option Reply) (t : Arrival) where
+  left_by : {n : ℕ} {o : ReplyOut} → Given a read t n o → n ≡ 0 → (r : Reply) → read ≡ Some r → Left a r o
   unfolding stepped after_measured
   left_by (not_whole e) z x d = absurd (omega arith)
   left_by (undecodable w e) z x d = absurd (omega arith)
@@ -97,5 +96,5 @@ module _ (a : Association) (read : ReplyRead) (t : Arrival) where
         other = λ f. rw (ne_eqb r.version 5 (λ q. f (sym (ap (λ (y : Reply). y.version) same) ∙ q)));
       }
 
-  pub measured_leaves : number_of (replied_of a read t).replied.answer ≡ 0 → (r : Reply) → read ≡ R.Decoded r → Left a r (replied_of a read t)
+  pub measured_leaves : number_of (replied_of a read t).replied.answer ≡ 0 → (r : Reply) → read ≡ Some r → Left a r (replied_of a read t)
   measured_leaves e r d = left_by (given a read t) e r d

@@ -7,14 +7,13 @@ use mathlib.Core.Logic.{◌↔◌}
 use Prim.Native.Nat.{ℕ}
 use lib.Dec.{ltb}
 use borrow.Author.Tests.{not-true, not-false}
+use Rattle.std.specs.Prelude.{Option, Some, None}
 use Rattle.words.proofs.Tests.{either, when, unless}
 use Rattle.cookiestash.specs.Whole.{seen_of}
 use Rattle.version.specs.Upgrade.{expects_of}
 use Rattle.association.specs.declared.Association.{Association}
 use Rattle.association.specs.Record.{whole_of}
 use Rattle.wire_incoming.specs.declared.Reply.{Reply}
-use Rattle.wire_incoming.specs.declared.ReplyRead.{ReplyRead}
-use Rattle.wire_incoming.specs.declared.ReplyRead.TheVariants as R
 use Rattle.reply_rules.specs.declared.ReplyAnswer.TheVariants.{Measured, NeverSent, AlreadyMeasured, Expired, NoMatch, NotServer}
 use Rattle.reply_rules.specs.declared.Verdict.{Verdict}
 use Rattle.reply_rules.specs.Answer.{number_of}
@@ -44,7 +43,7 @@ use Rattle.reply.specs.Numbers.{
   measured,
 }
 
-module _ (a : Association) (read : ReplyRead) (t : Arrival) where
+module _ (a : Association) (read : Option Reply) (t : Arrival) where
   abbrev Given : ℕ → ReplyOut → Type 0
   Given = N.Given a read t
 
@@ -89,9 +88,9 @@ module _ (a : Association) (read : ReplyRead) (t : Arrival) where
   unfolding verdict_of whole_of
   told = either Told (whole_of a) (λ e. by e read refl) not_whole
     where
-      by : whole_of a ≡ true → (got : ReplyRead) → read ≡ got → Told (on_read a.settings a.state t got)
-      by e (R.Decoded r) q = judge_told r (record { whole = e; decoded = q })
-      by e R.Undecodable q = undecodable e q
+      by : whole_of a ≡ true → (got : Option Reply) → read ≡ got → Told (on_read a.settings a.state t got)
+      by e (Some r) q = judge_told r (record { whole = e; decoded = q })
+      by e None q = undecodable e q
 
   -- ---- how far a reply comes that passes the tests
 

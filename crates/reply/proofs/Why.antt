@@ -5,9 +5,9 @@ use mathlib.Core.Bool.{Bool}
 use mathlib.Core.Logic.{◌↔◌}
 use Prim.Native.Nat.{ℕ}
 use lib.Dec.{T}
+use Rattle.std.specs.Prelude.{Option}
 use Rattle.association.specs.declared.Association.{Association}
 use Rattle.wire_incoming.specs.declared.Reply.{Reply}
-use Rattle.wire_incoming.specs.declared.ReplyRead.{ReplyRead}
 use Rattle.reply_rules.specs.Answer.{number_of}
 use Rattle.reply_clauses.specs.After.{Arrival, never_sent, already_measured, expired}
 use Rattle.reply_clauses.specs.Why.{OnlyOne, first, second, third}
@@ -37,7 +37,7 @@ use Rattle.reply.specs.Numbers.{
 }
 use Rattle.reply.proofs.Numbers.{given, only}
 
-module _ (a : Association) (read : ReplyRead) (t : Arrival) where
+module _ (a : Association) (read : Option Reply) (t : Arrival) where
   -- each new one was a 3
   was_three : {n : ℕ} {o : ReplyOut} → Given a read t n o → T (for_three n) → ((r : Reply) × WasThree a read t r)
   was_three (not_whole e) w = absurd w

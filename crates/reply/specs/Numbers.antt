@@ -1,15 +1,13 @@
 -- RULES, "The numbers": when a reply returns each number, and with which answer and record, in the order of the tests.
 -- Of a reply of either form, only what is read from it counts.
 -- Assumes nothing.
-use Rattle.std.specs.Prelude.{◌≡◌, Bool, true, false, ◌||◌, cond, ℕ, ltb, eqb}
+use Rattle.std.specs.Prelude.{◌≡◌, Bool, true, false, ◌||◌, cond, ℕ, ltb, eqb, Option, Some, None}
 use Rattle.cookiestash.specs.StoreList.{store_list_of}
 use Rattle.cookiestash.specs.Falling.{none_dropped, dropped_of}
 use Rattle.version.specs.Upgrade.{expects_of}
 use Rattle.association.specs.declared.Association.{Association}
 use Rattle.association.specs.Record.{whole_of, with_state, with_stash}
 use Rattle.wire_incoming.specs.declared.Reply.{Reply}
-use Rattle.wire_incoming.specs.declared.ReplyRead.{ReplyRead}
-use Rattle.wire_incoming.specs.declared.ReplyRead.TheVariants as R
 use Rattle.reply_rules.specs.declared.ReplyAnswer.TheVariants.{
   Measured,
   Undecodable,
@@ -52,13 +50,13 @@ use Rattle.reply.specs.Reply.{told, out}
 abbrev pub for_three : ℕ → Bool
 for_three n = eqb n 12 || eqb n 13 || eqb n 14
 
-module _ (a : Association) (read : ReplyRead) (t : Arrival) where
+module _ (a : Association) (read : Option Reply) (t : Arrival) where
   -- ---- the tests that a reply has passed, each with those before it
 
   -- neither 32 nor 1
   pub record Read (r : Reply) : Type 0 where
     pub whole : whole_of a ≡ true
-    pub decoded : read ≡ R.Decoded r
+    pub decoded : read ≡ Some r
 
   -- nor 33
   pub record Listed (r : Reply) : Type 0 where
@@ -115,7 +113,7 @@ module _ (a : Association) (read : ReplyRead) (t : Arrival) where
   -- promise: 11.1, no5.5
   pub data Given : ℕ → ReplyOut → Type 0 where
     not_whole : whole_of a ≡ false → Given 32 (out NotWhole a)
-    undecodable : whole_of a ≡ true → read ≡ R.Undecodable → Given 1 (out Undecodable a)
+    undecodable : whole_of a ≡ true → read ≡ None → Given 1 (out Undecodable a)
     broken_list : {r : Reply} → Read r → list_broken a.settings.nts t.list ≡ true → Given 33 (out BrokenList a)
     unexpected_version : {r : Reply} → Listed r → expects_of a.state.version r.version ≡ false → Given 2 (out UnexpectedVersion a)
     never_sent_lem : {r : Reply} → Expected r → never_sent a.state.request ≡ true → Given 12 (out NeverSent a)

@@ -1,13 +1,12 @@
 -- RULES, part 11: the answer and the next record of both forms of the call.
 -- Assumes nothing.
-use Rattle.std.specs.Prelude.{cond, List, ℕ}
+use Rattle.std.specs.Prelude.{cond, List, ℕ, Option, Some}
 use Rattle.cookiestash.specs.declared.Dropped.{Dropped}
 use Rattle.cookiestash.specs.StoreList.{store_list_of}
 use Rattle.cookiestash.specs.Falling.{none_dropped, dropped_of}
 use Rattle.cookiestash.specs.Whole.{seen_of}
 use Rattle.association.specs.declared.Association.{Association}
-use Rattle.wire_incoming.specs.declared.ReplyRead.{ReplyRead}
-use Rattle.wire_incoming.specs.declared.ReplyRead.TheVariants.{Decoded}
+use Rattle.wire_incoming.specs.declared.Reply.{Reply}
 use Rattle.wire_incoming.specs.declared.DecodedReply.{DecodedReply}
 use Rattle.wire_incoming.specs.Incoming.{decoded_of}
 use Rattle.reply_rules.specs.declared.ReplyAnswer.{ReplyAnswer}
@@ -34,7 +33,7 @@ judged a list v =
 
 -- the result of either form, from what was read
 -- promise: 11.1
-unfoldable pub replied_of : Association → ReplyRead → Arrival → ReplyOut
+unfoldable pub replied_of : Association → Option Reply → Arrival → ReplyOut
 replied_of a read t = judged a t.list (verdict_of a.settings a.state (seen_of a.settings.capacity a.stash) read t)
 
 -- the byte form (V3, V4)
@@ -47,4 +46,4 @@ reply_of a packet end decrypted t = replied_of a (read_with a.settings a.state p
 -- the decoded form (V5 only)
 -- promise: 11.1, 11.10
 abbrev pub reply_decoded_of : Association → DecodedReply → Arrival → ReplyOut
-reply_decoded_of a d t = replied_of a (Decoded (decoded_of d)) t
+reply_decoded_of a d t = replied_of a (Some (decoded_of d)) t

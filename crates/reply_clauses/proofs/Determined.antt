@@ -2,8 +2,8 @@
 -- Assumes nothing.
 use mathlib.Core.Path.{◌∙◌, sym}
 use Rattle.words.specs.Determined.{Determined}
-use Rattle.reply_clauses.proofs.never_sent.Reads as never_sent_lem
-use Rattle.reply_clauses.proofs.already_measured.Reads as already_measured_lem
+use Rattle.reply_clauses.proofs.never_sent.Reads as never_sent
+use Rattle.reply_clauses.proofs.already_measured.Reads as already_measured
 use Rattle.reply_clauses.proofs.expired.Reads as expired
 use Rattle.reply_clauses.proofs.answers.Reads as answers
 use Rattle.reply_clauses.proofs.denies.Reads as denies
@@ -13,10 +13,10 @@ use Rattle.reply_clauses.proofs.after_denial.Reads as after-denial
 use Rattle.reply_clauses.proofs.after_measured.Reads as after-measured
 use Rattle.reply_clauses.proofs.measured.Reads as measured
 
-pub never_sent_determined : Determined never_sent_lem.Post
+pub never_sent_determined : Determined never_sent.Post
 never_sent_determined κs a y z e f p q = p ∙ sym q
 
-pub already_measured_determined : Determined already_measured_lem.Post
+pub already_measured_determined : Determined already_measured.Post
 already_measured_determined κs a y z e f p q = p ∙ sym q
 
 pub expired_determined : Determined expired.Post

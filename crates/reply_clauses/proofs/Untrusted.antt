@@ -11,25 +11,7 @@ use Rattle.reply_clauses.specs.After.{answers}
 
 -- the same reply, with another untrusted group
 abbrev pub with_untrusted : Reply → Uid → Reply
-with_untrusted r u =
-    record {
-      version = r.version;
-      leap = r.leap;
-      server = r.server;
-      stratum = r.stratum;
-      poll = r.poll;
-      precision = r.precision;
-      rootdelay = r.rootdelay;
-      rootdisp = r.rootdisp;
-      refid = r.refid;
-      origin = r.origin;
-      receive = r.receive;
-      transmit = r.transmit;
-      kisses = r.kisses;
-      authenticated = r.authenticated;
-      encrypted = r.encrypted;
-      untrusted = u;
-    }
+with_untrusted r u = record r { untrusted = u }
 
 pub answers_same : (r : Reply) (u : Uid) → r.kisses.ntsn ≡ false → (nts : Bool) (id : ℕ) → answers nts id (with_untrusted r u) ≡ answers nts id r
 answers_same r u plain nts id =

@@ -50,7 +50,8 @@ measured_alone false answered e = ap not e
 pub measured_only : (q : Pending) → already_measured q ≡ true → never_sent q ≡ false
 measured_only q e = measured_alone q.present q.answered e
 
-expired_alone : (present answered late : Bool) → (present && late) ≡ true → ((not present && not answered) ≡ false) × ((not present && answered) ≡ false)
+expired_alone : (present answered late : Bool) → (present && late) ≡ true →
+    ((not present && not answered) ≡ false) × ((not present && answered) ≡ false)
 expired_alone true answered late e = (refl, refl)
 expired_alone false answered late e = absurd (false≢true e)
 
@@ -58,7 +59,8 @@ pub expired_only : (q : Pending) (time : ℕ) → expired q time ≡ true → (n
 expired_only q time e = expired_alone q.present q.answered (ltb q.deadline time) e
 
 -- what the three tests leave is a live request
-left_live : (present answered late : Bool) → (not present && not answered) ≡ false → (not present && answered) ≡ false → (present && late) ≡ false →
+left_live : (present answered late : Bool) → (not present && not answered) ≡ false → (not present && answered) ≡ false →
+    (present && late) ≡ false →
     (present && not late) ≡ true
 left_live true answered late e f g = ap not g
 left_live false true late e f g = sym f
@@ -74,8 +76,8 @@ pub record Passed (q : Pending) (time : ℕ) : Type 0 where
   pub unmeasured : already_measured q ≡ false
   pub in_time : expired q time ≡ false
 
-live_left : (present answered late : Bool) → (present && not late) ≡ true → ((not present && not answered) ≡ false) × ((not present && answered) ≡ false) ×
-    ((present && late) ≡ false)
+live_left : (present answered late : Bool) → (present && not late) ≡ true →
+    ((not present && not answered) ≡ false) × ((not present && answered) ≡ false) × ((present && late) ≡ false)
 live_left true answered true e = (refl, refl, sym e)
 live_left true answered false e = (refl, refl, refl)
 live_left false answered late e = absurd (false≢true e)

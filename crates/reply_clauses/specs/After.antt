@@ -70,39 +70,18 @@ denies r = r.kisses.deny || r.kisses.rstr
 -- promise 4.3: A matching reply makes the step of a plain reply.
 --     edit: reply_clauses/a_reply_steps_as_an_upgrade
 unfoldable pub stepped : State → State
-stepped s =
-    record {
-      effort = s.effort;
-      version = stepped_of s.version false;
-      polls = s.polls;
-      source = s.source;
-      request = s.request;
-    }
+stepped s = record s { version = stepped_of s.version false }
 
 -- 5: RATE: remote minimum becomes the largest of the old one, min(old + 1, max) and the last poll (RULES, No. 7)
 -- promise 11.4: Number 5: RATE.
 --     edit: time_types/rate_forgets_the_last_poll
 unfoldable pub after_rate_kiss : Settings → State → State
-after_rate_kiss g s =
-    record {
-      effort = s.effort;
-      version = s.version;
-      polls = record { last = s.polls.last; remote = interval (after_rate s.polls.remote.0 g.max.0 s.polls.last.0) };
-      source = s.source;
-      request = s.request;
-    }
+after_rate_kiss g s = record s { polls = record s.polls { remote = interval (after_rate s.polls.remote.0 g.max.0 s.polls.last.0) } }
 
 -- 6: denial noted
 -- promise: 11.5
 unfoldable pub after_denial : State → State
-after_denial s =
-    record {
-      effort = s.effort;
-      version = s.version;
-      polls = s.polls;
-      source = record { stratum = s.source.stratum; refid = s.source.refid; denial = true };
-      request = s.request;
-    }
+after_denial s = record s { source = record s.source { denial = true } }
 
 -- V5 raises the remote minimum to a larger poll, with no upper limit
 -- promise: 11.8
@@ -118,10 +97,9 @@ raised remote r = cond (eqb r.version 5) (interval (larger remote.0 r.poll.0)) r
 -- promise: no3.1
 unfoldable pub after_measured : State → Reply → State
 after_measured s r =
-    record {
-      effort = record { reach = answered_of s.effort.reach; tries = s.effort.tries; unanswered = 0 };
-      version = s.version;
-      polls = record { last = s.polls.last; remote = raised s.polls.remote r };
+    record s {
+      effort = record s.effort { reach = answered_of s.effort.reach; unanswered = 0 };
+      polls = record s.polls { remote = raised s.polls.remote r };
       source = record { stratum = r.stratum; refid = r.refid; denial = false };
       request = no_pending true;
     }

@@ -28,16 +28,23 @@ pub struct Measurement {
     pub precision: i8,
 }
 
+// The three clock readings that come with a reply.
+#[derive(Clone, Copy)]
+pub struct Stamps {
+    // Our wall clock when the request left.
+    pub t1: NtpTimestamp,
+    // Our wall clock when the reply came.
+    pub t4: NtpTimestamp,
+    // Our uptime clock now.
+    pub time: u64,
+}
+
 // Nothing is pending, and nothing was: no poll has been sent.
 // promise: 11.2
 pub fn never_sent(request: Pending) -> bool
     ensures { result ≡ never_sent request }
 {
-    if request.present {
-        false
-    } else {
-        !request.answered
-    }
+    !request.present && !request.answered
 }
 
 // Nothing is pending any more: a reply to the last poll has been measured.
@@ -45,11 +52,7 @@ pub fn never_sent(request: Pending) -> bool
 pub fn already_measured(request: Pending) -> bool
     ensures { result ≡ already_measured request }
 {
-    if request.present {
-        false
-    } else {
-        request.answered
-    }
+    !request.present && request.answered
 }
 
 // A request is pending, and its deadline has passed.
@@ -57,11 +60,7 @@ pub fn already_measured(request: Pending) -> bool
 pub fn expired(request: Pending, time: u64) -> bool
     ensures { result ≡ expired request time }
 {
-    if request.present {
-        request.deadline < time
-    } else {
-        false
-    }
+    request.present && request.deadline < time
 }
 
 // Whether a reply answers the request with this identifier; with NTS also by its unique identifier. This keeps out old, repeated and forged replies.
@@ -69,73 +68,63 @@ pub fn expired(request: Pending, time: u64) -> bool
 pub fn answers(nts: bool, id: u64, reply: Reply) -> bool
     ensures { result ≡ answers nts id reply }
 {
-    if reply.origin != id {
-        return false;
-    }
-    if !nts {
-        return true;
-    }
-    let authenticated = reply.authenticated;
-    let encrypted = reply.encrypted;
-    let untrusted = reply.untrusted;
-    let kisses = reply.kisses;
-    wire_groups::uid_matches(authenticated, encrypted, untrusted, kisses.ntsn)
+    reply.origin == id
+        && (!nts
+            || wire_groups::uid_matches(
+                reply.authenticated,
+                reply.encrypted,
+                reply.untrusted,
+                reply.kisses.ntsn,
+            ))
 }
 
 // promise: 11.5
 pub fn denies(kisses: Kisses) -> bool
     ensures { result ≡ (kisses.deny || kisses.rstr) }
 {
-    if kisses.deny { true } else { kisses.rstr }
+    kisses.deny || kisses.rstr
 }
 
 // The upgrade step, on a matching reply. Every reply steps as a plain one does: only the retired kind of version distinguished two kinds of reply.
 // promise: 4.3
+#[tactic(auto, unfolding(crate::specs::After::stepped))]
 pub fn stepped(s: State) -> State
     ensures { result ≡ stepped s }
 {
-    let old = s.version;
-    let version = old.upgrade_step(false);
-    let mut next = s;
-    next.version = version;
-    next
+    let version = s.version.upgrade_step(false);
+    State { version, ..s }
 }
 
 // A RATE kiss raises the remote minimum.
 // promise: 11.4
+#[tactic(auto, unfolding(crate::specs::After::after_rate_kiss))]
 pub fn after_rate_kiss(settings: Settings, s: State) -> State
     ensures { result ≡ after_rate_kiss settings s }
 {
-    let limit = settings.max;
-    let old = s.polls;
-    let last = old.last;
-    let least = old.remote;
-    let remote = least.after_rate(limit, last);
-    let polls = Polls { last, remote };
-    let mut next = s;
-    next.polls = polls;
-    next
+    let remote = s.polls.remote.after_rate(settings.max, s.polls.last);
+    let polls = Polls { remote, ..s.polls };
+    State { polls, ..s }
 }
 
 // A denial is noted until a reply is measured. If the timer gives up meanwhile, it demobilizes instead of starting again.
 // promise: 11.5
+#[tactic(auto, unfolding(crate::specs::After::after_denial))]
 pub fn after_denial(s: State) -> State
     ensures { result ≡ after_denial s }
 {
-    let mut source = s.source;
-    source.denial = true;
-    let mut next = s;
-    next.source = source;
-    next
+    let source = Source {
+        denial: true,
+        ..s.source
+    };
+    State { source, ..s }
 }
 
 // The poll of a V5 reply says how rarely the server wants to be asked. It can only raise the remote minimum.
 fn raised(remote: PollInterval, reply: Reply) -> PollInterval
     ensures { result ≡ raised remote reply }
 {
-    let poll = reply.poll;
     if reply.version == 5 {
-        remote.max(poll)
+        remote.max(reply.poll)
     } else {
         remote
     }
@@ -143,63 +132,51 @@ fn raised(remote: PollInterval, reply: Reply) -> PollInterval
 
 // The state after a measured reply.
 // promise: 11.8, no3.1, no8.4
+#[tactic(auto, unfolding(crate::specs::After::after_measured))]
 pub fn after_measured(s: State, reply: Reply) -> State
     ensures { result ≡ after_measured s reply }
 {
-    let tried = s.effort;
-    let reached = tried.reach;
-    let reach = reached.received_packet();
-    let old = s.polls;
-    let last = old.last;
-    let least = old.remote;
-    let remote = raised(least, reply);
-    let refid = reply.refid;
-    let effort = Effort {
-        reach,
-        tries: tried.tries,
-        unanswered: 0,
-    };
-    let polls = Polls { last, remote };
-    let source = Source {
-        stratum: reply.stratum,
-        refid,
-        denial: false,
-    };
-    // Nothing is pending any more, so that a reply that comes twice is not measured twice.
-    let request = Pending::none(true);
-    let version = s.version;
+    let reach = s.effort.reach.received_packet();
+    let remote = raised(s.polls.remote, reply);
     State {
-        effort,
-        version,
-        polls,
-        source,
-        request,
+        effort: Effort {
+            reach,
+            unanswered: 0,
+            ..s.effort
+        },
+        polls: Polls { remote, ..s.polls },
+        source: Source {
+            stratum: reply.stratum,
+            refid: reply.refid,
+            denial: false,
+        },
+        // Nothing is pending any more, so that a reply that comes twice is not measured twice.
+        request: Pending::none(true),
+        ..s
     }
 }
 
-// The measurement of a reply that came at t4, to a request that left at t1.
+// The measurement of a reply, from the clock readings that come with it.
 // promise: 11.8
-pub fn measured(reply: Reply, t1: NtpTimestamp, t4: NtpTimestamp, time: u64) -> Measurement
-    ensures { result ≡ measurement_of reply t1 t4 time }
+#[tactic(auto, unfolding(crate::specs::After::measurement_of))]
+pub fn measured(reply: Reply, stamps: Stamps) -> Measurement
+    ensures { result ≡ measurement_of reply stamps.t1 stamps.t4 stamps.time }
 {
-    let t2 = reply.receive;
-    let t3 = reply.transmit;
-    let exchange = Exchange { t1, t2, t3, t4 };
-    let delay = exchange.delay();
-    let offset = exchange.offset();
-    let local = exchange.local_time();
-    let rootdelay = reply.rootdelay;
-    let rootdisp = reply.rootdisp;
-    let leap = reply.leap;
+    let exchange = Exchange {
+        t1: stamps.t1,
+        t2: reply.receive,
+        t3: reply.transmit,
+        t4: stamps.t4,
+    };
     Measurement {
-        delay,
-        offset,
-        local,
-        mono: time,
+        delay: exchange.delay(),
+        offset: exchange.offset(),
+        local: exchange.local_time(),
+        mono: stamps.time,
         stratum: reply.stratum,
-        rootdelay,
-        rootdisp,
-        leap,
+        rootdelay: reply.rootdelay,
+        rootdisp: reply.rootdisp,
+        leap: reply.leap,
         precision: reply.precision,
     }
 }

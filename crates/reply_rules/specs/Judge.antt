@@ -1,7 +1,7 @@
 -- RULES, part 11: the verdict on a reply, from the settings, the state and the summary of the stash. In order 32, 1 (byte form), 33, 2, 12, 13, 14, 4, the
 -- upgrade step, then 5 to 11.
 -- Assumes nothing.
-use Rattle.std.specs.Prelude.{false, not, cond, List, ℕ, ltb}
+use Rattle.std.specs.Prelude.{false, not, cond, List, ℕ, ltb, Option, Some, None}
 use Rattle.cookielist.specs.List.{list_broken}
 use Rattle.cookiestash.specs.declared.Seen.{Seen}
 use Rattle.version.specs.Upgrade.{expects_of}
@@ -10,8 +10,6 @@ use Rattle.association.specs.declared.Settings.{Settings}
 use Rattle.association.specs.declared.State.{State}
 use Rattle.association.specs.Record.{whole_seen}
 use Rattle.wire_incoming.specs.declared.Reply.{Reply}
-use Rattle.wire_incoming.specs.declared.ReplyRead.{ReplyRead}
-use Rattle.wire_incoming.specs.declared.ReplyRead.TheVariants as R
 use Rattle.wire_incoming.specs.Incoming.{read_of}
 use Rattle.reply_rules.specs.declared.ReplyAnswer.{ReplyAnswer}
 use Rattle.reply_rules.specs.declared.ReplyAnswer.TheVariants.{
@@ -77,17 +75,18 @@ judge_of g s r t =
     (cond (not (answers g.nts s.request.id r)) (leaves NoMatch s)
     (matched_of g (stepped s) r t.t1 t.t4 t.time))))))
 
-abbrev pub on_read : Settings → State → Arrival → ReplyRead → Verdict
-on_read g s t (R.Decoded r) = judge_of g s r t
-on_read g s t R.Undecodable = leaves Undecodable s
+abbrev pub on_read : Settings → State → Arrival → Option Reply → Verdict
+on_read g s t (Some r) = judge_of g s r t
+on_read g s t None = leaves Undecodable s
 
--- either form, from what was read
+-- any form, from what was read
 -- promise 11.1: The order of a reply is 32, 1 (byte form), 33, 2, then 12, 13 or 14, then 4, the upgrade step, 5 to 11, 0. Each number is given exactly under
 --     its rule.
---     edit: reply_rules/all_replies_are_refused, reply_rules/one_number_always
-unfoldable pub verdict_of : Settings → State → Seen → ReplyRead → Arrival → Verdict
+--     edit: reply_rules/all_replies_are_refused, reply_rules/one_number_always, reply_rules/the_decrypted_fields_are_left_out,
+--     reply_rules/a_decoded_reply_is_undecodable, reply_rules/a_reply_of_known_codes_is_undecodable
+unfoldable pub verdict_of : Settings → State → Seen → Option Reply → Arrival → Verdict
 verdict_of g s v read t = cond (whole_seen g v s) (on_read g s t read) (leaves NotWhole s)
 
 -- what the byte form is read as, with the uid of the pending request
-abbrev pub read_with : Settings → State → List ℕ → ℕ → List ℕ → ReplyRead
+abbrev pub read_with : Settings → State → List ℕ → ℕ → List ℕ → Option Reply
 read_with g s packet end decrypted = read_of g.nts s.request.uid packet end decrypted

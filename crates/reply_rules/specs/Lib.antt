@@ -2,3 +2,4 @@
 pub mod Answer
 pub mod Judge
 pub mod Told
+pub mod Form

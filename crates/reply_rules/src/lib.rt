@@ -1,22 +1,65 @@
-// The rules of a reply, over the settings, the state and the summary of the stash: one judge for both forms. `reply` calls it.
+// The rules of a reply, over the settings, the state and the summary of the stash: one judge for every form. `reply` calls it.
 // Promises: the verdict, with its answer and the next state, is the rule's, in its order, and the actions follow from its number.
 // Rule: RULES, parts 8, 9 and 11; definitions in specs/Judge.antt and specs/Answer.antt.
 #![tactic(auto)]
 
-ghost use Rattle.std.specs.Prelude.{◌≡◌, cond, ◌||◌, replicate};
-ghost use Rattle.wire_incoming.specs.declared.ReplyRead.TheVariants.{Decoded};
-ghost use Rattle.wire_incoming.specs.Incoming.{decoded_of};
+ghost use Rattle.std.specs.Prelude.{◌≡◌, Bool, List, ℕ, Option};
+ghost use Rattle.wire_incoming.specs.declared.Reply.{Reply};
+ghost use Rattle.reply_rules.specs.Form.{read_packet, read_decoded, read_tried};
 ghost use Rattle.reply_rules.specs.Answer.{number_of};
 ghost use Rattle.reply_clauses.specs.After.{arrival};
-ghost use Rattle.reply_rules.specs.Judge.{leaves, judge_of, verdict_of, read_with};
+ghost use Rattle.reply_rules.specs.Judge.{leaves, judge_of, verdict_of};
 ghost use Rattle.reply_rules.specs.Told.{Matched, after_of, stores_of, told_of};
 
-use association::{Pending, Settings, State};
+use association::{Settings, State};
 use cookiestash::Seen;
-use reply_clauses::Measurement;
-use time_types::NtpTimestamp;
-use wire_incoming::{DecodedReply, Reply, ReplyRead};
+use reply_clauses::{Measurement, Stamps};
+use wire_incoming::{DecodedReply, Reply};
 
+// The form in which a reply comes.
+pub trait Form: Copy {
+    ghost read: { Self → Bool → List ℕ → Option Reply };
+
+    // What the reply says, to a request with this unique identifier. Only NTS looks for the identifier. None: the reply cannot be decoded.
+    fn read(self, nts: bool, uid: [u8; 32]) -> Option<Reply>
+        ensures { result ≡ read self nts uid };
+}
+
+// The byte form (V3, V4): the packet, where its authenticated part ends, and its decrypted fields.
+#[derive(Clone, Copy)]
+pub struct Packet<'a> {
+    pub packet: &'a [u8],
+    pub end: usize,
+    pub decrypted: &'a [u8],
+}
+
+impl Form for Packet<'_> {
+    ghost read = { read_packet };
+
+    fn read(self, nts: bool, uid: [u8; 32]) -> Option<Reply> {
+        wire_incoming::read_reply(nts, uid, self.packet, self.end, self.decrypted)
+    }
+}
+
+// The decoded form (V5 only): the caller has read the packet.
+impl Form for DecodedReply {
+    ghost read = { read_decoded };
+
+    fn read(self, _nts: bool, _uid: [u8; 32]) -> Option<Reply> {
+        Some(self.value())
+    }
+}
+
+// The decoded form, where the caller may have found a code of no kind.
+impl Form for Option<DecodedReply> {
+    ghost read = { read_tried };
+
+    fn read(self, _nts: bool, _uid: [u8; 32]) -> Option<Reply> {
+        self.map(|decoded| decoded.value())
+    }
+}
+
+// Kept: no Result, since the others are not all refusals. RATE and a denial change the record, and the rules number all sixteen alike.
 #[derive(Clone, Copy)]
 pub enum ReplyAnswer {
     Measured(Measurement),
@@ -41,6 +84,7 @@ pub enum ReplyAnswer {
 }
 
 // The result of the tests: the answer, the next state, and whether the reply's cookies are stored.
+// Kept: `stores` is told beside answer and state, which count whatever it says.
 #[derive(Clone, Copy)]
 pub struct Verdict {
     pub answer: ReplyAnswer,
@@ -52,21 +96,15 @@ pub struct Verdict {
 const MAX_STRATUM: u8 = 16;
 
 // The answer to a matching reply: 5 to 11 in order, otherwise 0.
-fn matched(
-    settings: Settings,
-    reply: Reply,
-    t1: NtpTimestamp,
-    t4: NtpTimestamp,
-    time: u64,
-) -> ReplyAnswer
-    ensures { Matched settings reply t1 t4 time result }
+#[tactic(auto, unfolding(crate::specs::Judge::matched_of))]
+fn matched(settings: Settings, reply: Reply, stamps: Stamps) -> ReplyAnswer
+    ensures { Matched settings reply stamps.t1 stamps.t4 stamps.time result }
 {
-    let kisses = reply.kisses;
     // The timestamps of a kiss need not be right, so a kiss is not measured.
-    if kisses.rate {
+    if reply.kisses.rate {
         return ReplyAnswer::Rate;
     }
-    if reply_clauses::denies(kisses) {
+    if reply_clauses::denies(reply.kisses) {
         // With NTS a denial that matches is signed. Without NTS it is easily forged: it is noted, and counts only if nothing else is heard.
         if settings.nts {
             return ReplyAnswer::DeniedNts;
@@ -74,11 +112,11 @@ fn matched(
         return ReplyAnswer::Denied;
     }
     // It is not signed and easily forged, so a true reply is still awaited.
-    if kisses.ntsn {
+    if reply.kisses.ntsn {
         return ReplyAnswer::Ntsn;
     }
     // An unknown kiss asks for nothing.
-    if kisses.any {
+    if reply.kisses.any {
         return ReplyAnswer::OtherKiss;
     }
     if MAX_STRATUM < reply.stratum {
@@ -88,89 +126,85 @@ fn matched(
     if !reply.server {
         return ReplyAnswer::NotServer;
     }
-    let measurement = reply_clauses::measured(reply, t1, t4, time);
-    ReplyAnswer::Measured(measurement)
+    ReplyAnswer::Measured(reply_clauses::measured(reply, stamps))
 }
 
 // The answer to a reply that was read: 33, 2, 12, 13, 14, 4, then what follows the upgrade step.
-fn judge(
-    settings: Settings,
-    s: State,
-    reply: Reply,
-    list: &[u8],
-    t1: NtpTimestamp,
-    t4: NtpTimestamp,
-    time: u64,
-) -> ReplyAnswer
-    ensures { result ≡ (judge_of settings s reply (arrival list.now t1 t4 time)).answer }
+// Kept: settings, state and reply apart, as the definition `judge_of` has them: a struct would be made for the call and taken apart in its contract.
+#[tactic(auto, unfolding(crate::specs::Judge::judge_of))]
+fn answer(settings: Settings, s: State, reply: Reply, list: &[u8], stamps: Stamps) -> ReplyAnswer
+    ensures { result ≡ (judge_of settings s reply (arrival list.now stamps.t1 stamps.t4 stamps.time)).answer }
 {
     if cookielist::list_broken(settings.nts, list) {
         return ReplyAnswer::BrokenList;
     }
-    let version = s.version;
-    if !version.expects(reply.version) {
+    if !s.version.expects(reply.version) {
         return ReplyAnswer::UnexpectedVersion;
     }
-    let request = s.request;
-    if reply_clauses::never_sent(request) {
+    if reply_clauses::never_sent(s.request) {
         return ReplyAnswer::NeverSent;
     }
-    if reply_clauses::already_measured(request) {
+    if reply_clauses::already_measured(s.request) {
         return ReplyAnswer::AlreadyMeasured;
     }
     // An expired request stays pending: a clock that goes back may make it live again.
-    if reply_clauses::expired(request, time) {
+    if reply_clauses::expired(s.request, stamps.time) {
         return ReplyAnswer::Expired;
     }
     // This comes before every kiss. A kiss that answers nothing is not believed: otherwise anybody could stop an association by sending it one.
-    if !reply_clauses::answers(settings.nts, request.id, reply) {
+    if !reply_clauses::answers(settings.nts, s.request.id, reply) {
         return ReplyAnswer::NoMatch;
     }
-    matched(settings, reply, t1, t4, time)
+    matched(settings, reply, stamps)
 }
 
-// The state after a reply follows from the number of its answer: with 5 to 11 and with 0 the reply matched, and the upgrade step is made.
-fn after(settings: Settings, s: State, reply: Reply, number: u8) -> State
-    ensures { result ≡ after_of settings s reply number }
+// The next state for an answer. Where the reply matched, the upgrade step is made.
+// Kept: settings, state and reply apart, as at `answer`: the definition `after_of` has them so.
+#[tactic(auto, unfolding(crate::specs::Told::after_of))]
+fn after(settings: Settings, s: State, reply: Reply, answer: ReplyAnswer) -> State
+    ensures { result ≡ after_of settings s reply (number_of answer) }
 {
-    if number == 0 {
-        let next = reply_clauses::stepped(s);
-        return reply_clauses::after_measured(next, reply);
+    match answer {
+        ReplyAnswer::Measured(_) => {
+            reply_clauses::after_measured(reply_clauses::stepped(s), reply)
+        }
+        ReplyAnswer::Rate => reply_clauses::after_rate_kiss(settings, reply_clauses::stepped(s)),
+        ReplyAnswer::Denied => reply_clauses::after_denial(reply_clauses::stepped(s)),
+        ReplyAnswer::DeniedNts
+        | ReplyAnswer::Ntsn
+        | ReplyAnswer::OtherKiss
+        | ReplyAnswer::BadStratum
+        | ReplyAnswer::NotServer => reply_clauses::stepped(s),
+        ReplyAnswer::NotWhole
+        | ReplyAnswer::Undecodable
+        | ReplyAnswer::BrokenList
+        | ReplyAnswer::UnexpectedVersion
+        | ReplyAnswer::NeverSent
+        | ReplyAnswer::AlreadyMeasured
+        | ReplyAnswer::Expired
+        | ReplyAnswer::NoMatch => s,
     }
-    if number < 5 {
-        return s;
-    }
-    if 11 < number {
-        return s;
-    }
-    let next = reply_clauses::stepped(s);
-    if number == 5 {
-        return reply_clauses::after_rate_kiss(settings, next);
-    }
-    if number == 6 {
-        return reply_clauses::after_denial(next);
-    }
-    next
 }
 
-// With NTS the cookies of a measured reply are stored.
-fn stores(nts: bool, number: u8) -> bool
-    ensures { result ≡ stores_of nts number }
+// Whether the cookies of the reply are stored: with NTS those of a measured one.
+#[tactic(auto, unfolding(crate::specs::Told::stores_of))]
+fn stores(nts: bool, answer: ReplyAnswer) -> bool
+    ensures { result ≡ stores_of nts (number_of answer) }
 {
-    if number == 0 { nts } else { false }
+    nts && matches!(answer, ReplyAnswer::Measured(_))
 }
 
-// The verdict for an answer. Answer and state are put together only here: passed by value through each step, they would be copied each time.
+// The verdict for an answer.
+// Kept: settings, state and reply apart, as at `answer`: the definition `told_of` has them so.
+// Answer and state are put together only here: passed by value through each step, they would be copied each time.
+#[tactic(auto, unfolding(crate::specs::Told::told_of))]
 fn told(settings: Settings, s: State, reply: Reply, answer: ReplyAnswer) -> Verdict
     ensures { result ≡ told_of settings s reply answer }
 {
-    let number = answer.number();
-    let state = after(settings, s, reply, number);
-    let stores = stores(settings.nts, number);
     Verdict {
         answer,
-        state,
-        stores,
+        state: after(settings, s, reply, answer),
+        stores: stores(settings.nts, answer),
     }
 }
 
@@ -185,71 +219,28 @@ fn leaves(answer: ReplyAnswer, state: State) -> Verdict
     }
 }
 
-// The unique identifier that a reply must have. Without NTS there is none.
-fn awaited(nts: bool, request: Pending) -> [u8; 32]
-    ensures { result ≡ cond nts request.uid (replicate 32 0) }
-{
-    if nts {
-        let uid = request.uid;
-        return uid;
-    }
-    [0u8; 32]
-}
-
-// The verdict on the byte form (V3, V4): 32, 1, and then the judge.
+// The verdict on a reply of any form: 32, 1, and then what the reply says.
+// Kept: settings, state and summary apart, and form, list and stamps: the definition `verdict_of` takes them so, and no caller has them as one value.
 // promise: 11.1, 11.7
-pub fn judge_packet(
+#[tactic(auto, using(crate::proofs::Follows::judged_told), unfolding(crate::specs::Judge::verdict_of))]
+pub fn judge<F: Form>(
     settings: Settings,
     s: State,
     seen: Seen,
-    packet: &[u8],
-    end: usize,
-    decrypted: &[u8],
+    form: F,
     list: &[u8],
-    t1: NtpTimestamp,
-    t4: NtpTimestamp,
-    time: u64,
+    stamps: Stamps,
 ) -> Verdict
-    ensures { result ≡ verdict_of settings s seen (read_with settings s packet.now end decrypted.now)
-        (arrival list.now t1 t4 time) }
+    ensures { result ≡ verdict_of settings s seen (F.read form settings.nts s.request.uid)
+        (arrival list.now stamps.t1 stamps.t4 stamps.time) }
 {
     if !association::whole_seen(settings, seen, s) {
         return leaves(ReplyAnswer::NotWhole, s);
     }
-    let request = s.request;
-    let uid = awaited(settings.nts, request);
-    let ReplyRead::Decoded(reply) = wire_incoming::read_reply(
-        settings.nts,
-        uid,
-        packet,
-        end,
-        decrypted,
-    ) else {
+    let Some(reply) = form.read(settings.nts, s.request.uid) else {
         return leaves(ReplyAnswer::Undecodable, s);
     };
-    let answer = judge(settings, s, reply, list, t1, t4, time);
-    told(settings, s, reply, answer)
-}
-
-// The verdict on the decoded form (V5 only): 32, and then the judge.
-// promise: 11.1, 11.7
-pub fn judge_decoded(
-    settings: Settings,
-    s: State,
-    seen: Seen,
-    d: DecodedReply,
-    list: &[u8],
-    t1: NtpTimestamp,
-    t4: NtpTimestamp,
-    time: u64,
-) -> Verdict
-    ensures { result ≡ verdict_of settings s seen (Decoded (decoded_of d)) (arrival list.now t1 t4 time) }
-{
-    if !association::whole_seen(settings, seen, s) {
-        return leaves(ReplyAnswer::NotWhole, s);
-    }
-    let reply = d.value();
-    let answer = judge(settings, s, reply, list, t1, t4, time);
+    let answer = answer(settings, s, reply, list, stamps);
     told(settings, s, reply, answer)
 }
 

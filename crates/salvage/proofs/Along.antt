@@ -11,12 +11,12 @@ use Rattle.words.specs.Bytes.{part}
 use Rattle.words.specs.Put.{Put}
 use Rattle.words.proofs.Bytes.{length_part}
 use Rattle.words.proofs.Put.{left_is, left_long, more_is, buffer_is}
-use Rattle.salvage.specs.declared.Found.TheVariants.{Record, Nothing}
+use Rattle.std.specs.Prelude.{Some, None}
 use Rattle.salvage.specs.declared.Salvaged.{Salvaged}
-use Rattle.salvage.specs.Walk as S
+use Rattle.salvage.specs.declared.Step.TheVariants as S
 use Rattle.salvage.specs.Walk.{record_at, walk_from, walk_of}
 use Rattle.salvage.specs.Salvage.{kept_in, skipped_in, gaps_from, gaps_in, places_of, records_in, clean_of, report_of}
-use Rattle.salvage.proofs.Walks.{Kept, is_kept, walk_end, walk_kept, walk_skipped}
+use Rattle.salvage.proofs.Walks.{KeptAt, is_kept, walk_end, walk_kept, walk_skipped}
 
 -- ---- a place noted
 
@@ -86,11 +86,11 @@ places_noted gs = refl
 
 module _ (l out₀ out places : List ℕ) (at to kept skipped gaps : ℕ) (in_gap : Bool) (i : Along l out₀ out places at to kept skipped gaps in_gap) where
   -- a record is kept
-  module _ (end : ℕ) (h : at < length l) (e : record_at l at ≡ Record end) where
-    k : Kept l at end
+  module _ (end : ℕ) (h : at < length l) (e : record_at l at ≡ Some end) where
+    k : KeptAt l at end
     k = is_kept l at end e
 
-    w : walk_from l at ≡ S.kept at end ∷ walk_from l end
+    w : walk_from l at ≡ S.Kept at end ∷ walk_from l end
     w = walk_kept l at end h e
 
     record_long : length (part l at (end - at)) ≡ end - at
@@ -128,8 +128,8 @@ module _ (l out₀ out places : List ℕ) (at to kept skipped gaps : ℕ) (in_ga
         }
 
   -- a byte is skipped
-  module _ (h : at < length l) (e : record_at l at ≡ Nothing) where
-    v : walk_from l at ≡ S.skipped at ∷ walk_from l (at + 1)
+  module _ (h : at < length l) (e : record_at l at ≡ None) where
+    v : walk_from l at ≡ S.Skipped at ∷ walk_from l (at + 1)
     v = walk_skipped l at h e
 
     -- in a gap
@@ -225,10 +225,10 @@ module _ (l out₀ out places : List ℕ) (at to kept skipped gaps : ℕ) (in_ga
     all_places : places ≡ places_of (gaps_in (walk_of l))
     all_places = i.told ∙ rw all_gaps (ap places_of (take-length (gaps_in (walk_of l))))
 
-    pub reported : ◌≡◌ {A = Salvaged} (record { number = 0; kept = kept; skipped = skipped; gaps = gaps; places = places; len = to }) (report_of l (walk_of l))
+    pub reported : ◌≡◌ {A = Salvaged} (record { kept = kept; skipped = skipped; gaps = gaps; places = places; len = to }) (report_of l (walk_of l))
     unfolding clean_of
     reported =
-        λ j. record { number = 0; kept = all_kept j; skipped = all_skipped j; gaps = all_gaps j; places = all_places j; len = all_written j }
+        λ j. record { kept = all_kept j; skipped = all_skipped j; gaps = all_gaps j; places = all_places j; len = all_written j }
 
     pub whole_buffer : out ≡ clean_of l ++ drop (length (clean_of l)) out₀
     whole_buffer = i.buffer ∙ rw (all_written, take-length)

@@ -13,12 +13,13 @@ use Rattle.words.proofs.Put.{record_long}
 use Rattle.cookielist.specs.List.{AllShort, list_of, cookies_in, whole}
 use Rattle.cookielist.proofs.Reader.{Placed, placed}
 use Rattle.cookielist.proofs.RoundTrip.{record_again, short_again, list_read}
-use Rattle.salvage.specs.Walk.{Step, walk_from, walk_of}
+use Rattle.salvage.specs.declared.Step.{Step}
+use Rattle.salvage.specs.Walk.{walk_from, walk_of}
 use Rattle.salvage.specs.Salvage.{records_in, cookies_kept, clean_of}
-use Rattle.salvage.proofs.Walks.{Kept, walk_induction}
+use Rattle.salvage.proofs.Walks.{KeptAt, walk_induction}
 
 -- a record that is kept is that of its cookie
-module _ (l : List ℕ) (bytes : Bytes l) (at end : ℕ) (k : Kept l at end) where
+module _ (l : List ℕ) (bytes : Bytes l) (at end : ℕ) (k : KeptAt l at end) where
   place : Placed l at k.start end
   place = placed l at k.start end k.entry
 

@@ -12,7 +12,9 @@ use lib.ListN.{length}
 use Rattle.cookielist.specs.List.{is_whole, cookies_from, cookies_in}
 use Rattle.cookielist.proofs.Reader.{read_end, whole_cookie}
 use Rattle.cookielist.proofs.RoundTrip.{entry_end}
-use Rattle.salvage.specs.Walk.{Step, kept, skipped, walk_from, walk_of}
+use Rattle.salvage.specs.declared.Step.{Step}
+use Rattle.salvage.specs.declared.Step.TheVariants.{Kept, Skipped}
+use Rattle.salvage.specs.Walk.{walk_from, walk_of}
 use Rattle.salvage.specs.Salvage.{skipped_in, gaps_from, gaps_in}
 use Rattle.salvage.proofs.Walks.{walk_induction}
 use Rattle.salvage.proofs.Undamaged.{undamaged}
@@ -23,10 +25,10 @@ In p [] = ⊥
 In p (x ∷ xs) = (p ≡ x) ⊎ In p xs
 
 -- the byte at the place is skipped
-abbrev pub Skipped : ℕ → List Step → Type 0
-Skipped p [] = ⊥
-Skipped p (kept start end ∷ w) = Skipped p w
-Skipped p (skipped at ∷ w) = (p ≡ at) ⊎ Skipped p w
+abbrev pub IsSkipped : ℕ → List Step → Type 0
+IsSkipped p [] = ⊥
+IsSkipped p (Kept start end ∷ w) = IsSkipped p w
+IsSkipped p (Skipped at ∷ w) = (p ≡ at) ⊎ IsSkipped p w
 
 -- each place is past the one before it
 abbrev pub Rising : ℕ → List ℕ → Type 0
@@ -41,14 +43,14 @@ lower a b (p ∷ ps) h r = (omega (arith, r.0), r.1)
 
 nothing_skipped : (b : Bool) (w : List Step) → b ≡ false → gaps_from b w ≡ [] → skipped_in w ≡ 0
 nothing_skipped b [] f e = refl
-nothing_skipped b (kept start end ∷ w) f e = nothing_skipped false w refl e
-nothing_skipped true (skipped at ∷ w) f e = let z : ◌≡◌ {A = ℕ} 0 1 = cc in absurd (omega arith)
-nothing_skipped false (skipped at ∷ w) f e = absurd (omega (arith, ap length e))
+nothing_skipped b (Kept start end ∷ w) f e = nothing_skipped false w refl e
+nothing_skipped true (Skipped at ∷ w) f e = cc
+nothing_skipped false (Skipped at ∷ w) f e = absurd (omega (arith, ap length e))
 
 no_gap : (b : Bool) (w : List Step) → skipped_in w ≡ 0 → gaps_from b w ≡ []
 no_gap b [] e = refl
-no_gap b (kept start end ∷ w) e = no_gap false w e
-no_gap b (skipped at ∷ w) e = absurd (omega arith)
+no_gap b (Kept start end ∷ w) e = no_gap false w e
+no_gap b (Skipped at ∷ w) e = absurd (omega arith)
 
 pub no_gap_iff : (l : List ℕ) → (gaps_in (walk_of l) ≡ []) ↔ (skipped_in (walk_of l) ≡ 0)
 no_gap_iff l = (nothing_skipped false (walk_of l) refl, no_gap false (walk_of l))
@@ -57,61 +59,61 @@ no_gap_iff l = (nothing_skipped false (walk_of l) refl, no_gap false (walk_of l)
 
 module _ (l : List ℕ) where
   -- what is skipped of the walk from an offset lies from there on
-  from_there : (at : ℕ) → at ≤ length l → (p : ℕ) → Skipped p (walk_from l at) → at ≤ p
+  from_there : (at : ℕ) → at ≤ length l → (p : ℕ) → IsSkipped p (walk_from l at) → at ≤ p
   from_there =
-      walk_induction l (λ at w. (p : ℕ) → Skipped p w → at ≤ p)
+      walk_induction l (λ at w. (p : ℕ) → IsSkipped p w → at ≤ p)
       (λ p s. absurd s)
       (λ at end k behind p s. omega (arith, k.headed, behind p s))
       (λ at h e behind p s. here at p (walk_from l (at + 1)) (behind p) s)
     where
-      here : (at p : ℕ) (w : List Step) → (Skipped p w → at + 1 ≤ p) → (p ≡ at) ⊎ Skipped p w → at ≤ p
+      here : (at p : ℕ) (w : List Step) → (IsSkipped p w → at + 1 ≤ p) → (p ≡ at) ⊎ IsSkipped p w → at ≤ p
       here at p w later (inl e) = omega arith
       here at p w later (inr s) = omega (arith, later s)
 
   -- a gap of the walk from an offset, where the byte before was skipped or not
   record Gap (b : Bool) (at p : ℕ) (w : List Step) : Type 0 where
-    there : Skipped p w
+    there : IsSkipped p w
     first : b ≡ true → p ≡ at → ⊥
-    fresh : (q : ℕ) → suc q ≡ p → Skipped q w → ⊥
+    fresh : (q : ℕ) → suc q ≡ p → IsSkipped q w → ⊥
 
   record Both (at : ℕ) (w : List Step) : Type 0 where
     into : (b : Bool) (p : ℕ) → In p (gaps_from b w) → Gap b at p w
     from : (b : Bool) (p : ℕ) → Gap b at p w → In p (gaps_from b w)
     rises : (b : Bool) → Rising at (gaps_from b w)
 
-  module _ (at : ℕ) (w : List Step) (low : (p : ℕ) → Skipped p w → at + 1 ≤ p) (k : Both (at + 1) w) where
-    later : (b : Bool) (p : ℕ) → Gap true (at + 1) p w → Gap b at p (skipped at ∷ w)
+  module _ (at : ℕ) (w : List Step) (low : (p : ℕ) → IsSkipped p w → at + 1 ≤ p) (k : Both (at + 1) w) where
+    later : (b : Bool) (p : ℕ) → Gap true (at + 1) p w → Gap b at p (Skipped at ∷ w)
     later b p g = record { there = inr g.there; first = λ e f. past (low p g.there) f; fresh = fresh }
       where
         past : at + 1 ≤ p → p ≡ at → ⊥
         past h f = omega arith
 
-        fresh : (q : ℕ) → suc q ≡ p → (q ≡ at) ⊎ Skipped q w → ⊥
+        fresh : (q : ℕ) → suc q ≡ p → (q ≡ at) ⊎ IsSkipped q w → ⊥
         fresh q e (inl f) = g.first refl (omega arith)
         fresh q e (inr s) = g.fresh q e s
 
-    skip_into : (b : Bool) (p : ℕ) → In p (gaps_from b (skipped at ∷ w)) → Gap b at p (skipped at ∷ w)
+    skip_into : (b : Bool) (p : ℕ) → In p (gaps_from b (Skipped at ∷ w)) → Gap b at p (Skipped at ∷ w)
     skip_into true p i = later true p (k.into true p i)
     skip_into false p (inr i) = later false p (k.into true p i)
-    skip_into false p (inl e) = record { there = inl e; first = λ f. let z : ◌≡◌ {A = ℕ} 0 1 = cc in absurd (omega arith); fresh = fresh }
+    skip_into false p (inl e) = record { there = inl e; first = λ f. cc; fresh = fresh }
       where
-        fresh : (q : ℕ) → suc q ≡ p → (q ≡ at) ⊎ Skipped q w → ⊥
+        fresh : (q : ℕ) → suc q ≡ p → (q ≡ at) ⊎ IsSkipped q w → ⊥
         fresh q f (inl g) = omega arith
         fresh q f (inr s) = omega (arith, low q s)
 
-    onward : (b : Bool) (p : ℕ) → Gap b at p (skipped at ∷ w) → Skipped p w → In p (gaps_from true w)
+    onward : (b : Bool) (p : ℕ) → Gap b at p (Skipped at ∷ w) → IsSkipped p w → In p (gaps_from true w)
     onward b p g s = k.from true p (record { there = s; first = λ e f. g.fresh at (omega arith) (inl refl); fresh = λ q f t. g.fresh q f (inr t) })
 
-    skip_from : (b : Bool) (p : ℕ) → Gap b at p (skipped at ∷ w) → In p (gaps_from b (skipped at ∷ w))
+    skip_from : (b : Bool) (p : ℕ) → Gap b at p (Skipped at ∷ w) → In p (gaps_from b (Skipped at ∷ w))
     skip_from b p g = by b g g.there
       where
-        by : (b : Bool) → Gap b at p (skipped at ∷ w) → (p ≡ at) ⊎ Skipped p w → In p (gaps_from b (skipped at ∷ w))
+        by : (b : Bool) → Gap b at p (Skipped at ∷ w) → (p ≡ at) ⊎ IsSkipped p w → In p (gaps_from b (Skipped at ∷ w))
         by true g (inl e) = absurd (g.first refl e)
         by true g (inr s) = onward true p g s
         by false g (inl e) = inl e
         by false g (inr s) = inr (onward false p g s)
 
-    skip_rises : (b : Bool) → Rising at (gaps_from b (skipped at ∷ w))
+    skip_rises : (b : Bool) → Rising at (gaps_from b (Skipped at ∷ w))
     skip_rises true = lower at (at + 1) (gaps_from true w) (omega arith) (k.rises true)
     skip_rises false = (omega arith, lower (suc at) (at + 1) (gaps_from true w) (omega arith) (k.rises true))
 
@@ -124,7 +126,7 @@ module _ (l : List ℕ) where
         into = λ b p i.
             let g = behind.into false p i in
             record { there = g.there; first = λ e f. apart at end p kept.headed (from_there end kept.within p g.there) f; fresh = g.fresh };
-        from = λ b p g. behind.from false p (record { there = g.there; first = λ e. let z : ◌≡◌ {A = ℕ} 0 1 = cc in absurd (omega arith); fresh = g.fresh });
+        from = λ b p g. behind.from false p (record { there = g.there; first = λ e. cc; fresh = g.fresh });
         rises = λ b. lower at end (gaps_from false (walk_from l end)) (omega (arith, kept.headed)) (behind.rises false);
       })
       (λ at h e behind.
@@ -140,11 +142,11 @@ module _ (l : List ℕ) where
       apart at end p h k f = omega arith
 
   -- a place is a gap's exactly if it is skipped and the byte before is not
-  pub gap_iff : (p : ℕ) → In p (gaps_in (walk_of l)) ↔ (Skipped p (walk_of l) × ((q : ℕ) → suc q ≡ p → Skipped q (walk_of l) → ⊥))
+  pub gap_iff : (p : ℕ) → In p (gaps_in (walk_of l)) ↔ (IsSkipped p (walk_of l) × ((q : ℕ) → suc q ≡ p → IsSkipped q (walk_of l) → ⊥))
   gap_iff p =
       let k = both 0 (omega arith) in (
         λ i. ((k.into false p i).there, (k.into false p i).fresh),
-        λ g. k.from false p (record { there = g.0; first = λ e. let z : ◌≡◌ {A = ℕ} 0 1 = cc in absurd (omega arith); fresh = g.1 }),
+        λ g. k.from false p (record { there = g.0; first = λ e. cc; fresh = g.1 }),
       )
 
   -- so that none is told twice

@@ -1,4 +1,5 @@
 -- Laws that belong to no one function.
+pub mod Mark
 pub mod Walks
 pub mod Along
 pub mod Sums

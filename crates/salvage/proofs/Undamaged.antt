@@ -14,8 +14,9 @@ use Rattle.cookielist.specs.declared.Entry.{Entry}
 use Rattle.cookielist.specs.declared.Entry.TheVariants.{Cookie, End, Broken}
 use Rattle.cookielist.proofs.Reader.{placed, ended, read_cookie, read_end, whole_cookie, whole_broken}
 use Rattle.cookielist.proofs.RoundTrip.{entry_end}
-use Rattle.salvage.specs.declared.Found.TheVariants.{Record, Nothing}
-use Rattle.salvage.specs.Walk.{mark_at, followed, on_entry, record_at, Step, walk_from, walk_of}
+use Rattle.std.specs.Prelude.{Some, None}
+use Rattle.salvage.specs.declared.Step.{Step}
+use Rattle.salvage.specs.Walk.{mark_at, followed, on_entry, record_at, walk_from, walk_of}
 use Rattle.salvage.specs.Salvage.{skipped_in, gaps_from, gaps_in, records_in, cookies_kept, clean_of}
 use Rattle.salvage.proofs.Walks.{walk_induction}
 
@@ -31,21 +32,21 @@ module _ (l : List ℕ) where
         eq-eqb (record_mark_at l end) 0xC00E w.mark,
       )
   goes_on end h t End p = simp (eq-eqb end (length l) (ended l end h p))
-  goes_on end h t Broken p = let f = sym (whole_broken l end p) ∙ t in let z : ◌≡◌ {A = ℕ} 0 1 = cc in absurd (omega arith)
+  goes_on end h t Broken p = let f = sym (whole_broken l end p) ∙ t in cc
 
   -- so that no byte of it is skipped
-  never : (b : Bool) (end : ℕ) → b ≡ true → cond b (Record end) Nothing ≡ Nothing → ⊥
+  never : (b : Bool) (end : ℕ) → b ≡ true → cond b (Some end) None ≡ None → ⊥
   never true end t q = let z : ◌≡◌ {A = ℕ} 0 1 = cc in omega arith
   never false end t q = let z : ◌≡◌ {A = ℕ} 0 1 = cc in omega arith
 
-  unskipped : (at : ℕ) → at < length l → is_whole (cookies_from l at) ≡ true → (e : Entry) → entry_at l at ≡ e → on_entry l e ≡ Nothing → ⊥
+  unskipped : (at : ℕ) → at < length l → is_whole (cookies_from l at) ≡ true → (e : Entry) → entry_at l at ≡ e → on_entry l e ≡ None → ⊥
   unskipped at h t (Cookie start end) p q =
       let w = placed l at start end p in
       never (followed l end) end (goes_on end w.within (sym (whole_cookie l at start end p) ∙ t) (entry_at l end) refl) q
   unskipped at h t End p q = let z = ended l at (omega arith) p in omega arith
   unskipped at h t Broken p q = let f = sym (whole_broken l at p) ∙ t in let z : ◌≡◌ {A = ℕ} 0 1 = cc in omega arith
 
-  none_skipped : (at : ℕ) → at < length l → is_whole (cookies_from l at) ≡ true → record_at l at ≡ Nothing → ⊥
+  none_skipped : (at : ℕ) → at < length l → is_whole (cookies_from l at) ≡ true → record_at l at ≡ None → ⊥
   unfolding record_at
   none_skipped at h t q = unskipped at h t (entry_at l at) refl q
 

@@ -12,14 +12,15 @@ use Rattle.cookielist.specs.List.{entry_at}
 use Rattle.cookielist.specs.declared.Entry.{Entry}
 use Rattle.cookielist.specs.declared.Entry.TheVariants.{Cookie, End, Broken}
 use Rattle.cookielist.proofs.Reader.{placed}
-use Rattle.salvage.specs.declared.Found.{Found}
-use Rattle.salvage.specs.declared.Found.TheVariants.{Record, Nothing}
-use Rattle.salvage.specs.Walk.{followed, on_entry, record_at, Step, kept, skipped, on_found, walk_n, walk_from}
+use Rattle.std.specs.Prelude.{Option, Some, None}
+use Rattle.salvage.specs.declared.Step.{Step}
+use Rattle.salvage.specs.declared.Step.TheVariants.{Kept, Skipped}
+use Rattle.salvage.specs.Walk.{followed, on_entry, record_at, on_found, walk_n, walk_from}
 
 -- ---- a record that is kept
 
 -- the list's own entry, with the end or a mark behind it, and where it lies
-pub record Kept (l : List ℕ) (at end : ℕ) : Type 0 where
+pub record KeptAt (l : List ℕ) (at end : ℕ) : Type 0 where
   pub start : ℕ
   pub entry : entry_at l at ≡ Cookie start end
   pub follows : followed l end ≡ true
@@ -27,31 +28,31 @@ pub record Kept (l : List ℕ) (at end : ℕ) : Type 0 where
   pub within : end ≤ length l
 
 module _ (l : List ℕ) (at : ℕ) where
-  taken : (start to end : ℕ) → entry_at l at ≡ Cookie start to → (b : Bool) → followed l to ≡ b → cond b (Record to) Nothing ≡ Record end → Kept l at end
+  taken : (start to end : ℕ) → entry_at l at ≡ Cookie start to → (b : Bool) → followed l to ≡ b → cond b (Some to) None ≡ Some end → KeptAt l at end
   taken start to end p true f q =
       let e : to ≡ end = cc in
       let w = placed l at start to p in
       record { start = start; entry = p ∙ rw e; follows = rw e at f; headed = omega (arith, w.starts, w.ends); within = omega (arith, w.within) }
-  taken start to end p false f q = let z : ◌≡◌ {A = ℕ} 0 1 = cc in absurd (omega arith)
+  taken start to end p false f q = cc
 
-  by_entry : (end : ℕ) (e : Entry) → entry_at l at ≡ e → on_entry l e ≡ Record end → Kept l at end
+  by_entry : (end : ℕ) (e : Entry) → entry_at l at ≡ e → on_entry l e ≡ Some end → KeptAt l at end
   by_entry end (Cookie start to) p q = taken start to end p (followed l to) refl q
-  by_entry end End p q = let z : ◌≡◌ {A = ℕ} 0 1 = cc in absurd (omega arith)
-  by_entry end Broken p q = let z : ◌≡◌ {A = ℕ} 0 1 = cc in absurd (omega arith)
+  by_entry end End p q = cc
+  by_entry end Broken p q = cc
 
-  pub is_kept : (end : ℕ) → record_at l at ≡ Record end → Kept l at end
+  pub is_kept : (end : ℕ) → record_at l at ≡ Some end → KeptAt l at end
   unfolding record_at
   is_kept end q = by_entry end (entry_at l at) refl q
 
 -- ---- the walk
 
 -- what follows a step depends on the walk from its end alone
-after : (l : List ℕ) (at : ℕ) (f g : ℕ → List Step) → at < length l → ((to : ℕ) → at + 1 ≤ to → to ≤ length l → f to ≡ g to) → (r : Found) → record_at l at ≡ r
-    → on_found f at r ≡ on_found g at r
-after l at f g h same (Record end) e =
+after : (l : List ℕ) (at : ℕ) (f g : ℕ → List Step) → at < length l → ((to : ℕ) → at + 1 ≤ to → to ≤ length l → f to ≡ g to) → (r : Option ℕ)
+    → record_at l at ≡ r → on_found f at r ≡ on_found g at r
+after l at f g h same (Some end) e =
     let k = is_kept l at end e in
-    ap (λ (w : List Step). kept at end ∷ w) (same end (omega (arith, k.headed)) k.within)
-after l at f g h same Nothing e = ap (λ (w : List Step). skipped at ∷ w) (same (at + 1) (omega arith) (omega arith))
+    ap (λ (w : List Step). Kept at end ∷ w) (same end (omega (arith, k.headed)) k.within)
+after l at f g h same None e = ap (λ (w : List Step). Skipped at ∷ w) (same (at + 1) (omega arith) (omega arith))
 
 none_left : (n : ℕ) (l : List ℕ) (at : ℕ) → length l ≤ at → walk_n n l at ≡ []
 none_left zero l at h = refl
@@ -85,23 +86,24 @@ walk_turn l at h =
 
 -- ---- the law, step by step
 
-pub walk_kept : (l : List ℕ) (at end : ℕ) → at < length l → record_at l at ≡ Record end → walk_from l at ≡ kept at end ∷ walk_from l end
+pub walk_kept : (l : List ℕ) (at end : ℕ) → at < length l → record_at l at ≡ Some end → walk_from l at ≡ Kept at end ∷ walk_from l end
 walk_kept l at end h e = walk_turn l at h ∙ rw e
 
-pub walk_skipped : (l : List ℕ) (at : ℕ) → at < length l → record_at l at ≡ Nothing → walk_from l at ≡ skipped at ∷ walk_from l (at + 1)
+pub walk_skipped : (l : List ℕ) (at : ℕ) → at < length l → record_at l at ≡ None → walk_from l at ≡ Skipped at ∷ walk_from l (at + 1)
 walk_skipped l at h e = walk_turn l at h ∙ rw e
 
 -- induction over the walk
 module _ (l : List ℕ) (P : ℕ → List Step → Type 0) (at-end : P (length l) [])
-    (at-kept : (at end : ℕ) → Kept l at end → P end (walk_from l end) → P at (kept at end ∷ walk_from l end))
-    (at-skipped : (at : ℕ) → at < length l → record_at l at ≡ Nothing → P (at + 1) (walk_from l (at + 1)) → P at (skipped at ∷ walk_from l (at + 1))) where
+    (at-kept : (at end : ℕ) → KeptAt l at end → P end (walk_from l end) → P at (Kept at end ∷ walk_from l end))
+    (at-skipped : (at : ℕ) → at < length l → record_at l at ≡ None → P (at + 1) (walk_from l (at + 1)) → P at (Skipped at ∷ walk_from l (at + 1))) where
   ended : (at : ℕ) → at ≡ length l → P at (walk_from l at)
   ended at e = rw (walk_end l at (omega arith), e) at-end
 
-  by_found : (at : ℕ) → at < length l → ((to : ℕ) → at + 1 ≤ to → to ≤ length l → P to (walk_from l to)) → (r : Found) → record_at l at ≡ r → P at (walk_from l at)
-  by_found at h later (Record end) e = let k = is_kept l at end e in
+  by_found : (at : ℕ) → at < length l → ((to : ℕ) → at + 1 ≤ to → to ≤ length l → P to (walk_from l to)) → (r : Option ℕ) →
+      record_at l at ≡ r → P at (walk_from l at)
+  by_found at h later (Some end) e = let k = is_kept l at end e in
       rw (walk_kept l at end h e) (at-kept at end k (later end (omega (arith, k.headed)) k.within))
-  by_found at h later Nothing e = rw (walk_skipped l at h e) (at-skipped at h e (later (at + 1) (omega arith) (omega arith)))
+  by_found at h later None e = rw (walk_skipped l at h e) (at-skipped at h e (later (at + 1) (omega arith) (omega arith)))
 
   by_test : (at : ℕ) → at ≤ length l → ((to : ℕ) → at + 1 ≤ to → to ≤ length l → P to (walk_from l to)) → (b : Bool) → ltb at (length l) ≡ b →
       P at (walk_from l at)

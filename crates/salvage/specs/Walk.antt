@@ -1,11 +1,11 @@
 -- The walk over a damaged cookie list (RULES, No. 9): each position is tried in turn.
 -- Assumes nothing.
-use Rattle.std.specs.Prelude.{ℕ, zero, suc, ◌+◌, ◌-◌, List, [], ◌∷◌, Bool, ◌&&◌, ◌||◌, cond, length, ltb, leb, eqb}
+use Rattle.std.specs.Prelude.{ℕ, zero, suc, ◌+◌, ◌-◌, List, [], ◌∷◌, Bool, ◌&&◌, ◌||◌, cond, length, ltb, leb, eqb, Option, Some, None}
 use Rattle.cookielist.specs.List.{record_mark_at, entry_at}
 use Rattle.cookielist.specs.declared.Entry.{Entry}
 use Rattle.cookielist.specs.declared.Entry.TheVariants.{Cookie, End, Broken}
-use Rattle.salvage.specs.declared.Found.{Found}
-use Rattle.salvage.specs.declared.Found.TheVariants.{Record, Nothing}
+use Rattle.salvage.specs.declared.Step.{Step}
+use Rattle.salvage.specs.declared.Step.TheVariants.{Kept, Skipped}
 
 -- a mark: its two bytes are there, and are C0 0E
 -- promise no9.1: Salvage tries each position in turn. If a mark, a length and that many bytes fit, followed by the end or another mark, the record is kept
@@ -21,24 +21,19 @@ unfoldable pub followed : List ℕ → ℕ → Bool
 followed l end = eqb end (length l) || mark_at l end
 
 -- the record is kept if a mark, a length and that many bytes fit (the cookie list's own entry) and it is followed as above
-abbrev pub on_entry : List ℕ → Entry → Found
-on_entry l (Cookie start end) = cond (followed l end) (Record end) Nothing
-on_entry l End = Nothing
-on_entry l Broken = Nothing
+abbrev pub on_entry : List ℕ → Entry → Option ℕ
+on_entry l (Cookie start end) = cond (followed l end) (Some end) None
+on_entry l End = None
+on_entry l Broken = None
 
 -- promise: no9.1 (over the list's own `entry_at`)
-unfoldable pub record_at : List ℕ → ℕ → Found
+unfoldable pub record_at : List ℕ → ℕ → Option ℕ
 record_at l at = on_entry l (entry_at l at)
 
--- a step: a record kept, from its first byte and before its end; or a byte skipped
-pub data Step : Type 0 where
-  kept : ℕ → ℕ → Step
-  skipped : ℕ → Step
-
--- reading continues after the record, or after the byte
-abbrev pub on_found : (ℕ → List Step) → ℕ → Found → List Step
-on_found rest at (Record end) = kept at end ∷ rest end
-on_found rest at Nothing = skipped at ∷ rest (at + 1)
+-- a step: a record kept, from its first byte and before its end; or a byte skipped. Reading continues after the record, or after the byte
+abbrev pub on_found : (ℕ → List Step) → ℕ → Option ℕ → List Step
+on_found rest at (Some end) = Kept at end ∷ rest end
+on_found rest at None = Skipped at ∷ rest (at + 1)
 
 -- with at most n steps
 abbrev pub walk_n : ℕ → List ℕ → ℕ → List Step
@@ -50,6 +45,6 @@ walk_n (suc n) l at = cond (ltb at (length l)) (on_found (walk_n n l) at (record
 unfoldable pub walk_from : List ℕ → ℕ → List Step
 walk_from l at = walk_n (length l - at) l at
 
--- promise: no9.1 (a list of steps, `kept START END` or `skipped PLACE`)
+-- promise: no9.1 (a list of steps, `Kept START END` or `Skipped PLACE`)
 abbrev pub walk_of : List ℕ → List Step
 walk_of l = walk_from l 0

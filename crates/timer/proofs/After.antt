@@ -145,11 +145,7 @@ module _ (a : Association) (i : TimerInput) (room : ℕ) where
 
 -- ---- number by number
 
--- what holds on every number, on those but 20, and on 20
-pub record Stays (a next : Association) : Type 0 where
-  pub settings : next.settings ≡ a.settings
-  pub source : next.state.source ≡ a.state.source
-
+-- what holds on those but 20, and on 20
 pub record Waits (a next : Association) (buffer last : List ℕ) : Type 0 where
   pub request : next.state.request ≡ a.state.request
   pub polls : next.state.polls ≡ a.state.polls
@@ -164,9 +160,6 @@ module _ (a : Association) (i : TimerInput) (buffer : List ℕ) where
   -- promise demand.1: Every call ends with a defined answer; bad input is rejected with its number and changes nothing.
   pub record_left : T (leaves (number_of (timer_of a i (length buffer)).answer)) → (timer_of a i (length buffer)).association ≡ a
   record_left t = (rang a i (length buffer)).same t
-
-  pub settings_left : Stays a (timer_of a i (length buffer)).association
-  settings_left = let r = rang a i (length buffer) in record { settings = r.settings; source = r.source }
 
   -- promise: 10.5, 10.8 (its `untouched`), no3.2
   pub pending_left : (number_of (timer_of a i (length buffer)).answer ≡ 20 → ⊥) → Waits a (timer_of a i (length buffer)).association buffer (buffer_of a i buffer)

@@ -9,6 +9,7 @@ use native.Mathlib.Omega.{arith}
 use borrow.Author.Tests.{eqb-true, eqb-false, ltb-false, lt-leb}
 use lib.Dec.{eqb}
 use lib.ListN.{length}
+use Rattle.std.specs.Option.{is_some}
 use Rattle.words.proofs.Tests.{passes, either}
 use Rattle.cookiestash.specs.declared.Seen.{Seen}
 use Rattle.cookiestash.specs.Stash.{stored}
@@ -21,8 +22,8 @@ use Rattle.association.specs.Record.{whole_seen}
 use Rattle.timer_rules.specs.declared.Decision.{Decision}
 use Rattle.timer_rules.specs.declared.TimerInput.{TimerInput}
 use Rattle.timer_rules.specs.Poll.{short_buffer, startup_over}
-use Rattle.timer_rules.specs.Decide.{asked_with, decide_nts, decide_of}
-use Rattle.timer_rules.proofs.Count.{asked_some, asked_short}
+use Rattle.timer_rules.specs.Decide.{oldest_len, asked_with, decide_nts, decide_of}
+use Rattle.timer_rules.proofs.Count.{oldest_is, found_is, asked_some, asked_short}
 use Rattle.timer.specs.declared.TimerOut.{TimerOut}
 use Rattle.timer.specs.Timer.{oldest, decided, handed, timer_of, buffer_of, timed, timed_of}
 
@@ -43,12 +44,13 @@ module _ (a : Association) (i : TimerInput) (ys : List ℕ) where
   Same d = cond d.takes (handed_of (oldest a) ys) ys ≡ wrote (oldest a).bytes (handed d.answer) ys
 
   -- 24: since the take leaves room, the cookie is longer than 724 bytes, and none of them is stored
-  too_large : seen.found ≡ true → asked_with seen ≡ 0 → handed_of (oldest a) ys ≡ ys
+  too_large : is_some seen.oldest ≡ true → asked_with seen ≡ 0 → handed_of (oldest a) ys ≡ ys
   too_large f z =
-      elim (dec_le seen.len 724) [
+      let taken = sym (found_is a.settings.capacity a.stash) ∙ f in
+      elim (dec_le (oldest_len seen) 724) [
         | yes l ↦ absurd (not_both (asked_with seen) z
-            (asked_some (min seen.gap 8) seen.len (omega (arith, found_gap a.settings.capacity a.stash f)) l))
-        | no n ↦ handed_none (oldest a) ys (none seen.len (omega arith))
+            (asked_some (min seen.gap 8) (oldest_len seen) (omega (arith, found_gap a.settings.capacity a.stash taken)) l))
+        | no n ↦ handed_none (oldest a) ys (none (oldest a).len (omega (arith, oldest_is a.settings.capacity a.stash)))
       ]
 
   same : Same (decide_of a.settings a.state seen i (length ys))
@@ -58,12 +60,14 @@ module _ (a : Association) (i : TimerInput) (ys : List ℕ) where
       (λ _. either Same (short_buffer a.settings (length ys)) (λ _. refl)
       (λ b. either Same (startup_over a.settings a.state) (λ _. either Same a.state.source.denial (λ _. refl) (λ _. refl))
       (λ _. either Same a.settings.nts
-      (λ n. either Same seen.found
+      (λ n. either Same (is_some seen.oldest)
       (λ f. either Same (eqb (asked_with seen) 0) (λ z. too_large f (eqb-true _ _ z))
       (λ z.
-      let short = asked_short (min seen.gap 8) seen.len (eqb-false _ _ z) in
+      let long = oldest_is a.settings.capacity a.stash in
+      let short = asked_short (min seen.gap 8) (oldest_len seen) (eqb-false _ _ z) in
       let roomy = ltb-false (length ys) 724 (sym (passes _ n) ∙ b) in
-      handed_all (oldest a) ys short (omega arith)))
+      handed_all (oldest a) ys (omega (arith, long, short)) (omega (arith, long, short, roomy))
+      ∙ ap (λ (len : ℕ). wrote (oldest a).bytes len ys) (sym long)))
       (λ _. refl))
       (λ _. refl))))
       (λ _. refl)

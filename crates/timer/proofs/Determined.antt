@@ -20,8 +20,8 @@ TimerPost =
     (λ κs a y e. all_models _ (λ w. r_last _) (λ w. refl) (λ w. refl) (λ w. refl))
 
 -- promise: 10.9
-pub timer_determined : DeterminedLent {S = Association × List ℕ} TimerPost (λ κs e. (e.0.now, e.1.1.1.1.1.0.now))
+pub timer_determined : DeterminedLent {S = Association × List ℕ} TimerPost (λ κs e. (e.0.now, e.1.1.0.now))
 timer_determined κs a y z e f p q = let e = p ∙ sym q in (ap (λ (t : Timed). t.gives.answer) e, ap (λ (t : Timed). (t.gives.association, t.left)) e)
 
-pub timer_core_determined : DeterminedLent timer-core.Post (λ κs e. e.1.1.1.1.1.0.now)
+pub timer_core_determined : DeterminedLent timer-core.Post (λ κs e. e.1.1.0.now)
 timer_core_determined κs a y z e f p q = let e = p ∙ sym q in (ap (λ (t : Timed). t.gives) e, ap (λ (t : Timed). t.left) e)

@@ -5,7 +5,7 @@ use mathlib.Core.Bool.{cond}
 use mathlib.Core.List.{List}
 use Prim.Native.Nat.{ℕ}
 use lib.ListN.{length}
-use Rattle.cookiestash.specs.Stash.{get_of}
+use Rattle.cookiestash.specs.Stash.{get_of, slot_or_empty}
 use Rattle.cookiestash.specs.Whole.{seen_of}
 use Rattle.cookiestash.specs.Handed.{wrote}
 use Rattle.association.specs.declared.Association.{Association}
@@ -29,6 +29,6 @@ module _ (a : Association) (e : a.settings.capacity ≡ 8) (i : TimerInput) wher
       ap (λ (c : ℕ). out d.answer (record { settings = a.settings; stash = cond d.takes (get_of c a.stash).stash a.stash; state = d.state })) e)
 
   -- promise: no12.4
-  pub buffer_8 : (buffer : List ℕ) → buffer_of a i buffer ≡ wrote (get_of 8 a.stash).slot.bytes (handed (timer_of a i (length buffer)).answer) buffer
+  pub buffer_8 : (buffer : List ℕ) → buffer_of a i buffer ≡ wrote (slot_or_empty (get_of 8 a.stash)).bytes (handed (timer_of a i (length buffer)).answer) buffer
   unfolding buffer_of
-  buffer_8 buffer = ap (λ (c : ℕ). wrote (get_of c a.stash).slot.bytes (handed (timer_of a i (length buffer)).answer) buffer) e
+  buffer_8 buffer = ap (λ (c : ℕ). wrote (slot_or_empty (get_of c a.stash)).bytes (handed (timer_of a i (length buffer)).answer) buffer) e

@@ -7,9 +7,10 @@ use Prim.Native.Nat.{ℕ, ◌≤◌, ◌<◌}
 use native.Mathlib.Omega.{arith}
 use lib.Dec.{eqb, ltb}
 use borrow.Author.Tests.{ltb-true, ltb-false, eqb-true, eqb-false, lt-ltb, le-ltb, eq-eqb, ne_eqb}
+use Rattle.std.specs.Option.{is_some}
 use Rattle.words.proofs.Tests.{both, either}
 use Rattle.cookiestash.specs.declared.Taken.{Taken}
-use Rattle.cookiestash.specs.Stash.{in_range, get_of}
+use Rattle.cookiestash.specs.Stash.{in_range, get_of, is_found}
 use Rattle.cookiestash.specs.Whole as stash
 use Rattle.association.specs.declared.Association.{Association}
 use Rattle.association.specs.Settings.{settings_valid}
@@ -19,6 +20,7 @@ use Rattle.timer_rules.specs.declared.TimerInput.{TimerInput}
 use Rattle.timer_rules.specs.Answer.{number_of}
 use Rattle.timer_rules.specs.Poll.{short_buffer, startup_over, tried_of}
 use Rattle.timer_rules.specs.Decide.{asked_with, decide_nts, decide_of}
+use Rattle.timer_rules.proofs.Count.{found_is}
 use Rattle.timer.specs.declared.TimerOut.{TimerOut}
 use Rattle.timer.specs.Timer.{decided, timer_of}
 use Rattle.timer.specs.Numbers as N
@@ -26,7 +28,7 @@ use Rattle.timer.specs.Numbers.{Given, not_whole, short_buffer_lem, demobilize, 
 
 -- ---- in a whole record a cookie is found where one is held
 
-found_by : (t : Bool) (x y : Taken) → x.found ≡ true → y.found ≡ false → (cond t x y).found ≡ t
+found_by : (t : Bool) (x y : Taken) → is_found x ≡ true → is_found y ≡ false → is_found (cond t x y) ≡ t
 found_by true x y p q = p
 found_by false x y p q = q
 
@@ -38,9 +40,12 @@ pub in_range_lem : (a : Association) → whole_of a ≡ true → in_range a.sett
 unfolding stash.whole_of
 in_range_lem a w = (both (in_range a.settings.capacity a.stash) _ (stash_whole a w)).0
 
-found_is : (a : Association) → whole_of a ≡ true → (get_of a.settings.capacity a.stash).found ≡ ltb 0 a.stash.held
+taken_is : (a : Association) → whole_of a ≡ true → is_found (get_of a.settings.capacity a.stash) ≡ ltb 0 a.stash.held
 unfolding get_of
-found_is a w = rw (in_range_lem a w) (found_by (ltb 0 a.stash.held) _ _ refl refl)
+taken_is a w = rw (in_range_lem a w) (found_by (ltb 0 a.stash.held) _ _ refl refl)
+
+seen_is : (a : Association) → whole_of a ≡ true → is_some (stash.seen_of a.settings.capacity a.stash).oldest ≡ ltb 0 a.stash.held
+seen_is a w = found_is a.settings.capacity a.stash ∙ taken_is a w
 
 positive : (n : ℕ) → (n ≡ 0 → ⊥) → 0 < n
 positive n h = omega arith
@@ -57,8 +62,8 @@ module _ (a : Association) (i : TimerInput) (room : ℕ) where
       Told (decide_nts a.settings (tried_of a.state) (stash.seen_of a.settings.capacity a.stash) i)
   unfolding decide_nts
   nts_told t n =
-      let f = found_is a t.accepted.whole in
-      either Told (get_of a.settings.capacity a.stash).found
+      let f = seen_is a t.accepted.whole in
+      either Told (is_some (stash.seen_of a.settings.capacity a.stash).oldest)
       (λ e. let k : N.Taken a i room = record { tried = t; nts = n; some = ltb-true _ _ (sym f ∙ e) } in
       either Told (eqb (asked_with (stash.seen_of a.settings.capacity a.stash)) 0) (λ z. too_large k (eqb-true _ _ z))
       (λ z. sent_nts k (positive _ (eqb-false _ _ z))))
@@ -87,18 +92,18 @@ module _ (a : Association) (i : TimerInput) (room : ℕ) where
   only (reset c o d) = rw (c.whole, c.roomy, o, d)
   only (no_cookie_lem t n h) =
       let c = t.accepted in
-      rw (c.whole, c.roomy, t.going, n, found_is a c.whole ∙ le-ltb 0 a.stash.held (omega arith))
+      rw (c.whole, c.roomy, t.going, n, seen_is a c.whole ∙ le-ltb 0 a.stash.held (omega arith))
   only (too_large k z) =
       let t = k.tried in
       let c = t.accepted in
-      rw (c.whole, c.roomy, t.going, k.nts, found_is a c.whole ∙ lt-ltb _ _ k.some, eq-eqb _ _ z)
+      rw (c.whole, c.roomy, t.going, k.nts, seen_is a c.whole ∙ lt-ltb _ _ k.some, eq-eqb _ _ z)
   only (sent t n) =
       let c = t.accepted in
       rw (c.whole, c.roomy, t.going, n)
   only (sent_nts k z) =
       let t = k.tried in
       let c = t.accepted in
-      rw (c.whole, c.roomy, t.going, k.nts, found_is a c.whole ∙ lt-ltb _ _ k.some, ne_eqb _ _ (not_zero _ z))
+      rw (c.whole, c.roomy, t.going, k.nts, seen_is a c.whole ∙ lt-ltb _ _ k.some, ne_eqb _ _ (not_zero _ z))
 
   numbered : {n : ℕ} {o : TimerOut} → Given a i room n o → number_of o.answer ≡ n
   numbered (not_whole w) = refl

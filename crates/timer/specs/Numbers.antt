@@ -8,7 +8,7 @@ use Rattle.association.specs.Record.{whole_of, with_state, with_stash}
 use Rattle.timer_rules.specs.declared.TimerAnswer.TheVariants.{Reset, Demobilize, NoCookie, CookieTooLarge, ShortBuffer, NotWhole}
 use Rattle.timer_rules.specs.declared.TimerInput.{TimerInput}
 use Rattle.timer_rules.specs.Poll.{short_buffer, startup_over, tried_of}
-use Rattle.timer_rules.specs.Decide.{send_of, asked_with}
+use Rattle.timer_rules.specs.Decide.{send_of, oldest_len, asked_with}
 use Rattle.timer.specs.declared.TimerOut.{TimerOut}
 use Rattle.timer.specs.Timer.{out, decided}
 
@@ -48,5 +48,5 @@ module _ (a : Association) (i : TimerInput) (room : ℕ) where
         Given 24 (out CookieTooLarge (with_stash (with_state a (tried_of a.state)) (get_of a.settings.capacity a.stash).stash))
     sent : Tried → a.settings.nts ≡ false → Given 20 (decided a (send_of a.settings (tried_of a.state) i 0 0 false))
     sent_nts : Taken → 0 < asked_with (seen_of a.settings.capacity a.stash) →
-        Given 20 (decided a (send_of a.settings (tried_of a.state) i (get_of a.settings.capacity a.stash).slot.len
+        Given 20 (decided a (send_of a.settings (tried_of a.state) i (oldest_len (seen_of a.settings.capacity a.stash))
         (asked_with (seen_of a.settings.capacity a.stash)) true))

@@ -2,7 +2,7 @@
 -- Assumes nothing.
 use Rattle.std.specs.Prelude.{cond, List, ℕ, length}
 use Rattle.cookiestash.specs.declared.Slot.{Slot}
-use Rattle.cookiestash.specs.Stash.{get_of}
+use Rattle.cookiestash.specs.Stash.{get_of, slot_or_empty}
 use Rattle.cookiestash.specs.Whole.{seen_of}
 use Rattle.cookiestash.specs.Handed.{wrote}
 use Rattle.association.specs.declared.Association.{Association}
@@ -18,7 +18,7 @@ out r a = record { answer = r; association = a }
 
 -- the cookie that is taken
 abbrev pub oldest : Association → Slot
-oldest a = (get_of a.settings.capacity a.stash).slot
+oldest a = slot_or_empty (get_of a.settings.capacity a.stash)
 
 -- the record after a decision: the settings, the stash without its oldest cookie if that is taken, and the next state
 -- promise: no12.2

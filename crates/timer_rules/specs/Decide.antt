@@ -1,6 +1,7 @@
 -- RULES, part 10: what the timer decides, from the settings, the state and the summary of the stash. In order 32, 31, the rest.
 -- Assumes nothing.
 use Rattle.std.specs.Prelude.{Bool, true, false, cond, ℕ, min, eqb}
+use Rattle.std.specs.Option.{is_some, unwrap_or}
 use Rattle.cookiestash.specs.declared.Seen.{Seen}
 use Rattle.version.specs.Send.{kind_of}
 use Rattle.association.specs.declared.Settings.{Settings}
@@ -21,11 +22,15 @@ abbrev pub send_of : Settings → State → TimerInput → ℕ → ℕ → Bool 
 send_of g s i len asked takes =
     record { answer = Sent (kind_of s.version.kind g.nts) (poll_of i.desired s.polls.remote) len asked; state = sent_of g s i; takes = takes }
 
+-- how long the oldest cookie is; 0 if there is none
+abbrev pub oldest_len : Seen → ℕ
+oldest_len v = unwrap_or v.oldest 0
+
 -- how many new cookies are asked for with the oldest; gap counted after the take; no stash has a gap over 8, and one would count as 8 (No. 4)
 -- promise no4.2: For a larger gap, which no stash has, the number is that for 8.
 -- promise: 10.4
 abbrev pub asked_with : Seen → ℕ
-asked_with v = asked_of (min v.gap 8) v.len
+asked_with v = asked_of (min v.gap 8) (oldest_len v)
 
 -- with NTS: take a cookie, or 23; if no new cookie is asked for it is 24, and the cookie is gone
 -- promise 10.4: The timer takes a cookie, or answers 23. It asks for min(gap, 724 div max(length, 1), 255) cookies, with the gap counted after the take; zero
@@ -36,10 +41,10 @@ asked_with v = asked_of (min v.gap 8) v.len
 -- promise no3.2: A timer that answers 23 or 24 leaves `answered`.
 unfoldable pub decide_nts : Settings → State → Seen → TimerInput → Decision
 decide_nts g s v i =
-    cond v.found
+    cond (is_some v.oldest)
     (cond (eqb (asked_with v) 0)
     (record { answer = CookieTooLarge; state = s; takes = true })
-    (send_of g s i v.len (asked_with v) true))
+    (send_of g s i (oldest_len v) (asked_with v) true))
     (leaves NoCookie s)
 
 -- room is how many bytes of buffer the caller lends

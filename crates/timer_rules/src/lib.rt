@@ -3,9 +3,9 @@
 // Rule: RULES, part 10; definitions in specs/Decide.antt, clause by clause in specs/Poll.antt.
 #![tactic(auto)]
 
-ghost use Rattle.std.specs.Prelude.{◌≡◌, ◌+◌, ◌/◌, min, max};
+ghost use Rattle.std.specs.Prelude.{◌≡◌, ◌/◌, min, max};
 ghost use Rattle.timer_rules.specs.Answer.{number_of};
-ghost use Rattle.timer_rules.specs.Poll.{short_buffer, startup_over, polled, tried_of, asked_of, deadline_of, pending_of};
+ghost use Rattle.timer_rules.specs.Poll.{short_buffer, startup_over, polled, tried_of, asked_of, pending_of};
 ghost use Rattle.timer_rules.specs.Decide.{leaves, send_of, decide_nts, decide_of};
 
 use association::{Effort, Pending, Polls, Settings, State};
@@ -13,6 +13,7 @@ use cookiestash::{SLOT_BYTES, Seen};
 use time_types::PollInterval;
 use version::SendKind;
 
+// Kept: an enum of its own and no Result, since a reset and a demobilization are things to do, and each has its own number beside the poll's.
 #[derive(Clone, Copy)]
 pub enum TimerAnswer {
     // A poll is sent: its kind and poll exponent; with NTS the length of its cookie and how many new ones it asks for.
@@ -40,6 +41,7 @@ pub struct TimerInput {
 }
 
 // What the timer decides: its answer, the next state, and whether the oldest cookie is taken.
+// Kept: `takes` is told beside answer and state, which count whatever it says.
 #[derive(Clone, Copy)]
 pub struct Decision {
     pub answer: TimerAnswer,
@@ -48,69 +50,49 @@ pub struct Decision {
 }
 
 // Whether none of the last eight polls was answered and the startup limit is reached.
+#[tactic(auto, unfolding(crate::specs::Poll::startup_over))]
 fn startup_over(settings: Settings, s: State) -> bool
     ensures { result ≡ startup_over settings s }
 {
-    let effort = s.effort;
-    let reach = effort.reach;
-    if reach.0 == 0 {
-        settings.startup <= effort.tries
-    } else {
-        false
-    }
+    s.effort.reach.0 == 0 && settings.startup <= s.effort.tries
 }
 
 // Whether a buffer is too short for the longest cookie. This matters with NTS only.
 fn short_buffer(settings: Settings, room: usize) -> bool
     ensures { result ≡ short_buffer settings room }
 {
-    if settings.nts {
-        room < SLOT_BYTES
-    } else {
-        false
-    }
-}
-
-// One more, but at most `most`.
-fn one_more(n: u8, most: u8) -> u8
-    ensures { result ≡ min (n + 1) most }
-{
-    if n < most { n + 1 } else { most }
+    settings.nts && room < SLOT_BYTES
 }
 
 // Counts one more poll: the register shifts; tries grow by one, up to 255, and the unanswered polls by one, up to 8.
+#[tactic(auto, unfolding(crate::specs::Poll::polled))]
 fn polled(effort: Effort) -> Effort
     ensures { result ≡ polled effort }
 {
-    let old = effort.reach;
-    let reach = old.poll();
-    let tries = one_more(effort.tries, u8::MAX);
-    let unanswered = one_more(effort.unanswered, 8);
     Effort {
-        reach,
-        tries,
-        unanswered,
+        reach: effort.reach.poll(),
+        tries: effort.tries.saturating_add(1),
+        unanswered: effort.unanswered.saturating_add(1).min(8),
     }
 }
 
 // The state once a poll is tried. If two V5 polls got no answer, V5 does not get through although both ends support it: the version falls back.
+#[tactic(auto, unfolding(crate::specs::Poll::tried_of))]
 fn tried(s: State) -> State
     ensures { result ≡ tried_of s }
 {
-    let effort = s.effort;
-    let old = s.version;
-    let version = old.fallback(effort.unanswered);
-    let more = polled(effort);
-    let mut next = s;
-    next.effort = more;
-    next.version = version;
-    next
+    State {
+        effort: polled(s.effort),
+        version: s.version.fallback(s.effort.unanswered),
+        ..s
+    }
 }
 
 // How many cookies of a length fit into 724 bytes, at most eight. It takes four comparisons, since the small board has no divider.
 // promise no4.3: At most eight comparisons, read off the source, and no division: tested, not proved, by `tests/opcodes`, which reads the library's object
 //     code.
 // promise: no4.1, no4.3 (at most four comparisons of the length)
+// Kept: a tree of comparisons, since no4.3 counts them in the source; a match on ranges would try one range after the other.
 fn fit(len: u16) -> u8
     ensures { result ≡ min (724 / max len 1) 8 }
 {
@@ -146,43 +128,20 @@ fn fit(len: u16) -> u8
 fn asked(gap: u8, len: u16) -> u8
     ensures { result ≡ asked_of (min gap 8) len }
 {
-    let most = fit(len);
-    if gap <= most { gap } else { most }
+    gap.min(fit(len))
 }
 
-// Until when a reply is awaited: the sum, or the last possible moment if the sum overflows.
-fn deadline(time: u64, window: u64) -> u64
-    ensures { result ≡ deadline_of time window }
-{
-    if time <= u64::MAX - window {
-        time + window
-    } else {
-        u64::MAX
-    }
-}
-
-// The request that is pending once it is sent; its uid counts only with NTS.
+// The request that is pending once it is sent, until the deadline or the last possible moment; its uid counts only with NTS.
+#[tactic(auto, unfolding(crate::specs::Poll::pending_of))]
 fn pending(nts: bool, window: u64, input: TimerInput) -> Pending
     ensures { result ≡ pending_of nts window input }
 {
-    let until = deadline(input.time, window);
-    if nts {
-        let uid = input.uid;
-        Pending {
-            present: true,
-            id: input.id,
-            uid,
-            deadline: until,
-            answered: false,
-        }
-    } else {
-        Pending {
-            present: true,
-            id: input.id,
-            uid: [0u8; 32],
-            deadline: until,
-            answered: false,
-        }
+    Pending {
+        present: true,
+        id: input.id,
+        uid: if nts { input.uid } else { [0; 32] },
+        deadline: input.time.saturating_add(window),
+        answered: false,
     }
 }
 
@@ -198,6 +157,7 @@ fn leaves(answer: TimerAnswer, state: State) -> Decision
 }
 
 // Sends the poll. The cookie's length is `len`, 0 without a cookie, and `asked` new ones are asked for; `takes` says whether the oldest cookie is taken.
+#[tactic(auto, unfolding(crate::specs::Poll::sent_of))]
 fn send(
     settings: Settings,
     s: State,
@@ -208,37 +168,36 @@ fn send(
 ) -> Decision
     ensures { result ≡ send_of settings s input len asked takes }
 {
-    let version = s.version;
-    let old = s.polls;
-    let remote = old.remote;
-    let desired = input.desired;
-    let poll = desired.max(remote);
-    let kind = version.send_kind(settings.nts);
-    let request = pending(settings.nts, settings.window, input);
-    let polls = Polls { last: poll, remote };
-    let mut next = s;
-    next.polls = polls;
-    next.request = request;
+    let poll = input.desired.max(s.polls.remote);
     Decision {
         answer: TimerAnswer::Sent {
-            kind,
+            kind: s.version.send_kind(settings.nts),
             poll,
             len,
             asked,
         },
-        state: next,
+        state: State {
+            polls: Polls {
+                last: poll,
+                ..s.polls
+            },
+            request: pending(settings.nts, settings.window, input),
+            ..s
+        },
         takes,
     }
 }
 
+// Kept: settings, state and summary apart, as the definition `decide_nts` has them. The summary is made for a call, and no caller has the three as one.
 // With NTS, for the tried state: takes a cookie, and asks for as many new ones as there is room for after that.
+#[tactic(auto, unfolding(crate::specs::Decide::decide_nts))]
 fn decide_nts(settings: Settings, s: State, seen: Seen, input: TimerInput) -> Decision
     ensures { result ≡ decide_nts settings s seen input }
 {
-    if !seen.found {
+    let Some(len) = seen.oldest else {
         return leaves(TimerAnswer::NoCookie, s);
-    }
-    let count = asked(seen.gap, seen.len);
+    };
+    let count = asked(seen.gap, len);
     // A poll that brings no new cookie would only use up the stash: the keys have to be exchanged again.
     if count == 0 {
         return Decision {
@@ -247,11 +206,13 @@ fn decide_nts(settings: Settings, s: State, seen: Seen, input: TimerInput) -> De
             takes: true,
         };
     }
-    send(settings, s, input, seen.len, count, true)
+    send(settings, s, input, len, count, true)
 }
 
+// Kept: settings, state and summary apart, as the definition `decide_of` has them, and as at `decide_nts`.
 // What the timer decides. In order: 32, 31, 22 and 21, the poll.
 // promise: 10.1, 10.2, 10.3, 10.4, 10.5, 10.6, no3.1, no4.2, no8.3, no8.7
+#[tactic(auto, unfolding(crate::specs::Decide::decide_of))]
 pub fn decide(settings: Settings, s: State, seen: Seen, input: TimerInput, room: usize) -> Decision
     ensures { result ≡ decide_of settings s seen input room }
 {
@@ -263,11 +224,12 @@ pub fn decide(settings: Settings, s: State, seen: Seen, input: TimerInput, room:
     }
     if startup_over(settings, s) {
         // A server that denied us is not asked forever. A silent one may have moved, so it is looked up again.
-        let source = s.source;
-        if source.denial {
-            return leaves(TimerAnswer::Demobilize, s);
-        }
-        return leaves(TimerAnswer::Reset, s);
+        let answer = if s.source.denial {
+            TimerAnswer::Demobilize
+        } else {
+            TimerAnswer::Reset
+        };
+        return leaves(answer, s);
     }
     let next = tried(s);
     if settings.nts {
@@ -282,12 +244,7 @@ impl TimerAnswer {
         ensures { result ≡ number_of self }
     {
         match self {
-            TimerAnswer::Sent {
-                kind: _,
-                poll: _,
-                len: _,
-                asked: _,
-            } => 20,
+            TimerAnswer::Sent { .. } => 20,
             TimerAnswer::Reset => 21,
             TimerAnswer::Demobilize => 22,
             TimerAnswer::NoCookie => 23,

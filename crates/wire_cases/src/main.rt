@@ -5,24 +5,107 @@
 
 mod buffers;
 mod headers;
-mod say;
 mod uids;
 mod walks;
 
-use drill_text::keys::Values;
-use drill_text::text::Found;
-use drill_text::value::{MAX_BYTES, UID_BYTES};
-use drill_text::{keys, text};
-use std::io;
-use std::io::Read;
+use drill_text::fault::Fault;
+use drill_text::keys::{self, Pairs};
+use drill_text::value::{self, COLLECT_ROOM, MAX_BYTES, REQUEST_ROOM, UID_BYTES};
+use std::alloc::Global;
+use std::io::{self, ErrorKind, Read};
+use time_types::PollInterval;
+use wire_groups::Uid;
+use wire_request::Request;
 
 // All lines together must have fewer bytes than this.
 const INPUT_ROOM: usize = 131072;
 
-// How many bytes an error may have.
-const REFUSAL_ROOM: usize = 256;
+// The keys of every command, in the order in which they are read.
+const KEYS: [&str; 15] = [
+    "bytes",
+    "zeros",
+    "uid",
+    "at",
+    "len",
+    "room",
+    "authenticated",
+    "encrypted",
+    "untrusted",
+    "ntsn",
+    "kind",
+    "poll",
+    "id",
+    "mark",
+    "asked",
+];
 
-// The commands, by their places in their table, and what they answer:
+// What a line's keys say; a command ignores those that it does not need.
+// The bytes are a packet, decrypted fields or a cookie. The offset is also an authenticated end, or where a part starts.
+// Kept, 1 and 6: a line has each of these on its own. No length is another value's, and a group is given with `ntsn` or without, since a case tests both.
+#[derive(Drop)]
+struct Case {
+    bytes: Vec<u8>,
+    uid: [u8; UID_BYTES],
+    at: usize,
+    len: usize,
+    room: usize,
+    authenticated: Uid,
+    encrypted: Uid,
+    untrusted: Uid,
+    ntsn: bool,
+    request: Request,
+    asked: u8,
+}
+
+// The bytes of a line and the zeros behind them; none if those are more than bytes may be.
+fn filled(mut bytes: Vec<u8>, zeros: usize) -> Result<Vec<u8>, Fault> {
+    match bytes.len().checked_add(zeros) {
+        Some(count) if count <= MAX_BYTES => bytes.resize(count, 0)?,
+        _ => bytes.clear(),
+    }
+    Ok(bytes)
+}
+
+impl Case {
+    // Kept: beside those of the drill's commands: each reads the keys of its own lines, which have other names and other defaults.
+    fn read(alloc: Global, line: &[u8]) -> Result<Case, Fault> {
+        let pairs = Pairs::read(alloc, line, &KEYS)?;
+        let given = pairs.value("bytes").or(b"-").bytes(alloc, MAX_BYTES)?;
+        let zeros = pairs
+            .value("zeros")
+            .or(b"0")
+            .parse(|text| value::up_to(text, COLLECT_ROOM))?;
+        Ok(Case {
+            bytes: filled(given, zeros)?,
+            uid: pairs.value("uid").or(b"-").parse(value::uid)?,
+            at: pairs.value("at").or(b"0").parse(value::number)?,
+            len: pairs.value("len").or(b"0").parse(value::number)?,
+            room: pairs
+                .value("room")
+                .or(b"0")
+                .parse(|text| value::up_to(text, REQUEST_ROOM))?,
+            authenticated: pairs
+                .value("authenticated")
+                .or(b"absent")
+                .parse(value::group)?,
+            encrypted: pairs.value("encrypted").or(b"absent").parse(value::group)?,
+            untrusted: pairs.value("untrusted").or(b"absent").parse(value::group)?,
+            ntsn: pairs.value("ntsn").or(b"no").parse(value::yes_or_no)?,
+            request: Request {
+                kind: pairs.value("kind").or(b"v4").parse(value::send_kind)?,
+                poll: PollInterval(pairs.value("poll").or(b"0").parse(value::number)?),
+                id: pairs.value("id").or(b"0000000000000000").parse(value::id)?,
+                upgrademark: pairs
+                    .value("mark")
+                    .or(b"0000000000000000")
+                    .parse(value::id)?,
+            },
+            asked: pairs.value("asked").or(b"0").parse(value::number)?,
+        })
+    }
+}
+
+// The commands, and what they answer:
 //   header     the number; every field, the kisses, and the header written again
 //   walk       of a packet: what is at an offset, how the walk ends, whether the offset is a place
 //   decrypted  of decrypted fields: what is at an offset, how the walk ends
@@ -32,180 +115,61 @@ const REFUSAL_ROOM: usize = 256;
 //   match      whether the groups match
 //   collect    the buffer before, the number, the list's length, the buffer after
 //   request    the number, the packet's length, the buffer after
-mod command {
-    pub const HEADER: usize = 0;
-
-    pub const WALK: usize = 1;
-
-    pub const DECRYPTED: usize = 2;
-
-    pub const WALKER: usize = 3;
-
-    pub const UID: usize = 4;
-
-    pub const ENCRYPTED: usize = 5;
-
-    pub const MATCH: usize = 6;
-
-    pub const COLLECT: usize = 7;
-
-    pub const REQUEST: usize = 8;
-
-    pub const UNKNOWN: usize = 9;
-}
-
-// The keys, by their places in the one table for all commands: a command ignores those that it does not need.
-mod key {
-    pub const BYTES: usize = 0;
-
-    pub const ZEROS: usize = 1;
-
-    pub const UID: usize = 2;
-
-    pub const AT: usize = 3;
-
-    pub const LEN: usize = 4;
-
-    pub const ROOM: usize = 5;
-
-    pub const AUTHENTICATED: usize = 6;
-
-    pub const ENCRYPTED: usize = 7;
-
-    pub const UNTRUSTED: usize = 8;
-
-    pub const NTSN: usize = 9;
-
-    pub const KIND: usize = 10;
-
-    pub const POLL: usize = 11;
-
-    pub const ID: usize = 12;
-
-    pub const MARK: usize = 13;
-
-    pub const ASKED: usize = 14;
-}
-
-// The command that a line's word names.
-fn command_of(line: &[u8]) -> usize {
-    match text::index_of(
-        b"header walk decrypted walker uid encrypted match collect request",
-        text::part(line, 0, text::find(line, 0, b' ', b' ')),
-    ) {
-        Found::At(i) => i,
-        Found::Nowhere => command::UNKNOWN,
+fn answer(alloc: Global, line: &[u8]) -> Result<String, Fault> {
+    let case = Case::read(alloc, line)?;
+    match keys::command(line) {
+        b"header" => headers::answer(alloc, &case.bytes),
+        b"walk" => walks::packet(alloc, &case.bytes, case.at),
+        b"decrypted" => walks::decrypted(alloc, &case.bytes, case.at),
+        b"walker" => walks::walker(alloc, &case.bytes, case.at, case.len),
+        b"uid" => uids::packet(alloc, &case.bytes, case.uid, case.at),
+        b"encrypted" => uids::encrypted(alloc, &case.bytes, case.uid),
+        b"match" => uids::matching(alloc, &case),
+        b"collect" => buffers::collect(alloc, &case.bytes, case.room),
+        b"request" => buffers::request(alloc, &case),
+        _ => Err(Fault::UnknownCommand),
     }
-}
-
-// The bytes are a packet, decrypted fields or a cookie. The offset is also an authenticated end, or where a part starts.
-fn ask(
-    to: &impl Print,
-    line: &[u8],
-    number: u64,
-    v: Values,
-    bytes: &[u8],
-    uid: [u8; UID_BYTES],
-) -> io::Result<()> {
-    let at = v.number(key::AT) as usize;
-    match command_of(line) {
-        command::HEADER => headers::answer(to, bytes),
-        command::WALK => walks::packet(to, bytes, at),
-        command::DECRYPTED => walks::decrypted(to, bytes, at),
-        command::WALKER => walks::walker(to, bytes, at, v.number(key::LEN) as usize),
-        command::UID => uids::packet(to, bytes, uid, at),
-        command::ENCRYPTED => uids::show(to, b"encrypted ", wire_groups::decrypted_uid(bytes, uid)),
-        command::MATCH => uids::matching(to, v),
-        command::COLLECT => buffers::collect(to, bytes, v.number(key::ROOM)),
-        command::REQUEST => buffers::request(to, v, uid, bytes),
-        _ => {
-            say::number(to, b"error ", number)?;
-            say::text(to, b" unknown command")
-        }
-    }
-}
-
-// The values of a line's keys. If they cannot be read the error is the answer.
-fn read(to: &impl Print, line: &[u8], number: u64) -> io::Result<Values> {
-    let mut out = [0u8; REFUSAL_ROOM];
-    let v = keys::read(
-        line,
-        number,
-        b"bytes:h=- zeros:w=0 uid:i=- at:n=0 len:n=0 room:q=0 authenticated:g=absent encrypted:g=absent untrusted:g=absent \
-          ntsn:y=no kind:e=v4 poll:b=0 id:x=0000000000000000 mark:x=0000000000000000 asked:u=0",
-        &mut out,
-    );
-    say::text(to, text::part(&out, 0, v.end))?;
-    Ok(v)
-}
-
-fn answer(to: &impl Print, line: &[u8], number: u64) -> io::Result<()> {
-    let v = read(to, line, number)?;
-    if v.refused {
-        return Ok(());
-    }
-    let mut bytes = [0u8; MAX_BYTES];
-    let given = v.bytes(key::BYTES, line, &mut bytes);
-    let count = std::num::wrapping_add_usize(given, v.number(key::ZEROS) as usize);
-    ask(
-        to,
-        line,
-        number,
-        v,
-        text::part(&bytes, 0, count),
-        uids::identifier(v, line),
-    )
 }
 
 // A comment is repeated, so that each answer is in the line of its case.
-fn answer_line(to: &impl Print, line: &[u8], number: u64) -> io::Result<()> {
-    if text::byte_at(line, 0) == b'#' {
-        say::text(to, line)?;
-    } else {
-        answer(to, line, number)?;
+fn answer_line(rt: &(impl Print + AllocGlobal), line: &[u8], number: usize) -> io::Result<()> {
+    let alloc = rt.alloc();
+    if line.starts_with(b"#") {
+        rt.write_all(line)?;
+        return rt.write_all(b"\n");
     }
-    say::text(to, b"\n")
+    let mut out = match answer(alloc, line) {
+        Ok(answer) => answer,
+        Err(Fault::OutOfMemory) => return Err(io::Error::from(ErrorKind::OutOfMemory)),
+        Err(fault) => format!(in alloc; "error {number} {fault}")?,
+    };
+    out.push('\n')?;
+    rt.write_all(out.as_bytes())
 }
 
-fn answer_lines(to: &impl Print, input: &[u8]) -> io::Result<()> {
-    let mut at = 0;
-    let mut number: u64 = 1;
-    while at < input.len() {
-        let end = text::find(input, at, b'\n', b'\n');
-        answer_line(to, text::part(input, at, end), number)?;
-        if input.len() <= end {
-            return Ok(());
-        }
-        at = end + 1;
-        number = std::num::wrapping_add_u64(number, 1);
+fn answer_lines(rt: &(impl Print + AllocGlobal), input: &[u8]) -> io::Result<()> {
+    if input.is_empty() {
+        return Ok(());
+    }
+    let lines = input.strip_suffix(b"\n").unwrap_or(input);
+    let mut number = 1usize;
+    for line in lines.split(|b| *b == b'\n') {
+        answer_line(rt, line, number)?;
+        number = number.wrapping_add(1);
     }
     Ok(())
 }
 
-// Reads until the buffer is full, the input ends or a read fails, and returns how many bytes are there.
-fn read_full(from: &mut impl Read, out: &mut [u8]) -> usize {
-    let mut done = 0;
-    while done < out.len() {
-        let Ok(n) = from.read(&mut out[done..]) else {
-            return done;
-        };
-        if n == 0 {
-            return done;
-        }
-        done += n;
-    }
-    done
-}
-
-fn answer_input(from: &mut impl Read, to: &impl Print, input: &mut [u8]) -> io::Result<()> {
-    let count = read_full(from, input);
-    if input.len() <= count {
-        return say::text(to, b"error 0 the input does not fit\n");
-    }
-    answer_lines(to, text::part(input, 0, count))
-}
-
 fn main(rt: HostRuntime) -> io::Result<()> {
-    let mut input = [0u8; INPUT_ROOM];
-    answer_input(&mut rt.stdin(), &rt, &mut input)
+    let mut input = Vec::new(rt.alloc());
+    // A read that fails ends the input there.
+    if let Err(error) = rt.stdin().take(INPUT_ROOM as u64).read_to_end(&mut input) {
+        if error.kind() == ErrorKind::OutOfMemory {
+            return Err(error);
+        }
+    }
+    if input.len() == INPUT_ROOM {
+        return rt.write_all(b"error 0 the input does not fit\n");
+    }
+    answer_lines(&rt, &input)
 }

@@ -18,8 +18,9 @@ use Rattle.wire_fields.specs.Walk.{walk_of, decrypted_walk, whole as unbroken, f
 use Rattle.wire_fields.specs.Field.{length_at}
 use Rattle.wire_fields.proofs.Walks.{Placed, walk_induction}
 use Rattle.wire_collector.specs.Collector.{cookie_kind, cookies_of, list_in, collect_of, left_in, buffer_of, number_of}
-use Rattle.wire_collector.specs.declared.Collected.{Collected}
-use Rattle.wire_collector.specs.declared.Collected.TheVariants.{Done, Broken, TooLong}
+use Rattle.std.specs.Prelude.{Result, Ok, Err}
+use Rattle.wire_collector.specs.declared.CollectRefusal.{CollectRefusal}
+use Rattle.wire_collector.specs.declared.CollectRefusal.TheVariants.{Broken, TooLong}
 
 -- a body's length fits its record's two bytes
 body_short : (p : List ℕ) → Bytes p → (at least start len next : ℕ) → Placed p at least start len next → len < 65536
@@ -50,14 +51,14 @@ list_whole p bytes = list_read (cookies_of p) (all_short 0)
 
 -- ---- what is left in the buffer
 
-done_length : (t u : Bool) (n m : ℕ) → cond t (cond u (Done n) TooLong) Broken ≡ Done m → n ≡ m
+done_length : (t u : Bool) (n m : ℕ) → cond t (cond u (Ok n) (Err TooLong)) (Err Broken) ≡ Ok m → n ≡ m
 done_length true true n m e = cc
 done_length true false n m e = let z : ◌≡◌ {A = ℕ} 0 1 = cc in absurd (omega arith)
 done_length false u n m e = let z : ◌≡◌ {A = ℕ} 0 1 = cc in absurd (omega arith)
 
 -- where the answer is a length, so many bytes of the buffer are the list, and those past them are untouched
 -- promise: 7.9
-pub done_buffer : (p out : List ℕ) (n : ℕ) → collect_of p (length out) ≡ Done n → (take n (buffer_of p out) ≡ list_in p) × (drop n (buffer_of p out) ≡ drop n out)
+pub done_buffer : (p out : List ℕ) (n : ℕ) → collect_of p (length out) ≡ Ok n → (take n (buffer_of p out) ≡ list_in p) × (drop n (buffer_of p out) ≡ drop n out)
 unfolding buffer_of collect_of
 done_buffer p out n e =
     let m : length (list_in p) ≡ n = done_length (unbroken (decrypted_walk p)) (leb (length (list_in p)) (length out)) (length (list_in p)) n e in
@@ -70,7 +71,6 @@ pub refused_buffer : (p out : List ℕ) → (number_of (collect_of p (length out
 unfolding buffer_of
 refused_buffer p out h = go (collect_of p (length out)) h
   where
-    go : (c : Collected) → (number_of c ≡ 0 → ⊥) → left_in (list_in p) out c ≡ out
-    go (Done n) h = absurd (h refl)
-    go Broken h = refl
-    go TooLong h = refl
+    go : (c : Result ℕ CollectRefusal) → (number_of c ≡ 0 → ⊥) → left_in (list_in p) out c ≡ out
+    go (Ok n) h = absurd (h refl)
+    go (Err refusal) h = refl

@@ -3,87 +3,68 @@
 // Rule: RULES, part 7; definitions in specs/Collector.antt.
 #![tactic(auto)]
 
-ghost use Rattle.std.specs.Prelude.{◌≡◌, length};
+ghost use Rattle.std.specs.Prelude.{◌≡◌, length, Err};
+ghost use Rattle.std.proofs.Common.{rules};
 ghost use Rattle.wire_collector.specs.Collector.{list_in, collect_of, buffer_of, number_of};
 
+use answers::Refusal;
 use cookielist::{HEAD_BYTES, RECORD_MARK};
-use wire_fields::{Step, Walked};
+use wire_fields::Fields;
 
 // The type of a field that carries a cookie.
 pub const COOKIE_KIND: u16 = 0x0204;
 
-// The length of the list that was written, or why nothing was written.
-#[derive(Clone, Copy)]
-pub enum Collected {
-    Done(usize),
+// Why nothing was written.
+#[derive(Clone, Copy, PartialEq, Eq)]
+pub enum CollectRefusal {
     Broken,
     TooLong,
 }
 
-impl Collected {
+impl Refusal for CollectRefusal {
+    ghost number_of = { λ refusal. number_of (Err refusal) };
+
     // promise: 7.9
-    pub fn number(self) -> u8
-        ensures { result ≡ number_of self }
-    {
+    fn number(self) -> u8 {
         match self {
-            Collected::Done(_) => 0,
-            Collected::Broken => 1,
-            Collected::TooLong => 31,
+            CollectRefusal::Broken => 1,
+            CollectRefusal::TooLong => 31,
         }
     }
+
+    ghost never_zero = { Prim.search rules };
 }
 
 // How long the list is.
 fn list_length(decrypted: &[u8]) -> usize
     ensures { result ≡ length (list_in decrypted.now) }
 {
-    let mut at = 0;
-    let mut n = 0;
-    loop {
-        let Step::Field {
-            kind,
-            start: _,
-            len,
-            next,
-        } = wire_fields::decrypted_field_at(decrypted, at)
-        else {
-            return n;
-        };
-        if kind == COOKIE_KIND {
-            n = n + HEAD_BYTES + len;
+    let mut long = 0;
+    for field in Fields::decrypted(decrypted) {
+        if field.kind == COOKIE_KIND {
+            long += HEAD_BYTES + field.body.len();
         }
-        at = next;
     }
+    long
 }
 
-// Writes the list of the cookies to the start of the buffer. Rejects broken fields first, then a list longer than the buffer.
+// Writes the list of the cookies to the start of the buffer, and returns its length. Rejects broken fields first, then a list longer than the buffer.
 // promise: 7.9
-pub fn collect(decrypted: &[u8], out: &mut [u8]) -> Collected
+pub fn collect(decrypted: &[u8], out: &mut [u8]) -> Result<usize, CollectRefusal>
     ensures { (result ≡ collect_of decrypted.now (length out.old)) ×
         (out.new ≡ buffer_of decrypted.now out.old) }
 {
-    let Walked::Ends(_) = wire_fields::decrypted_walk(decrypted) else {
-        return Collected::Broken;
-    };
+    if wire_fields::decrypted_walk(decrypted).is_none() {
+        return Err(CollectRefusal::Broken);
+    }
     if out.len() < list_length(decrypted) {
-        return Collected::TooLong;
+        return Err(CollectRefusal::TooLong);
     }
-    let mut at = 0;
     let mut to = 0;
-    loop {
-        let Step::Field {
-            kind,
-            start,
-            len,
-            next,
-        } = wire_fields::decrypted_field_at(decrypted, at)
-        else {
-            return Collected::Done(to);
-        };
-        if kind == COOKIE_KIND {
-            let end = start + len;
-            to = words::lay_record(out, to, RECORD_MARK, &decrypted[start..end]);
+    for field in Fields::decrypted(decrypted) {
+        if field.kind == COOKIE_KIND {
+            to = words::lay_record(out, to, RECORD_MARK, field.body);
         }
-        at = next;
     }
+    Ok(to)
 }

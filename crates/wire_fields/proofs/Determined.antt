@@ -7,6 +7,11 @@ use Rattle.wire_fields.proofs.decrypted_field_at.Reads as decrypted-field-at
 use Rattle.wire_fields.proofs.packet_walk.Reads as packet-walk
 use Rattle.wire_fields.proofs.decrypted_walk.Reads as decrypted-walk
 use Rattle.wire_fields.proofs.is_place.Reads as is-place
+use Rattle.wire_fields.proofs.Fields.packet.Reads as fields-packet
+use Rattle.wire_fields.proofs.Fields.decrypted.Reads as fields-decrypted
+use Rattle.wire_fields.specs.Walk.{Walk}
+use Rattle.wire_fields.specs.Fields.{Told, fields_left, walk_left}
+use Rattle.wire_fields.specs.declared.Fields.{Fields}
 use mathlib.Core.List.{List}
 use Prim.Native.Nat.{ℕ}
 use contract.Lifetimes.{Lfts}
@@ -36,11 +41,21 @@ decrypted_walk_determined κs a y z e f p q = p ∙ sym q
 pub is_place_determined : Determined is-place.Post
 is_place_determined κs a y z e f p q = p ∙ sym q
 
--- what is told of a slice: where it lies, a block and an offset, and its bytes
-abbrev Told : Type 0
-Told = (ℕ × ℕ) × List ℕ
+-- what an iterator is to its reader: the fields to come, and how their walk goes on
+abbrev read : Fields → List Told × Walk
+read it = (fields_left it, walk_left it)
 
-abbrev told : Bor (List ℕ) → Told
+pub fields_packet_determined : DeterminedContents fields-packet.Post (λ κs it. read it)
+fields_packet_determined κs a y z e f p q = λ i. ((p.0 ∙ sym q.0) i, (p.1 ∙ sym q.1) i)
+
+pub fields_decrypted_determined : DeterminedContents fields-decrypted.Post (λ κs it. read it)
+fields_decrypted_determined κs a y z e f p q = λ i. ((p.0 ∙ sym q.0) i, (p.1 ∙ sym q.1) i)
+
+-- what is told of a slice: where it lies, a block and an offset, and its bytes
+abbrev Placed : Type 0
+Placed = (ℕ × ℕ) × List ℕ
+
+abbrev told : Bor (List ℕ) → Placed
 told y = (y.ref_ptr, y.now)
 
 same_told : (x : Bor (List ℕ)) (start len : ℕ) (y z : Bor (List ℕ)) → IsBody x start len y → IsBody x start len z → told y ≡ told z

@@ -12,46 +12,27 @@ use lib.Dec.{leb, eqb, lit≤}
 use lib.ListN.{length}
 use borrow.Author.Tests.{eq-eqb, eqb-true, lt-ltb, le-ltb, le-leb, leb-true, leb-false}
 use Rattle.words.proofs.Tests.{both}
-use Rattle.wire_fields.specs.Walk.{
-  Found,
-  Walk,
-  field,
-  ends,
-  broken,
-  on_step,
-  walk_of,
-  packet_walk,
-  decrypted_walk,
-  walked_of,
-  whole,
-  place_in,
-  is_place,
-  fields_of,
-  between,
-}
+use Rattle.wire_fields.specs.Walk.{Found, Walk, field, ends, broken, fields_of, between}
+use Rattle.wire_fields.specs.Walk.{walk_of, packet_walk, decrypted_walk, walked_of, whole, place_in, is_place}
 use Rattle.wire_fields.specs.Sound.{One, InLine, Sound, Place}
-use Rattle.wire_fields.specs.declared.Step.{Step}
-use Rattle.wire_fields.specs.declared.Step.TheVariants.{Field, End, Broken}
-use Rattle.wire_fields.specs.declared.Walked.TheVariants as W
-use Rattle.wire_fields.proofs.Walks.{tail_left, NoField, walk_induction}
+use Rattle.std.specs.Prelude.{Some, None}
+use Rattle.std.proofs.lemmas.Option.{none-some}
+use Rattle.wire_fields.proofs.Walks.{tail_left, walk_induction}
 
 -- ---- a walk that ends
 
-ends_same : (a b : ℕ) → W.Ends a ≡ W.Ends b → a ≡ b
+pub ends_same : (a b : ℕ) → Some a ≡ Some b → a ≡ b
 ends_same a b e = cc
 
-broken_ends : (a : ℕ) → W.Broken ≡ W.Ends a → ⊥
-broken_ends a e = let z : ◌≡◌ {A = ℕ} 0 1 = cc in omega arith
-
 module _ (p : List ℕ) (least tail : ℕ) (h : 4 ≤ least) where
-  pub walk_sound : (at end : ℕ) → walked_of (walk_of p at least tail) ≡ W.Ends end → Sound p at least tail end (fields_of (walk_of p at least tail))
+  pub walk_sound : (at end : ℕ) → walked_of (walk_of p at least tail) ≡ Some end → Sound p at least tail end (fields_of (walk_of p at least tail))
   walk_sound =
-      walk_induction p least tail h (λ at w. (end : ℕ) → walked_of w ≡ W.Ends end → Sound p at least tail end (fields_of w))
+      walk_induction p least tail h (λ at w. (end : ℕ) → walked_of w ≡ Some end → Sound p at least tail end (fields_of w))
       (λ at e end q.
       let s : at ≡ end = ends_same at end q in
       let t = tail_left p at least tail e in
       record { line = s; legal = tt; total = omega arith; within = omega arith; left = omega arith })
-      (λ at end q. absurd (broken_ends end q))
+      (λ at end q. absurd (none-some end q))
       (λ at kind start len next w behind end q.
       let s = behind end q in
       record {
@@ -80,12 +61,12 @@ module _ (p : List ℕ) (least tail : ℕ) (h : 4 ≤ least) where
       (λ at kind start len next w behind q. rw (eq-eqb at at refl))
 
 -- promise: 7.5 (the fields follow one another from 48 to the end, each within the packet, and their lengths add up)
-pub packet_sound : (p : List ℕ) (end : ℕ) → walked_of (packet_walk p) ≡ W.Ends end → Sound p 48 16 24 end (fields_of (packet_walk p))
+pub packet_sound : (p : List ℕ) (end : ℕ) → walked_of (packet_walk p) ≡ Some end → Sound p 48 16 24 end (fields_of (packet_walk p))
 packet_sound p end e = walk_sound p 16 24 (lit≤ tt) 48 end e
 
 -- decrypted fields fill their bytes
 -- promise: 7.3
-pub decrypted_sound : (p : List ℕ) (end : ℕ) → walked_of (decrypted_walk p) ≡ W.Ends end → Sound p 0 4 0 (length p) (fields_of (decrypted_walk p))
+pub decrypted_sound : (p : List ℕ) (end : ℕ) → walked_of (decrypted_walk p) ≡ Some end → Sound p 0 4 0 (length p) (fields_of (decrypted_walk p))
 decrypted_sound p end e =
     let s = walk_sound p 4 0 (lit≤ tt) 0 end e in
     let q : end ≡ length p = omega (arith, s.within, s.left) in
@@ -112,7 +93,8 @@ module _ (p : List ℕ) (first m : ℕ) where
 
 -- each field of a packet belongs to the group before m or to that from m on, in order: none is lost, and none is in both
 -- promise: 7.8 (none is lost, none counted twice)
-pub groups_split : (p : List ℕ) (m : ℕ) → between 48 m (fields_of (packet_walk p)) ++ between m (length p) (fields_of (packet_walk p)) ≡ fields_of (packet_walk p)
+pub groups_split : (p : List ℕ) (m : ℕ)
+    → between 48 m (fields_of (packet_walk p)) ++ between m (length p) (fields_of (packet_walk p)) ≡ fields_of (packet_walk p)
 groups_split p m =
     (walk_induction p 16 24 (lit≤ tt) (λ at w. 48 ≤ at → Split p 48 m at (fields_of w))
     (λ at e h. record { all = refl; none = λ _. refl })
@@ -125,17 +107,17 @@ groups_split p m =
 
 -- ---- places
 
-pub whole_of_lem : (w : Walk) (end : ℕ) → walked_of w ≡ W.Ends end → whole w ≡ true
+pub whole_of_lem : (w : Walk) (end : ℕ) → walked_of w ≡ Some end → whole w ≡ true
 whole_of_lem (field f w) end e = whole_of_lem w end e
 whole_of_lem (ends at) end e = refl
-whole_of_lem broken end e = absurd (broken_ends end e)
+whole_of_lem broken end e = absurd (none-some end e)
 
-pub not_whole : (w : Walk) → walked_of w ≡ W.Broken → whole w ≡ false
+pub not_whole : (w : Walk) → walked_of w ≡ None → whole w ≡ false
 not_whole (field f w) e = not_whole w e
 not_whole (ends at) e = let z : ◌≡◌ {A = ℕ} 0 1 = cc in absurd (omega arith)
 not_whole broken e = refl
 
-end_of : (w : Walk) → whole w ≡ true → (end : ℕ) × (walked_of w ≡ W.Ends end)
+end_of : (w : Walk) → whole w ≡ true → (end : ℕ) × (walked_of w ≡ Some end)
 end_of (field f w) e = end_of w e
 end_of (ends at) e = (at, refl)
 end_of broken e = let z : ◌≡◌ {A = ℕ} 0 1 = cc in absurd (omega arith)
@@ -145,12 +127,12 @@ either true b e = inl refl
 either false b e = inr e
 
 abbrev Listed : ℕ → Walk → Type 0
-Listed n w = One (λ f. f.at ≡ n) (fields_of w) ⊎ (walked_of w ≡ W.Ends n)
+Listed n w = One (λ f. f.at ≡ n) (fields_of w) ⊎ (walked_of w ≡ Some n)
 
 listed : (n : ℕ) (w : Walk) → place_in n w ≡ true → Listed n w
 listed n (field f w) e =
     ⊎_elim (λ a. inl (inl (eqb-true f.at n a))) (λ b. ⊎_elim (λ o. inl (inr o)) (λ q. inr q) (listed n w b)) (either (eqb f.at n) (place_in n w) e)
-listed n (ends at) e = inr (ap W.Ends (eqb-true at n e))
+listed n (ends at) e = inr (ap Some (eqb-true at n e))
 listed n broken e = let z : ◌≡◌ {A = ℕ} 0 1 = cc in absurd (omega arith)
 
 one_listed : (n : ℕ) (w : Walk) → One (λ f. f.at ≡ n) (fields_of w) → place_in n w ≡ true
@@ -159,16 +141,10 @@ one_listed n (field f w) (inr o) = rw (one_listed n w o) (or-true (eqb f.at n))
 one_listed n (ends at) o = absurd o
 one_listed n broken o = absurd o
 
-end_listed : (n : ℕ) (w : Walk) → walked_of w ≡ W.Ends n → place_in n w ≡ true
+end_listed : (n : ℕ) (w : Walk) → walked_of w ≡ Some n → place_in n w ≡ true
 end_listed n (field f w) e = rw (end_listed n w e) (or-true (eqb f.at n))
 end_listed n (ends at) e = eq-eqb at n (ends_same at n e)
-end_listed n broken e = absurd (broken_ends n e)
-
--- where a walk stops there is no other place
-pub no_place : (f : ℕ → Walk) (n at : ℕ) (s : Step) → NoField s → eqb at n ≡ false → place_in n (on_step f at s) ≡ false
-no_place f n at (Field kind start len next) h e = absurd (h kind start len next refl)
-no_place f n at End h e = e
-no_place f n at Broken h e = refl
+end_listed n broken e = absurd (none-some n e)
 
 -- promise: 7.6
 pub place_iff : (p : List ℕ) (n : ℕ) → (is_place p n ≡ true) ↔ Place p n

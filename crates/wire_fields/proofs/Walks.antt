@@ -105,7 +105,8 @@ enough (suc n) (suc m) p at least tail h hn hm =
     after_step _ _ p at least tail h (λ next a b. enough n m p next least tail h (omega arith) (omega arith)) (step_at p at least tail) refl
 
 -- THE LAW of a walk: what stands at the offset, and the walk from where its field ends
-pub walk_turn : (p : List ℕ) (at least tail : ℕ) → 4 ≤ least → walk_of p at least tail ≡ on_step (λ next. walk_of p next least tail) at (step_at p at least tail)
+pub walk_turn : (p : List ℕ) (at least tail : ℕ) → 4 ≤ least
+    → walk_of p at least tail ≡ on_step (λ next. walk_of p next least tail) at (step_at p at least tail)
 unfolding walk_of
 walk_turn p at least tail h =
     enough (length p - at) (suc (length p - at)) p at least tail h (omega arith) (omega arith)
@@ -116,12 +117,7 @@ walk_turn p at least tail h =
 abbrev pub NoField : Step → Type 0
 NoField s = (kind start len next : ℕ) → s ≡ Field kind start len next → ⊥
 
--- after it nothing follows
-pub stops : (f g : ℕ → Walk) (at : ℕ) (s : Step) → NoField s → on_step f at s ≡ on_step g at s
-stops f g at (Field kind start len next) h = absurd (h kind start len next refl)
-stops f g at End h = refl
-stops f g at Broken h = refl
-
+-- after it no field follows
 pub no_fields : (f : ℕ → Walk) (at : ℕ) (s : Step) → NoField s → fields_of (on_step f at s) ≡ []
 no_fields f at (Field kind start len next) h = absurd (h kind start len next refl)
 no_fields f at End h = refl

@@ -1,7 +1,6 @@
 -- What is at an offset of a run of extension fields (RULES, part 7; RFC 7822, section 3).
 -- Assumes nothing.
-use Rattle.std.specs.Prelude.{ℕ, ◌+◌, ◌-◌, ◌%◌, List, Bool, ◌&&◌, cond, length, ltb, leb, eqb}
-use Rattle.std.proofs.Math.Option.{Option, none, some}
+use Rattle.std.specs.Prelude.{ℕ, ◌+◌, ◌-◌, ◌%◌, List, Bool, ◌&&◌, cond, length, ltb, leb, eqb, Option, Some, None}
 use Rattle.words.specs.Bytes.{be, part}
 use Rattle.wire_fields.specs.declared.Step.{Step}
 use Rattle.wire_fields.specs.declared.Step.TheVariants.{Field, End, Broken}
@@ -15,7 +14,7 @@ length_at p at = be (part p (at + 2) 2)
 
 -- a field is whole: its head is there, and its length, head included, is a multiple of 4, at least the least length, and within the rest
 -- promise 7.1: A field is a type, a length and a body. The length counts the field's header, is a multiple of 4, is at least 16 and lies within the rest.
---     edit: wire_fields/field_of_12
+--     edit: wire_fields/field_of_12, wire_fields/a_body_starts_with_its_head
 unfoldable pub field_is : List ℕ → ℕ → ℕ → Bool
 field_is p at least =
     leb 4 (length p - at)
@@ -39,12 +38,13 @@ packet_step p at = step_at p at 16 24
 
 -- decrypted fields: at least 4, and no tail
 -- promise 7.3: A decrypted field has at least 4 bytes, and there is no tail.
+--     edit: wire_fields/decrypted_fields_are_walked_as_a_packet
 abbrev pub decrypted_step : List ℕ → ℕ → Step
 decrypted_step p at = step_at p at 4 0
 
 -- the number in RULES: something broken makes the packet undecodable, 1; a field and the end are not rejected
 -- promise: 7.5
 abbrev pub refusal_of : Step → Option ℕ
-refusal_of (Field kind start len next) = none
-refusal_of End = none
-refusal_of Broken = some 1
+refusal_of (Field kind start len next) = None
+refusal_of End = None
+refusal_of Broken = Some 1

@@ -1,11 +1,9 @@
 -- Statements on the walk that the theorems of proofs/Sound.antt prove (RULES, part 7).
 -- Assumes nothing.
-use Rattle.std.specs.Prelude.{ℕ, ◌+◌, ◌-◌, ◌%◌, ◌≤◌, ◌≡◌, List, [], ◌∷◌, ◌⊎◌, length}
-use Rattle.std.proofs.Math.Option.{some}
+use Rattle.std.specs.Prelude.{ℕ, ◌+◌, ◌-◌, ◌%◌, ◌≤◌, ◌≡◌, List, [], ◌∷◌, ◌⊎◌, length, Some}
 use Rattle.wire_fields.specs.Field.{step_at, refusal_of}
 use Rattle.wire_fields.specs.Walk.{Found, fields_of, packet_walk, walked_of}
 use Rattle.wire_fields.specs.declared.Step.TheVariants.{Field}
-use Rattle.wire_fields.specs.declared.Walked.TheVariants.{Ends}
 
 -- every element of a list, and one of them
 abbrev pub Each : {A : Type 0} → (A → Type 0) → List A → Type 0
@@ -50,10 +48,10 @@ pub data Reached (p : List ℕ) (least tail : ℕ) : ℕ → ℕ → Type 0 wher
 pub record WalkRefused (p : List ℕ) (least tail at n : ℕ) : Type 0 where
   pub place : ℕ
   pub reached : Reached p least tail at place
-  pub number : refusal_of (step_at p place least tail) ≡ some n
+  pub number : refusal_of (step_at p place least tail) ≡ Some n
 
 -- a place of a packet's walk, which ends: the first, 48; one where a field starts; or the end
 pub record Place (p : List ℕ) (n : ℕ) : Type 0 where
   pub end : ℕ
-  pub walked : walked_of (packet_walk p) ≡ Ends end
+  pub walked : walked_of (packet_walk p) ≡ Some end
   pub place : (n ≡ 48) ⊎ (One (λ f. f.at ≡ n) (fields_of (packet_walk p)) ⊎ (n ≡ end))

@@ -1,13 +1,10 @@
 -- The walk over extension fields, its places, and its fields (RULES, part 7).
 -- Assumes nothing.
-use Rattle.std.specs.Prelude.{ℕ, zero, suc, ◌-◌, List, [], ◌∷◌, Bool, true, false, ◌&&◌, ◌||◌, cond, length, ltb, leb, eqb}
-use Rattle.std.proofs.Math.Option.{Option, none, some}
+use Rattle.std.specs.Prelude.{ℕ, zero, suc, ◌-◌, List, [], ◌∷◌, Bool, true, false, ◌&&◌, ◌||◌, cond, length, ltb, leb, eqb, Option, Some, None}
 use Rattle.words.specs.Bytes.{part}
 use Rattle.wire_fields.specs.Field.{step_at}
 use Rattle.wire_fields.specs.declared.Step.{Step}
 use Rattle.wire_fields.specs.declared.Step.TheVariants as S
-use Rattle.wire_fields.specs.declared.Walked.{Walked}
-use Rattle.wire_fields.specs.declared.Walked.TheVariants as W
 
 -- a field of a walk: where it starts, its type, where its body starts and how long that is
 pub record Found : Type 0 where
@@ -46,18 +43,18 @@ packet_walk p = walk_of p 48 16 24
 abbrev pub decrypted_walk : List ℕ → Walk
 decrypted_walk p = walk_of p 0 4 0
 
--- where a walk ends, or that it is broken
+-- where a walk ends, or none if it is broken
 -- promise: 7.5
-abbrev pub walked_of : Walk → Walked
+abbrev pub walked_of : Walk → Option ℕ
 walked_of (field f w) = walked_of w
-walked_of (ends at) = W.Ends at
-walked_of broken = W.Broken
+walked_of (ends at) = Some at
+walked_of broken = None
 
 -- the number in RULES: 1 for a broken walk; one that ends is not rejected
 -- promise: 7.5
-abbrev pub refusal_of : Walked → Option ℕ
-refusal_of (W.Ends at) = none
-refusal_of W.Broken = some 1
+abbrev pub refusal_of : Option ℕ → Option ℕ
+refusal_of (Some at) = None
+refusal_of None = Some 1
 
 -- a walk that is not broken
 abbrev pub whole : Walk → Bool
@@ -73,7 +70,7 @@ place_in n broken = false
 
 -- the places that the authenticated end may be; a broken walk makes the packet undecodable
 -- promise 7.6: The authenticated end is 48, or a place where a field starts, or the end of the walk.
---     edit: wire_fields/place_of_a_broken_walk, wire_incoming/v4_end_is_not_looked_at
+--     edit: wire_fields/place_of_a_broken_walk, wire_fields/a_walk_starts_in_the_header, wire_incoming/v4_end_is_not_looked_at
 unfoldable pub is_place : List ℕ → ℕ → Bool
 is_place p n = whole (packet_walk p) && place_in n (packet_walk p)
 

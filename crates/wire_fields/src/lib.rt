@@ -1,27 +1,21 @@
 // Extension fields: what is at an offset, the walk over them, and its places. Module `walker` holds the caller's bytes and finds a field's body.
 // Promises: a walk's fields follow one another within the packet; it is rejected exactly if it meets something broken; a body is part of the packet itself.
-// Rule: RULES, part 7 (RFC 7822); definitions in specs/Field.antt and specs/Walk.antt, of the walker in specs/Walker.antt.
+// Rule: RULES, part 7 (RFC 7822); definitions in specs/Field.antt, specs/Walk.antt and specs/Fields.antt, of the walker in specs/Walker.antt.
 #![tactic(auto)]
 
+mod forms;
 pub mod walker;
 
-ghost use Rattle.std.specs.Prelude.{◌≡◌, ◌≤◌};
-ghost use Rattle.wire_fields.specs.Field.{step_at, packet_step, decrypted_step};
-ghost use Rattle.wire_fields.specs.Walk.{broken, on_step, walk_of, packet_walk, decrypted_walk, walked_of, is_place};
+ghost use Rattle.std.specs.Prelude.{◌≡◌, []};
+ghost use Rattle.wire_fields.specs.Field.{packet_step, decrypted_step};
+ghost use Rattle.wire_fields.specs.Walk.{packet_walk, decrypted_walk, walked_of, is_place};
+ghost use Rattle.wire_fields.specs.Fields.{fields_in, fields_left, walk_left};
 
+use forms::{DECRYPTED, Form, PACKET};
 use wire_header::HEADER_BYTES;
 
-// The least length of a packet's field, and the greatest of a tail: what is no longer than a MAC counts as a MAC, not as a field.
-const PACKET_LEAST: usize = 16;
-
-const PACKET_TAIL: usize = 24;
-
-// Decrypted fields have at least a head, and no tail: RFC 8915 allows short ones, and nothing follows them that could be mistaken for a field.
-const DECRYPTED_LEAST: usize = 4;
-
-const DECRYPTED_TAIL: usize = 0;
-
 // What is at an offset: a field, whose body is `len` bytes from `start` and which ends at `next`; the end of the walk; or something broken.
+// Kept: neither an Option nor a Result: three cases, of which a walk ends at two alike (RULES, "What must change shape"; definition `step_at`).
 #[derive(Clone, Copy)]
 pub enum Step {
     Field {
@@ -34,46 +28,13 @@ pub enum Step {
     Broken,
 }
 
-// A field is type, length and body; the length counts the head's four bytes.
-fn field_at(p: &[u8], at: usize, least: usize, tail: usize) -> Step
-    requires { 4 ≤ least }
-    ensures { result ≡ step_at p.now at least tail }
-{
-    if p.len() < at {
-        return Step::Broken; // past the bytes
-    }
-    let rest = p.len() - at;
-    if rest <= tail {
-        return Step::End; // only a tail is left
-    }
-    if rest < 4 {
-        return Step::Broken; // no room for a head
-    }
-    let kind = words::be16_at(p, at);
-    let long = words::be16_at(p, at + 2) as usize;
-    if long % 4 != 0 {
-        return Step::Broken; // not a multiple of 4
-    }
-    if long < least {
-        return Step::Broken; // shorter than a field may be
-    }
-    if rest < long {
-        return Step::Broken; // runs past the end
-    }
-    Step::Field {
-        kind,
-        start: at + 4,
-        len: long - 4,
-        next: at + long,
-    }
-}
-
 // What is at an offset of a V4 packet.
+// Kept: a function for each form, here and below: each has its promises and its definition, and no caller has the form for a value.
 // promise: 7.1, 7.2, 7.4
 pub fn packet_field_at(p: &[u8], at: usize) -> Step
     ensures { result ≡ packet_step p.now at }
 {
-    field_at(p, at, PACKET_LEAST, PACKET_TAIL)
+    PACKET.field_at(p, at)
 }
 
 // What is at an offset of decrypted fields.
@@ -81,67 +42,106 @@ pub fn packet_field_at(p: &[u8], at: usize) -> Step
 pub fn decrypted_field_at(p: &[u8], at: usize) -> Step
     ensures { result ≡ decrypted_step p.now at }
 {
-    field_at(p, at, DECRYPTED_LEAST, DECRYPTED_TAIL)
+    DECRYPTED.field_at(p, at)
 }
 
-// Where a walk ends, or that it is broken.
+// A field that a walk finds: where it starts, its type and its body.
 #[derive(Clone, Copy)]
-pub enum Walked {
-    Ends(usize),
-    Broken,
+pub struct Field<'a> {
+    pub at: usize,
+    pub kind: u16,
+    pub body: &'a [u8],
 }
 
-// The result of a walk that stops at an offset.
-fn stopped(step: Step, at: usize) -> Walked
-    ensures { result ≡ walked_of (on_step (λ next. broken) at step) }
-{
-    match step {
-        Step::Field {
-            kind: _,
-            start: _,
-            len: _,
-            next: _,
-        } => Walked::Broken,
-        Step::End => Walked::Ends(at),
-        Step::Broken => Walked::Broken,
+// The fields of a walk, in order. It stops at the first answer that is not a field.
+#[derive(Clone, Copy)]
+pub struct Fields<'a> {
+    bytes: &'a [u8],
+    at: usize,
+    form: Form,
+}
+
+impl<'a> Fields<'a> {
+    // The fields of a V4 packet.
+    #[tactic(auto, unfolding(crate::specs::Fields::fields_left, crate::specs::Fields::walk_left))]
+    pub fn packet(bytes: &'a [u8]) -> Fields<'a>
+        ensures fields { fields_left result ≡ fields_in bytes.now (packet_walk bytes.now) }
+        ensures walk { walk_left result ≡ packet_walk bytes.now }
+    {
+        Fields {
+            bytes,
+            at: HEADER_BYTES,
+            form: PACKET,
+        }
+    }
+
+    // Decrypted fields.
+    #[tactic(auto, unfolding(crate::specs::Fields::fields_left, crate::specs::Fields::walk_left))]
+    pub fn decrypted(bytes: &'a [u8]) -> Fields<'a>
+        ensures fields { fields_left result ≡ fields_in bytes.now (decrypted_walk bytes.now) }
+        ensures walk { walk_left result ≡ decrypted_walk bytes.now }
+    {
+        Fields {
+            bytes,
+            at: 0,
+            form: DECRYPTED,
+        }
+    }
+
+    // Where the walk ends, or none if it meets something broken.
+    fn end(mut self) -> Option<usize>
+        ensures { result ≡ walked_of (walk_left self.entry) }
+    {
+        // Kept: as in `list_whole` of cookielist: the place behind the last field is tested, and of a `for` over `&mut` the proof could not name that place.
+        while self.next().is_some() {}
+        match self.form.field_at(self.bytes, self.at) {
+            Step::End => Some(self.at),
+            _ => None,
+        }
     }
 }
 
-// The walk from an offset on stops at the first answer that is not a field.
-fn walk_from(p: &[u8], first: usize, least: usize, tail: usize) -> Walked
-    requires { 4 ≤ least }
-    ensures { result ≡ walked_of (walk_of p.now first least tail) }
-{
-    let mut at = first;
-    loop {
-        let step = field_at(p, at, least, tail);
+impl<'a> Iterator for Fields<'a> {
+    ghost use Rattle.std.specs.Iterator.{item_count};
+    ghost use Rattle.wire_fields.specs.Fields.{fields_left, GivesField};
+
+    type Item = Field<'a>;
+
+    ghost next_gives = { GivesField };
+
+    ghost remaining = { item_count fields_left };
+
+    fn next(&mut self) -> Option<Field<'a>> {
+        let Fields { bytes, at, form } = *self;
         let Step::Field {
-            kind: _,
-            start: _,
-            len: _,
+            kind,
+            start,
             next,
-        } = step
+            ..
+        } = form.field_at(bytes, at)
         else {
-            return stopped(step, at);
+            return None;
         };
-        at = next;
+        self.at = next;
+        let body = &bytes[start..next];
+        Some(Field { at, kind, body })
     }
 }
 
-// The walk over the fields of a V4 packet.
+// Where the walk over the fields of a V4 packet ends, or none if it is broken.
 // promise: 7.5
-pub fn packet_walk(p: &[u8]) -> Walked
+pub fn packet_walk(p: &[u8]) -> Option<usize>
     ensures { result ≡ walked_of (packet_walk p.now) }
 {
-    walk_from(p, HEADER_BYTES, PACKET_LEAST, PACKET_TAIL)
+    Fields::packet(p).end()
 }
 
-// The walk over decrypted fields.
+// Where the walk over decrypted fields ends, or none if it is broken.
 // promise: 7.5
-pub fn decrypted_walk(p: &[u8]) -> Walked
+pub fn decrypted_walk(p: &[u8]) -> Option<usize>
     ensures { result ≡ walked_of (decrypted_walk p.now) }
 {
-    walk_from(p, 0, DECRYPTED_LEAST, DECRYPTED_TAIL)
+    Fields::decrypted(p).end()
 }
 
 // Whether `end` is the packet's first place, a place where a field starts, or the place where the walk ends; a broken walk has none.
@@ -149,21 +149,9 @@ pub fn decrypted_walk(p: &[u8]) -> Walked
 pub fn is_place(p: &[u8], end: usize) -> bool
     ensures { result ≡ is_place p.now end }
 {
-    let Walked::Ends(_) = packet_walk(p) else {
+    // Kept: no `is_some_and`: it was tried, and its closure, which holds the closure of `any`, did not prove.
+    let Some(last) = packet_walk(p) else {
         return false;
     };
-    let mut at = HEADER_BYTES;
-    while at != end {
-        let Step::Field {
-            kind: _,
-            start: _,
-            len: _,
-            next,
-        } = packet_field_at(p, at)
-        else {
-            return false;
-        };
-        at = next;
-    }
-    true
+    last == end || Fields::packet(p).any(|field| field.at == end)
 }

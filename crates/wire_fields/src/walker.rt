@@ -13,17 +13,14 @@ use wire_header::HEADER_BYTES;
 pub fn body_at(p: &[u8], start: usize, len: usize) -> &[u8]
     ensures { IsBody p.entry start len result }
 {
-    if start <= p.len() {
-        if len <= p.len() - start {
-            &p[start..start + len]
-        } else {
-            &p[..0]
-        }
+    if start <= p.len() && len <= p.len() - start {
+        &p[start..start + len]
     } else {
         &p[..0]
     }
 }
 
+// Kept: beside the iterators: promise 7.10 has its bytes and its place, and it stays where it is.
 #[derive(Clone, Copy)]
 pub struct Walker<'a> {
     pub packet: &'a [u8],

@@ -1,6 +1,7 @@
 -- What groups of fields say about the unique identifier, and when a reply's groups match (RULES, part 8; RFC 8915, section 5.3).
 -- Assumes nothing.
-use Rattle.std.specs.Prelude.{ℕ, ◌≡◌, List, [], ◌∷◌, ◌++◌, Bool, true, false, not, ◌&&◌, ◌||◌, cond, eqb}
+use Rattle.std.specs.Prelude.{ℕ, ◌≡◌, List, [], ◌∷◌, ◌++◌, Bool, true, false, not, ◌&&◌, ◌||◌, cond, leb, ltb, eqb}
+use Rattle.wire_fields.specs.Fields.{Told}
 use Rattle.wire_fields.specs.Walk.{packet_walk, decrypted_walk, fields_of, between, bodies_of}
 use Rattle.wire_groups.specs.declared.Uid.{Uid}
 use Rattle.wire_groups.specs.declared.Uid.TheVariants.{Absent, Agree, Disagree}
@@ -8,13 +9,6 @@ use Rattle.wire_groups.specs.declared.Uid.TheVariants.{Absent, Agree, Disagree}
 -- the type of a field that carries the unique identifier
 abbrev pub uid_kind : ℕ
 uid_kind = 0x0104
-
--- the least length of a field and the longest tail: of decrypted fields, or otherwise of a V4 packet (`decrypted_step`, `packet_step`)
-abbrev pub least_of : Bool → ℕ
-least_of decrypted = cond decrypted 4 16
-
-abbrev pub tail_of : Bool → ℕ
-tail_of decrypted = cond decrypted 0 24
 
 -- whether the bytes b start with the bytes u
 abbrev pub starts_with : List ℕ → List ℕ → Bool
@@ -32,6 +26,11 @@ all_start_with (b ∷ bs) u = starts_with b u && all_start_with bs u
 abbrev pub uid_of : List ℕ → List (List ℕ) → Uid
 uid_of u [] = Absent
 uid_of u (b ∷ bs) = cond (all_start_with (b ∷ bs) u) Agree Disagree
+
+-- the bodies of the uid fields that start at `from` or later and before `to`, among those that a walk has found
+abbrev pub uids_within : ℕ → ℕ → List Told → List (List ℕ)
+uids_within from to [] = []
+uids_within from to (f ∷ fs) = cond (leb from f.at && ltb f.at to && eqb f.kind uid_kind) (f.body ∷ uids_within from to fs) (uids_within from to fs)
 
 -- the packet's fields that start at `from` or later and before `to`
 -- promise 7.8: Fields before the authenticated end are authenticated, fields after it untrusted.
@@ -72,14 +71,6 @@ groups_match gs = none_disagrees gs && one_agrees gs
 --     edit: wire_groups/untrusted_believed
 unfoldable pub uid_matches : Uid → Uid → Uid → Bool → Bool
 uid_matches authenticated encrypted untrusted ntsn = groups_match (authenticated ∷ encrypted ∷ cond ntsn untrusted Absent ∷ [])
-
--- two groups taken as one
-abbrev pub joined : Uid → Uid → Uid
-joined Absent b = b
-joined Agree Absent = Agree
-joined Agree Agree = Agree
-joined Agree Disagree = Disagree
-joined Disagree b = Disagree
 
 -- the bytes b are u and then others: what `starts_with` says, as a statement (proofs/Uids.antt)
 abbrev pub Begins : List ℕ → List ℕ → Type 0

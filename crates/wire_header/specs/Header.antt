@@ -1,7 +1,6 @@
 -- RULES, part 6: the header's 48 bytes, with fields at 0, 1, 2, 3, 4, 8, 12, 16, 24, 32 and 40 (RFC 5905, section 7.3).
 -- Assumes nothing.
-use Rattle.std.specs.Prelude.{ℕ, ◌+◌, ◌*◌, ◌/◌, ◌%◌, ◌^◌, cond, List, ◌∷◌, ◌++◌, ltb, eqb, length, get_or}
-use Rattle.std.proofs.Math.Option.{Option, none, some}
+use Rattle.std.specs.Prelude.{ℕ, ◌+◌, ◌*◌, ◌/◌, ◌%◌, ◌^◌, cond, List, ◌∷◌, ◌++◌, ltb, eqb, length, get_or, Option, Some, None}
 use Rattle.words.specs.Bytes.{be, part, to_be}
 use Rattle.words.specs.Signed.{signed, unsigned}
 use Rattle.identifiers.specs.Names.{named}
@@ -12,10 +11,17 @@ use Rattle.wire_header.specs.declared.HeaderVersion.TheVariants.{V3, V4}
 use Rattle.wire_header.specs.declared.Leap.{Leap}
 use Rattle.wire_header.specs.declared.Leap.TheVariants.{NoWarning, Leap61, Leap59, Unsynchronized}
 use Rattle.wire_header.specs.declared.Mode.{Mode}
-use Rattle.wire_header.specs.declared.Mode.TheVariants.{Reserved, SymmetricActive, SymmetricPassive, Client, Server, Broadcast, Control, Private}
+use Rattle.wire_header.specs.declared.Mode.TheVariants.{
+  Reserved,
+  SymmetricActive,
+  SymmetricPassive,
+  Client,
+  Server,
+  Broadcast,
+  Control,
+  Private,
+}
 use Rattle.wire_header.specs.declared.Header.{Header}
-use Rattle.wire_header.specs.declared.HeaderRead.{HeaderRead}
-use Rattle.wire_header.specs.declared.HeaderRead.TheVariants.{Decoded, Undecodable}
 
 -- ---- the three numbers of byte 0
 
@@ -68,7 +74,7 @@ version_bits p = get_or p 0 0 / 8 % 8
 
 -- the fields at their offsets; poll and precision are signed
 -- promise 6.1: A header has 48 bytes, with fields at 0, 1, 2, 3, 4, 8, 12, 16, 24, 32 and 40. Poll and precision are signed.
---     edit: wire_header/forty_seven_bytes_are_read
+--     edit: wire_header/forty_seven_bytes_are_read, wire_header/leap_59_is_read_as_61, wire_header/a_server_is_read_as_a_client
 unfoldable pub fields : HeaderVersion → List ℕ → Header
 fields v p =
     record {
@@ -89,24 +95,24 @@ fields v p =
 
 -- fewer than 48 bytes, or a version other than 3 and 4, are not decodable
 -- promise: 6.1
-unfoldable pub header_of : List ℕ → HeaderRead
+unfoldable pub header_of : List ℕ → Option Header
 header_of p =
-    cond (ltb (length p) 48) Undecodable
-    (cond (eqb (version_bits p) 3) (Decoded (fields V3 p))
-    (cond (eqb (version_bits p) 4) (Decoded (fields V4 p))
-    Undecodable))
+    cond (ltb (length p) 48) None
+    (cond (eqb (version_bits p) 3) (Some (fields V3 p))
+    (cond (eqb (version_bits p) 4) (Some (fields V4 p))
+    None))
 
 -- the number in RULES: 1 for bytes that are not decodable; a header that is read is not rejected
 -- promise 6.4: An undecodable header is 1. No other answer of the reader has a number.
-abbrev pub refusal_of : HeaderRead → Option ℕ
-refusal_of (Decoded h) = none
-refusal_of Undecodable = some 1
+abbrev pub refusal_of : Option Header → Option ℕ
+refusal_of (Some h) = None
+refusal_of None = Some 1
 
 -- ---- the writer
 
 -- the fields in the order of their offsets
 -- promise 6.3: The writer returns 48 bytes by value and rejects nothing.
---     edit: wire_header/origin_written_twice
+--     edit: wire_header/origin_written_twice, wire_header/a_server_is_written_as_a_client, wire_header/leap_59_is_written_as_61
 unfoldable pub bytes_of : Header → List ℕ
 bytes_of h =
     first_byte h.leap h.version h.mode

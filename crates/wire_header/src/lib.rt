@@ -4,8 +4,7 @@
 #![tactic(auto)]
 
 ghost use Rattle.std.specs.Prelude.{◌≡◌, ◌+◌, ◌≤◌, ◌<◌, length};
-ghost use Rattle.words.specs.Put.{laid_at};
-ghost use Rattle.words.specs.Bytes.{be, part, to_be};
+ghost use Rattle.words.specs.Bytes.{be, part};
 ghost use Rattle.wire_header.specs.Header.{leap_of, mode_of, leap_code, mode_code, version_code, first_byte, fields, header_of, bytes_of};
 ghost use Rattle.wire_header.specs.Kiss.{kisses_of};
 
@@ -15,13 +14,13 @@ use time_types::{NtpTimestamp, PollInterval};
 pub const HEADER_BYTES: usize = 48;
 
 // The versions whose header has this form.
-#[derive(Clone, Copy)]
+#[derive(Clone, Copy, PartialEq, Eq)]
 pub enum HeaderVersion {
     V3,
     V4,
 }
 
-#[derive(Clone, Copy)]
+#[derive(Clone, Copy, PartialEq, Eq)]
 pub enum Leap {
     NoWarning,
     Leap61,
@@ -29,7 +28,7 @@ pub enum Leap {
     Unsynchronized,
 }
 
-#[derive(Clone, Copy)]
+#[derive(Clone, Copy, PartialEq, Eq)]
 pub enum Mode {
     Reserved,
     SymmetricActive,
@@ -59,12 +58,6 @@ pub struct Header {
     pub transmit: NtpTimestamp,
 }
 
-#[derive(Clone, Copy)]
-pub enum HeaderRead {
-    Decoded(Header),
-    Undecodable,
-}
-
 // Whether a header is a kiss, and which of the names it has.
 #[derive(Clone, Copy)]
 pub struct Kisses {
@@ -75,60 +68,82 @@ pub struct Kisses {
     pub any: bool,
 }
 
-fn leap_of(n: u8) -> Leap
-    ensures { result ≡ leap_of n }
-{
-    match n {
-        0 => Leap::NoWarning,
-        1 => Leap::Leap61,
-        2 => Leap::Leap59,
-        _ => Leap::Unsynchronized,
+// What the two bits of a leap say.
+impl From<u8> for Leap {
+    ghost from_gives = { λ bits leap. leap ≡ leap_of bits };
+
+    // Kept: the table of a leap and, below, that of a mode: each is the match over its own kind.
+    fn from(bits: u8) -> Leap
+        ensures { result ≡ leap_of bits }
+    {
+        match bits {
+            0 => Leap::NoWarning,
+            1 => Leap::Leap61,
+            2 => Leap::Leap59,
+            _ => Leap::Unsynchronized,
+        }
     }
 }
 
-fn mode_of(n: u8) -> Mode
-    ensures { result ≡ mode_of n }
-{
-    match n {
-        0 => Mode::Reserved,
-        1 => Mode::SymmetricActive,
-        2 => Mode::SymmetricPassive,
-        3 => Mode::Client,
-        4 => Mode::Server,
-        5 => Mode::Broadcast,
-        6 => Mode::Control,
-        _ => Mode::Private,
+impl From<Leap> for u8 {
+    ghost from_gives = { λ leap bits. bits ≡ leap_code leap };
+
+    fn from(leap: Leap) -> u8
+        ensures bits { result ≡ leap_code leap }
+        ensures two { result < 4 }
+    {
+        match leap {
+            Leap::NoWarning => 0,
+            Leap::Leap61 => 1,
+            Leap::Leap59 => 2,
+            Leap::Unsynchronized => 3,
+        }
     }
 }
 
-fn leap_code(l: Leap) -> u8
-    ensures { (result ≡ leap_code l) × (result < 4) }
-{
-    match l {
-        Leap::NoWarning => 0,
-        Leap::Leap61 => 1,
-        Leap::Leap59 => 2,
-        Leap::Unsynchronized => 3,
+// What the three bits of a mode say.
+impl From<u8> for Mode {
+    ghost from_gives = { λ bits mode. mode ≡ mode_of bits };
+
+    fn from(bits: u8) -> Mode
+        ensures { result ≡ mode_of bits }
+    {
+        match bits {
+            0 => Mode::Reserved,
+            1 => Mode::SymmetricActive,
+            2 => Mode::SymmetricPassive,
+            3 => Mode::Client,
+            4 => Mode::Server,
+            5 => Mode::Broadcast,
+            6 => Mode::Control,
+            _ => Mode::Private,
+        }
     }
 }
 
-fn mode_code(m: Mode) -> u8
-    ensures { (result ≡ mode_code m) × (result < 8) }
-{
-    match m {
-        Mode::Reserved => 0,
-        Mode::SymmetricActive => 1,
-        Mode::SymmetricPassive => 2,
-        Mode::Client => 3,
-        Mode::Server => 4,
-        Mode::Broadcast => 5,
-        Mode::Control => 6,
-        Mode::Private => 7,
+impl From<Mode> for u8 {
+    ghost from_gives = { λ mode bits. bits ≡ mode_code mode };
+
+    fn from(mode: Mode) -> u8
+        ensures bits { result ≡ mode_code mode }
+        ensures three { result < 8 }
+    {
+        match mode {
+            Mode::Reserved => 0,
+            Mode::SymmetricActive => 1,
+            Mode::SymmetricPassive => 2,
+            Mode::Client => 3,
+            Mode::Server => 4,
+            Mode::Broadcast => 5,
+            Mode::Control => 6,
+            Mode::Private => 7,
+        }
     }
 }
 
 impl HeaderVersion {
     // The version as the header's number.
+    // Kept: a method and no `From`, as its sisters have: the row 6.2 of docs/PROMISES.md names `HeaderVersion::number`, and what it names stays.
     // promise: 6.2
     pub fn number(self) -> u8
         ensures { result ≡ version_code self }
@@ -140,14 +155,15 @@ impl HeaderVersion {
     }
 }
 
-// The number in the eight bytes from an offset on, read as two halves: the compiler makes each a single load.
+// The number in the eight bytes from an offset on.
+// Kept: it is read as two halves, because the compiler makes each of them a single load; read as eight bytes it is slower.
 fn word_at(p: &[u8], at: usize) -> u64
     requires { at + 8 ≤ length p.now }
     ensures { result ≡ be (part p.now at 8) }
 {
-    let high = words::be32_at(p, at) as u64;
-    let low = words::be32_at(p, at + 4) as u64;
-    high * 4294967296 + low
+    let high = u64::from(words::be32_at(p, at));
+    let low = u64::from(words::be32_at(p, at + 4));
+    high * 0x1_0000_0000 + low
 }
 
 // The fields of bytes that are long enough for them.
@@ -155,126 +171,81 @@ fn fields_in(version: HeaderVersion, p: &[u8]) -> Header
     requires { 48 ≤ length p.now }
     ensures { result ≡ fields version p.now }
 {
-    let first = p[0];
-    let leap = leap_of(first / 64);
-    let mode = mode_of(first % 8);
-    let stratum = p[1];
-    let poll = PollInterval(words::u8_as_i8(p[2]));
-    let precision = words::u8_as_i8(p[3]);
-    let rootdelay = words::be32_at(p, 4);
-    let rootdisp = words::be32_at(p, 8);
-    let refid = ReferenceId(words::be32_at(p, 12));
-    let reftime = NtpTimestamp(word_at(p, 16));
-    let origin = NtpTimestamp(word_at(p, 24));
-    let receive = NtpTimestamp(word_at(p, 32));
-    let transmit = NtpTimestamp(word_at(p, 40));
     Header {
         version,
-        leap,
-        mode,
-        stratum,
-        poll,
-        precision,
-        rootdelay,
-        rootdisp,
-        refid,
-        reftime,
-        origin,
-        receive,
-        transmit,
+        leap: Leap::from(p[0] / 64),
+        mode: Mode::from(p[0] % 8),
+        stratum: p[1],
+        poll: PollInterval(words::u8_as_i8(p[2])),
+        precision: words::u8_as_i8(p[3]),
+        rootdelay: words::be32_at(p, 4),
+        rootdisp: words::be32_at(p, 8),
+        refid: ReferenceId(words::be32_at(p, 12)),
+        reftime: NtpTimestamp(word_at(p, 16)),
+        origin: NtpTimestamp(word_at(p, 24)),
+        receive: NtpTimestamp(word_at(p, 32)),
+        transmit: NtpTimestamp(word_at(p, 40)),
     }
-}
-
-// The fields of a packet that is long enough for them, read from a part whose length the compiler knows.
-fn fields_of(version: HeaderVersion, p: &[u8]) -> Header
-    requires { 48 ≤ length p.now }
-    ensures { result ≡ fields version p.now }
-{
-    fields_in(version, &p[..HEADER_BYTES])
 }
 
 // Reads the header at the start of a packet. Rejects a packet that is too short or has another version.
+// The fields are read from a part whose length the compiler knows.
+// Kept: no `TryFrom` for the version, which needs a type of error: a number of no version rejects the packet, and is read nowhere else.
 // promise: 6.1, 6.2, 6.4
-pub fn read_header(p: &[u8]) -> HeaderRead
+pub fn read_header(p: &[u8]) -> Option<Header>
     ensures { result ≡ header_of p.now }
 {
     if p.len() < HEADER_BYTES {
-        return HeaderRead::Undecodable;
+        return None;
     }
-    match p[0] / 8 % 8 {
-        3 => HeaderRead::Decoded(fields_of(HeaderVersion::V3, p)),
-        4 => HeaderRead::Decoded(fields_of(HeaderVersion::V4, p)),
-        _ => HeaderRead::Undecodable,
-    }
+    let version = match p[0] / 8 % 8 {
+        3 => HeaderVersion::V3,
+        4 => HeaderVersion::V4,
+        _ => return None,
+    };
+    Some(fields_in(version, &p[..HEADER_BYTES]))
 }
 
-// The array with a word replaced, big-endian, from an offset on.
-fn put32(mut out: [u8; 48], at: usize, x: u32) -> [u8; 48]
-    requires { at + 4 ≤ 48 }
-    ensures { result ≡ laid_at out at (to_be 4 x) }
-{
-    words::lay(&mut out, at, &words::be32_bytes(x));
-    out
-}
-
-fn put64(mut out: [u8; 48], at: usize, x: u64) -> [u8; 48]
-    requires { at + 8 ≤ 48 }
-    ensures { result ≡ laid_at out at (to_be 8 x) }
-{
-    words::lay(&mut out, at, &words::be64_bytes(x));
-    out
-}
-
+// Kept: a function of its own, whose definition of this name `bytes_of` cites; no other crate has one.
 fn first_byte(leap: Leap, version: HeaderVersion, mode: Mode) -> u8
     ensures { result ≡ first_byte leap version mode }
 {
-    leap_code(leap) * 64 + version.number() * 8 + mode_code(mode)
+    u8::from(leap) * 64 + version.number() * 8 + u8::from(mode)
 }
 
 // The 48 bytes of a header.
 // promise: 6.3
-pub fn write_header(h: Header) -> [u8; 48]
+pub fn write_header(h: Header) -> [u8; HEADER_BYTES]
     ensures { result ≡ bytes_of h }
 {
-    let leap = h.leap;
-    let version = h.version;
-    let mode = h.mode;
-    let mut out = [0u8; 48];
-    out[0] = first_byte(leap, version, mode);
+    let mut out = [0u8; HEADER_BYTES];
+    out[0] = first_byte(h.leap, h.version, h.mode);
     out[1] = h.stratum;
     out[2] = words::i8_as_u8(h.poll.0);
     out[3] = words::i8_as_u8(h.precision);
-    let out = put32(out, 4, h.rootdelay);
-    let out = put32(out, 8, h.rootdisp);
-    let out = put32(out, 12, h.refid.0);
-    let out = put64(out, 16, h.reftime.0);
-    let out = put64(out, 24, h.origin.0);
-    let out = put64(out, 32, h.receive.0);
-    put64(out, 40, h.transmit.0)
+    out[4..8].copy_from_slice(&words::be32_bytes(h.rootdelay));
+    out[8..12].copy_from_slice(&words::be32_bytes(h.rootdisp));
+    out[12..16].copy_from_slice(&words::be32_bytes(h.refid.0));
+    out[16..24].copy_from_slice(&words::be64_bytes(h.reftime.0));
+    out[24..32].copy_from_slice(&words::be64_bytes(h.origin.0));
+    out[32..40].copy_from_slice(&words::be64_bytes(h.receive.0));
+    out[40..48].copy_from_slice(&words::be64_bytes(h.transmit.0));
+    out
 }
 
 impl Header {
     // promise: 9.1
+    #[tactic(auto, unfolding(crate::specs::Kiss::kisses_of))]
     pub fn kisses(self) -> Kisses
         ensures { result ≡ kisses_of self }
     {
-        let name = self.refid;
-        if self.stratum == 0 {
-            Kisses {
-                rate: name.is_rate(),
-                deny: name.is_deny(),
-                rstr: name.is_rstr(),
-                ntsn: name.is_ntsn(),
-                any: true,
-            }
-        } else {
-            Kisses {
-                rate: false,
-                deny: false,
-                rstr: false,
-                ntsn: false,
-                any: false,
-            }
+        let any = self.stratum == 0;
+        Kisses {
+            rate: any && self.refid.is_rate(),
+            deny: any && self.refid.is_deny(),
+            rstr: any && self.refid.is_rstr(),
+            ntsn: any && self.refid.is_ntsn(),
+            any,
         }
     }
 }

@@ -7,8 +7,8 @@ use Prim.Native.Nat.{ℕ}
 use lib.ListN.{length}
 use Rattle.wire_header.specs.declared.HeaderVersion.{HeaderVersion}
 use Rattle.wire_header.specs.declared.HeaderVersion.TheVariants.{V3, V4}
-use Rattle.wire_header.specs.declared.HeaderRead.{HeaderRead}
-use Rattle.wire_header.specs.declared.HeaderRead.TheVariants.{Decoded, Undecodable}
+use Rattle.std.specs.Prelude.{Option, Some, None}
+use Rattle.wire_header.specs.declared.Header.{Header}
 use Rattle.wire_header.specs.Header.{header_of}
 use Rattle.wire_groups.specs.declared.Uid.TheVariants.{Absent}
 use Rattle.wire_incoming.specs.Incoming.{group_of, bytes_read, on_header, read_of}
@@ -23,12 +23,12 @@ pub without_nts : (uid uid' : List ℕ) (p : List ℕ) (end : ℕ) (decrypted de
 unfolding read_of bytes_read
 without_nts uid uid' p end decrypted decrypted' = by (header_of p)
   where
-    by : (r : HeaderRead) → on_header (bytes_read false uid p end decrypted) r ≡ on_header (bytes_read false uid' p end decrypted') r
-    by (Decoded h) =
+    by : (r : Option Header) → on_header (bytes_read false uid p end decrypted) r ≡ on_header (bytes_read false uid' p end decrypted') r
+    by (Some h) =
         rw (
           no_group h.version p 48 end uid,
           no_group h.version p 48 end uid',
           no_group h.version p end (length p) uid,
           no_group h.version p end (length p) uid',
         )
-    by Undecodable = refl
+    by None = refl

@@ -1,14 +1,11 @@
 -- Both forms of a reply as one value (RULES, part 11): the byte form through its header, its walk and its groups, and V5's decoded form.
 -- Assumes nothing.
-use Rattle.std.specs.Prelude.{Bool, true, false, not, ◌&&◌, ◌||◌, cond, List, ℕ, eqb, length}
-use Rattle.std.proofs.Math.Option.{Option, none, some}
+use Rattle.std.specs.Prelude.{Bool, true, false, not, ◌&&◌, ◌||◌, cond, List, ℕ, eqb, length, Option, Some, None, Result, Ok, Err}
 use Rattle.identifiers.specs.Names.{named, xnon}
 use Rattle.time_types.specs.Time.{duration, short_of}
 use Rattle.wire_header.specs.declared.Header.{Header}
 use Rattle.wire_header.specs.declared.HeaderVersion.{HeaderVersion}
 use Rattle.wire_header.specs.declared.HeaderVersion.TheVariants.{V3, V4}
-use Rattle.wire_header.specs.declared.HeaderRead.{HeaderRead}
-use Rattle.wire_header.specs.declared.HeaderRead.TheVariants as H
 use Rattle.wire_header.specs.declared.Leap.{Leap}
 use Rattle.wire_header.specs.declared.Leap.TheVariants as L
 use Rattle.wire_header.specs.declared.Mode.{Mode}
@@ -21,9 +18,8 @@ use Rattle.wire_groups.specs.declared.Uid.TheVariants.{Absent}
 use Rattle.wire_groups.specs.Matching.{packet_uid, decrypted_uid}
 use Rattle.wire_incoming.specs.declared.NtpLeapIndicator.{NtpLeapIndicator}
 use Rattle.wire_incoming.specs.declared.NtpLeapIndicator.TheVariants as I
+use Rattle.wire_incoming.specs.declared.UnknownLeap.{UnknownLeap}
 use Rattle.wire_incoming.specs.declared.Reply.{Reply}
-use Rattle.wire_incoming.specs.declared.ReplyRead.{ReplyRead}
-use Rattle.wire_incoming.specs.declared.ReplyRead.TheVariants.{Decoded, Undecodable}
 use Rattle.wire_incoming.specs.declared.DecodedMode.{DecodedMode}
 use Rattle.wire_incoming.specs.declared.DecodedMode.TheVariants.{Request, Response}
 use Rattle.wire_incoming.specs.declared.DecodedReply.{DecodedReply}
@@ -35,6 +31,14 @@ leap_printed I.Leap61 = 1
 leap_printed I.Leap59 = 2
 leap_printed I.Unknown = 3
 leap_printed I.Unsynchronized = 4
+
+-- the kind that such a number stands for; no other number stands for one
+-- promise: exports.7
+abbrev pub leap_coded : ℕ → Result NtpLeapIndicator UnknownLeap
+leap_coded n =
+    cond (eqb n 0) (Ok I.NoWarning)
+    (cond (eqb n 1) (Ok I.Leap61)
+    (cond (eqb n 2) (Ok I.Leap59) (cond (eqb n 3) (Ok I.Unknown) (cond (eqb n 4) (Ok I.Unsynchronized) (Err (record { 0 = n }))))))
 
 -- a header's leap kinds among those of a measurement
 abbrev pub leap_of : Leap → NtpLeapIndicator
@@ -97,24 +101,24 @@ value_of h authenticated encrypted untrusted =
     }
 
 -- the byte form of a header that is read
-unfoldable pub bytes_read : Bool → List ℕ → List ℕ → ℕ → List ℕ → Header → ReplyRead
+unfoldable pub bytes_read : Bool → List ℕ → List ℕ → ℕ → List ℕ → Header → Option Reply
 bytes_read nts uid p end decrypted h =
     cond (end_valid h.version p end && decrypted_valid nts decrypted)
-    (Decoded (value_of h (group_of nts h.version p 48 end uid) (encrypted_of nts decrypted uid) (group_of nts h.version p end (length p) uid)))
-    Undecodable
+    (Some (value_of h (group_of nts h.version p 48 end uid) (encrypted_of nts decrypted uid) (group_of nts h.version p end (length p) uid)))
+    None
 
-abbrev pub on_header : (Header → ReplyRead) → HeaderRead → ReplyRead
-on_header f (H.Decoded h) = f h
-on_header f H.Undecodable = Undecodable
+abbrev pub on_header : (Header → Option Reply) → Option Header → Option Reply
+on_header f (Some h) = f h
+on_header f None = None
 
 -- the byte form: it rejects an undecodable header, an authenticated end that is no place, and broken decrypted fields
-unfoldable pub read_of : Bool → List ℕ → List ℕ → ℕ → List ℕ → ReplyRead
+unfoldable pub read_of : Bool → List ℕ → List ℕ → ℕ → List ℕ → Option Reply
 read_of nts uid p end decrypted = on_header (bytes_read nts uid p end decrypted) (header_of p)
 
 -- the number in RULES: 1 for packet bytes that are not decodable; a reply that is read is not rejected here
-abbrev pub refusal_of : ReplyRead → Option ℕ
-refusal_of (Decoded r) = none
-refusal_of Undecodable = some 1
+abbrev pub refusal_of : Option Reply → Option ℕ
+refusal_of (Some r) = None
+refusal_of None = Some 1
 
 abbrev pub is_response : DecodedMode → Bool
 is_response Request = false
@@ -122,7 +126,7 @@ is_response Response = true
 
 -- the decoded form: version 5, the client cookie as the 64 bits; it reports no reference identifier, as in the crate
 -- promise 9.2: A V5 reply carries the caller's five answers.
---     edit: wire_incoming/v5_is_version_4
+--     edit: wire_incoming/v5_is_version_4, wire_incoming/unsynchronized_is_read_as_unknown
 unfoldable pub decoded_of : DecodedReply → Reply
 decoded_of d =
     record {

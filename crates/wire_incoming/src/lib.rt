@@ -4,17 +4,16 @@
 #![tactic(auto)]
 
 ghost use Rattle.std.specs.Prelude.{◌≡◌};
-ghost use Rattle.wire_incoming.specs.Incoming.{leap_printed, leap_of, is_server, is_response, end_valid, decrypted_valid};
+ghost use Rattle.wire_incoming.specs.Incoming.{leap_printed, leap_coded, leap_of, end_valid, decrypted_valid};
 ghost use Rattle.wire_incoming.specs.Incoming.{group_of, encrypted_of, value_of, read_of, decoded_of};
 
 use identifiers::ReferenceId;
 use time_types::{NtpDuration, NtpTimestamp, PollInterval};
-use wire_fields::Walked;
 use wire_groups::Uid;
-use wire_header::{HEADER_BYTES, Header, HeaderRead, HeaderVersion, Kisses, Leap, Mode};
+use wire_header::{HEADER_BYTES, Header, HeaderVersion, Kisses, Leap, Mode};
 
 // The leap kinds of a measurement: a header's four, and Unknown, which only the decoded form can carry.
-#[derive(Clone, Copy)]
+#[derive(Clone, Copy, PartialEq, Eq)]
 pub enum NtpLeapIndicator {
     NoWarning,
     Leap61,
@@ -24,6 +23,7 @@ pub enum NtpLeapIndicator {
 }
 
 // What a reply says, in the terms in which it is judged.
+// Kept: `server` is one of the things that a reply says: a kiss counts whatever it is, and the rules ask for it last.
 #[derive(Clone, Copy)]
 pub struct Reply {
     pub version: u8,
@@ -47,14 +47,8 @@ pub struct Reply {
     pub untrusted: Uid,
 }
 
-#[derive(Clone, Copy)]
-pub enum ReplyRead {
-    Decoded(Reply),
-    Undecodable,
-}
-
 // The mode of a V5 packet.
-#[derive(Clone, Copy)]
+#[derive(Clone, Copy, PartialEq, Eq)]
 pub enum DecodedMode {
     Request,
     Response,
@@ -82,6 +76,7 @@ pub struct DecodedReply {
 
 impl NtpLeapIndicator {
     // The kind as a number, for a program to print.
+    // Kept, 2 and 4: a method and no `From`: `u8::from` of a header's leap says 3 for Unsynchronized and this one 4; under one name they would be confused.
     pub fn code(self) -> u8
         ensures { result ≡ leap_printed self }
     {
@@ -95,29 +90,40 @@ impl NtpLeapIndicator {
     }
 }
 
-fn leap_of(leap: Leap) -> NtpLeapIndicator
-    ensures { result ≡ leap_of leap }
-{
-    match leap {
-        Leap::NoWarning => NtpLeapIndicator::NoWarning,
-        Leap::Leap61 => NtpLeapIndicator::Leap61,
-        Leap::Leap59 => NtpLeapIndicator::Leap59,
-        Leap::Unsynchronized => NtpLeapIndicator::Unsynchronized,
+// A number that stands for no leap kind.
+#[derive(Clone, Copy, PartialEq, Eq)]
+pub struct UnknownLeap(pub u8);
+
+// The kind for the number that `code` gives.
+impl TryFrom<u8> for NtpLeapIndicator {
+    type Error = UnknownLeap;
+
+    ghost try_from_gives = { λ code leap. leap ≡ leap_coded code };
+
+    fn try_from(value: u8) -> Result<NtpLeapIndicator, UnknownLeap> {
+        match value {
+            0 => Ok(NtpLeapIndicator::NoWarning),
+            1 => Ok(NtpLeapIndicator::Leap61),
+            2 => Ok(NtpLeapIndicator::Leap59),
+            3 => Ok(NtpLeapIndicator::Unknown),
+            4 => Ok(NtpLeapIndicator::Unsynchronized),
+            _ => Err(UnknownLeap(value)),
+        }
     }
 }
 
-fn is_server(mode: Mode) -> bool
-    ensures { result ≡ is_server mode }
-{
-    match mode {
-        Mode::Reserved => false,
-        Mode::SymmetricActive => false,
-        Mode::SymmetricPassive => false,
-        Mode::Client => false,
-        Mode::Server => true,
-        Mode::Broadcast => false,
-        Mode::Control => false,
-        Mode::Private => false,
+impl From<Leap> for NtpLeapIndicator {
+    ghost from_gives = { λ header leap. leap ≡ leap_of header };
+
+    fn from(header: Leap) -> NtpLeapIndicator
+        ensures { result ≡ leap_of header }
+    {
+        match header {
+            Leap::NoWarning => NtpLeapIndicator::NoWarning,
+            Leap::Leap61 => NtpLeapIndicator::Leap61,
+            Leap::Leap59 => NtpLeapIndicator::Leap59,
+            Leap::Unsynchronized => NtpLeapIndicator::Unsynchronized,
+        }
     }
 }
 
@@ -135,28 +141,17 @@ fn end_valid(version: HeaderVersion, p: &[u8], end: usize) -> bool
 fn decrypted_valid(nts: bool, decrypted: &[u8]) -> bool
     ensures { result ≡ decrypted_valid nts decrypted.now }
 {
-    if !nts {
-        return true;
-    }
-    match wire_fields::decrypted_walk(decrypted) {
-        Walked::Ends(_) => true,
-        Walked::Broken => false,
-    }
+    !nts || wire_fields::decrypted_walk(decrypted).is_some()
 }
 
 // What the packet's fields that start at `from` or later and before `to` say about the identifier. Only NTS needs this.
+// Kept: the parameters one by one, as the definition `group_of` has them: only the limits differ between its two calls.
 fn group(nts: bool, version: HeaderVersion, p: &[u8], from: usize, to: usize, uid: [u8; 32]) -> Uid
     ensures { result ≡ group_of nts version p.now from to uid }
 {
     match version {
-        HeaderVersion::V3 => Uid::Absent,
-        HeaderVersion::V4 => {
-            if nts {
-                wire_groups::packet_uid(p, from, to, uid)
-            } else {
-                Uid::Absent
-            }
-        }
+        HeaderVersion::V4 if nts => wire_groups::packet_uid(p, from, to, uid),
+        _ => Uid::Absent,
     }
 }
 
@@ -172,36 +167,25 @@ fn encrypted(nts: bool, decrypted: &[u8], uid: [u8; 32]) -> Uid
 }
 
 // The value of a header and its groups.
+// Kept, 2: beside `DecodedReply::value`, where half of the fields are made in another way: one function for both would take them all as parameters.
+// Kept, 4: a pattern and no `==`: a derived `==` compares with a constant in memory, and the module for boards has none (boards/module.py refuses them).
 fn value(h: Header, authenticated: Uid, encrypted: Uid, untrusted: Uid) -> Reply
     ensures { result ≡ value_of h authenticated encrypted untrusted }
 {
-    let header_version = h.version;
-    let version = header_version.number();
-    let header_leap = h.leap;
-    let leap = leap_of(header_leap);
-    let mode = h.mode;
-    let server = is_server(mode);
-    let poll = h.poll;
-    let rootdelay = NtpDuration::from_short(h.rootdelay);
-    let rootdisp = NtpDuration::from_short(h.rootdisp);
-    let refid = h.refid;
-    let receive = h.receive;
-    let transmit = h.transmit;
-    let kisses = h.kisses();
     Reply {
-        version,
-        leap,
-        server,
+        version: h.version.number(),
+        leap: NtpLeapIndicator::from(h.leap),
+        server: matches!(h.mode, Mode::Server),
         stratum: h.stratum,
-        poll,
+        poll: h.poll,
         precision: h.precision,
-        rootdelay,
-        rootdisp,
-        refid,
+        rootdelay: NtpDuration::from_short(h.rootdelay),
+        rootdisp: NtpDuration::from_short(h.rootdisp),
+        refid: h.refid,
         origin: h.origin.0,
-        receive,
-        transmit,
-        kisses,
+        receive: h.receive,
+        transmit: h.transmit,
+        kisses: h.kisses(),
         authenticated,
         encrypted,
         untrusted,
@@ -210,75 +194,50 @@ fn value(h: Header, authenticated: Uid, encrypted: Uid, untrusted: Uid) -> Reply
 
 // The byte form of a reply: the packet, its authenticated end, and the decrypted fields.
 // promise: 7.7, 8.3
+#[tactic(auto, unfolding(crate::specs::Incoming::read_of, crate::specs::Incoming::bytes_read))]
 pub fn read_reply(
     nts: bool,
     uid: [u8; 32],
     packet: &[u8],
     end: usize,
     decrypted: &[u8],
-) -> ReplyRead
+) -> Option<Reply>
     ensures { result ≡ read_of nts uid packet.now end decrypted.now }
 {
-    let HeaderRead::Decoded(h) = wire_header::read_header(packet) else {
-        return ReplyRead::Undecodable;
-    };
-    let version = h.version;
-    if !end_valid(version, packet, end) {
-        return ReplyRead::Undecodable;
+    let h = wire_header::read_header(packet)?;
+    if !end_valid(h.version, packet, end) || !decrypted_valid(nts, decrypted) {
+        return None;
     }
-    if !decrypted_valid(nts, decrypted) {
-        return ReplyRead::Undecodable;
-    }
-    let authenticated = group(nts, version, packet, HEADER_BYTES, end, uid);
+    let authenticated = group(nts, h.version, packet, HEADER_BYTES, end, uid);
     let encrypted = encrypted(nts, decrypted, uid);
-    let untrusted = group(nts, version, packet, end, packet.len(), uid);
-    ReplyRead::Decoded(value(h, authenticated, encrypted, untrusted))
-}
-
-fn is_response(mode: DecodedMode) -> bool
-    ensures { result ≡ is_response mode }
-{
-    match mode {
-        DecodedMode::Request => false,
-        DecodedMode::Response => true,
-    }
+    let untrusted = group(nts, h.version, packet, end, packet.len(), uid);
+    Some(value(h, authenticated, encrypted, untrusted))
 }
 
 impl DecodedReply {
     // The value of a decoded reply. Its version is 5.
+    // Kept, 2 and 4: as at the `value` of a header.
     // promise: 9.2
     pub fn value(self) -> Reply
         ensures { result ≡ decoded_of self }
     {
-        let leap = self.leap;
-        let mode = self.mode;
-        let server = is_response(mode);
-        let poll = self.poll;
-        let rootdelay = self.rootdelay;
-        let rootdisp = self.rootdisp;
-        let receive = self.receive;
-        let transmit = self.transmit;
-        let kisses = self.kisses;
-        let authenticated = self.authenticated;
-        let encrypted = self.encrypted;
-        let untrusted = self.untrusted;
         Reply {
             version: 5,
-            leap,
-            server,
+            leap: self.leap,
+            server: matches!(self.mode, DecodedMode::Response),
             stratum: self.stratum,
-            poll,
+            poll: self.poll,
             precision: self.precision,
-            rootdelay,
-            rootdisp,
+            rootdelay: self.rootdelay,
+            rootdisp: self.rootdisp,
             refid: ReferenceId::none(),
             origin: self.cookie,
-            receive,
-            transmit,
-            kisses,
-            authenticated,
-            encrypted,
-            untrusted,
+            receive: self.receive,
+            transmit: self.transmit,
+            kisses: self.kisses,
+            authenticated: self.authenticated,
+            encrypted: self.encrypted,
+            untrusted: self.untrusted,
         }
     }
 }

@@ -2,11 +2,11 @@
 -- Assumes nothing.
 use mathlib.Core.Path.{sym, ◌∙◌}
 use Rattle.words.specs.Determined.{Determined, DeterminedLent}
-use Rattle.wire_request.proofs.Requested.number.Reads as number
+use Rattle.wire_request.proofs.RequestRefusalRefusal.number.Reads as number
 use Rattle.wire_request.proofs.write_request.Reads as write-request
+
+pub write_request_determined : DeterminedLent write-request.Post (λ κs e. e.1.1.1.1.0.now)
+write_request_determined κs a y z e f p q = (p.0 ∙ sym q.0, p.1 ∙ sym q.1)
 
 pub number_determined : Determined number.Post
 number_determined κs a y z e f p q = p ∙ sym q
-
-pub write_request_determined : DeterminedLent write-request.Post (λ κs e. e.1.1.1.1.1.1.1.0.now)
-write_request_determined κs a y z e f p q = (p.0 ∙ sym q.0, p.1 ∙ sym q.1)

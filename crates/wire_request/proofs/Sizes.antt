@@ -2,15 +2,15 @@
 -- Assumes nothing.
 use mathlib.Core.Path.{◌≡◌, refl, sym, ap, subst, ◌∙◌}
 use mathlib.Core.Bool.{true, ◌&&◌}
-use mathlib.Core.List.{List, ◌++◌, append_assoc}
+use mathlib.Core.List.{List, ◌++◌}
 use Prim.Native.Nat.{ℕ, suc, ◌+◌, ◌-◌, ◌*◌, ◌%◌, ◌≤◌}
 use native.Mathlib.Nat.{suc-mul, mul-le-mul}
 use native.Mathlib.Omega.{arith}
 use lib.Dec.{leb}
 use lib.ListN.{length, drop, replicate, length-append}
 use borrow.Author.Tests.{leb-true}
-use Rattle.words.specs.Put.{laid_at}
-use Rattle.words.proofs.Put.{laid_on, laid_over}
+use borrow.Rule.Slice.PartMut.{put_mid}
+use Rattle.words.proofs.Put.{laid_over}
 use Rattle.words.proofs.Tests.{both}
 use Rattle.wire_header.specs.declared.Header.{Header}
 use Rattle.wire_header.specs.Header.{bytes_of}
@@ -18,7 +18,7 @@ use Rattle.wire_groups.specs.Matching.{uid_kind}
 use Rattle.wire_collector.specs.Collector.{cookie_kind}
 use Rattle.wire_request.specs.Extension.{extension, field_length, extension_bytes, all_bytes}
 use Rattle.wire_request.specs.Request.{ask_valid, carrying, placeholder, fields_for, with_fields}
-use Rattle.wire_request.proofs.Placing.{length_extension, length_placeholders}
+use Rattle.wire_request.proofs.Placing.{length_extension, length_placeholders, pair_put, covered}
 
 -- ---- a field's length: it covers head and body, is at least 16 and a multiple of four
 
@@ -72,6 +72,10 @@ module _ (uid cookie : List ℕ) (asked : ℕ) (size : length uid ≡ 32) (some 
   length_carrying : (kind : ℕ) (body : List ℕ) → length (extension_bytes (carrying kind body)) ≡ field_length (length body)
   length_carrying kind body = length_extension kind (field_length (length body)) body (field_covers (length body))
 
+  uid_size : 36 ≡ field_length (length uid)
+  unfolding field_length
+  uid_size = sym (ap field_length size)
+
   uid_long : length (extension_bytes (carrying uid_kind uid)) ≡ 36
   unfolding field_length
   uid_long = length_carrying uid_kind uid ∙ ap field_length size
@@ -96,27 +100,25 @@ module _ (uid cookie : List ℕ) (asked : ℕ) (size : length uid ≡ 32) (some 
         first_and_rest asked len some,
       )
 
-  -- put one behind the other, where n is the cookie field's length
+  -- they fill their slice, where n is the cookie field's length
   abbrev FieldsPlaced : ℕ → Type 0
   FieldsPlaced n =
-      (out a b c : List ℕ) → 84 + asked * n ≤ length out
-      → a ≡ laid_at out 48 (extension_bytes (extension uid_kind 36 uid))
-      → b ≡ laid_at a 84 (extension_bytes (extension cookie_kind n cookie))
-      → c ≡ laid_at b (84 + n) (all_bytes (replicate (asked - 1) (placeholder n)))
-      → c ≡ laid_at out 48 (all_bytes (fields_for uid cookie asked))
+      (out x y z : List ℕ) (j m : ℕ) → length out ≡ 36 + asked * n
+      → x ≡ extension_bytes (extension uid_kind 36 uid)
+      → y ≡ extension_bytes (extension cookie_kind n cookie)
+      → z ≡ all_bytes (replicate (asked - 1) (placeholder n))
+      → j ≡ 36 + n - 36 → m ≡ length (put_mid 36 j (x ++ drop 36 out) y) - (36 + n)
+      → put_mid (36 + n) m (put_mid 36 j (x ++ drop 36 out) y) z ≡ all_bytes (fields_for uid cookie asked)
 
   at_len : FieldsPlaced len
-  unfolding fields_for others field_length
-  at_len out a b c room ea eb ec =
+  unfolding fields_for others
+  at_len out x y z j m room ex ey ez ej em =
       let u = extension_bytes (carrying uid_kind uid) in
       let k = extension_bytes (carrying cookie_kind cookie) in
-      let both_long : length (u ++ k) ≡ 36 + len = length-append u k ∙ omega (arith, uid_long, length_carrying cookie_kind cookie) in
       let rest = first_and_rest asked len some in
-      let first : a ≡ laid_at out 48 u = ea ∙ ap (λ (n : ℕ). laid_at out 48 (extension_bytes (extension uid_kind n uid))) (sym (ap field_length size)) in
-      let at : 84 ≡ 48 + length u = omega (arith, uid_long) in
-      let second : b ≡ laid_at out 48 (u ++ k) = eb ∙ rw (at, first) (laid_on out 48 u (omega (arith, uid_long)) k) in
-      let next : 84 + len ≡ 48 + length (u ++ k) = omega (arith, both_long) in
-      ec ∙ rw (next, second) (laid_on out 48 (u ++ k) (omega (arith, both_long, rest)) others) ∙ ap (laid_at out 48) (append_assoc u k others)
+      let first : x ≡ u = ex ∙ ap (λ (n : ℕ). extension_bytes (extension uid_kind n uid)) uid_size in
+      let second : 36 + length k ≡ 36 + len = ap (λ (n : ℕ). 36 + n) (length_carrying cookie_kind cookie) in
+      covered out u k x y 36 (36 + len) j uid_long second (omega (arith, rest)) first ey ej others z m (omega (arith, rest, others_long)) ez em
 
   pub fields_placed : (n : ℕ) → n ≡ len → FieldsPlaced n
   fields_placed n e = subst FieldsPlaced (sym e) at_len
@@ -128,12 +130,12 @@ module _ (uid cookie : List ℕ) (asked : ℕ) (size : length uid ≡ 32) (some 
     unfolding with_fields
     length_packet = length-append front (all_bytes (fields_for uid cookie asked)) ∙ omega (arith, length_fields)
 
-    pub packet_placed : (n : ℕ) → n ≡ len → (out a b : List ℕ) → 84 + asked * n ≤ length out
-        → a ≡ laid_at out 0 front → b ≡ laid_at a 48 (all_bytes (fields_for uid cookie asked)) →
-        b ≡ with_fields front uid cookie asked ++ drop (84 + asked * n) out
+    pub packet_placed : (n : ℕ) → n ≡ len → (out x y : List ℕ) (j : ℕ) → 84 + asked * n ≤ length out
+        → x ≡ front → y ≡ all_bytes (fields_for uid cookie asked) → j ≡ 84 + asked * n - 48
+        → put_mid 48 j (x ++ drop 48 out) y ≡ with_fields front uid cookie asked ++ drop (84 + asked * n) out
     unfolding with_fields
-    packet_placed n e out a b room ea eb =
+    packet_placed n e out x y j room ex ey ej =
         let fs = all_bytes (fields_for uid cookie asked) in
-        let at : 48 ≡ 0 + length front = omega (arith, head) in
+        let size : 48 + length fs ≡ 84 + asked * n = rw e (omega (arith, length_fields)) in
         let long : length (front ++ fs) ≡ 84 + asked * n = length_packet ∙ rw e in
-        eb ∙ rw (ea, at) (laid_on out 0 front (omega (arith, head)) fs) ∙ laid_over out (front ++ fs) ∙ rw long
+        pair_put out front fs x y 48 (84 + asked * n) j head size room ex ey ej ∙ laid_over out (front ++ fs) ∙ rw long

@@ -3,13 +3,14 @@
 // Rule: RULES, No. 1; definitions in specs/Request.antt, specs/Extension.antt and specs/Answer.antt.
 #![tactic(auto)]
 
-ghost use Rattle.std.specs.Prelude.{◌≡◌, true, ◌+◌, ◌*◌, ◌-◌, ◌≤◌, ◌<◌, length, replicate};
+ghost use Rattle.std.specs.Prelude.{◌≡◌, true, ◌+◌, ◌*◌, ◌-◌, ◌≤◌, ◌<◌, length, replicate, Err};
+ghost use Rattle.std.proofs.Common.{rules};
 ghost use Rattle.words.specs.Put.{laid_at};
-ghost use Rattle.wire_header.specs.Header.{bytes_of};
 ghost use Rattle.wire_request.specs.Extension.{extension, filled, field_length, extension_bytes, all_bytes};
 ghost use Rattle.wire_request.specs.Request.{is_v5, has_nts, ask_valid, reftime_of, header_for, placeholder, fields_for, with_fields};
 ghost use Rattle.wire_request.specs.Answer.{number_of, answer_for, buffer_for, request_of, buffer_of};
 
+use answers::Refusal;
 use cookielist::MAX_COOKIE;
 use identifiers::ReferenceId;
 use time_types::{NtpTimestamp, PollInterval};
@@ -32,64 +33,85 @@ const IN_FRONT: usize = 84;
 // The most new cookies that a request may ask for.
 const MAX_ASKED: u8 = 8;
 
-// The length of the packet that was written, or why nothing was written.
+// What a poll sends, but for the fields of NTS.
 #[derive(Clone, Copy)]
-pub enum Requested {
-    Written(usize),
+pub struct Request {
+    pub kind: SendKind,
+    pub poll: PollInterval,
+    // The random 64 bits that a true reply repeats.
+    pub id: u64,
+    // What an upgrade request has for its reference timestamp.
+    pub upgrademark: u64,
+}
+
+// Why nothing was written.
+#[derive(Clone, Copy, PartialEq, Eq)]
+pub enum RequestRefusal {
     VersionFive,
     ShortBuffer,
     CookieOrCount,
 }
 
-impl Requested {
+impl Refusal for RequestRefusal {
+    ghost number_of = { λ refusal. number_of (Err refusal) };
+
     // The number of the answer, in RULES.
     // promise: no1.5
-    pub fn number(self) -> u8
-        ensures { result ≡ number_of self }
-    {
+    fn number(self) -> u8 {
         match self {
-            Requested::Written(_) => 0,
-            Requested::VersionFive => 50,
-            Requested::ShortBuffer => 51,
-            Requested::CookieOrCount => 52,
+            RequestRefusal::VersionFive => 50,
+            RequestRefusal::ShortBuffer => 51,
+            RequestRefusal::CookieOrCount => 52,
         }
     }
+
+    ghost never_zero = { Prim.search rules };
 }
 
 fn is_v5(kind: SendKind) -> bool
     ensures { result ≡ is_v5 kind }
 {
-    match kind {
-        SendKind::V4 => false,
-        SendKind::V4Upgrade => false,
-        SendKind::V5 => true,
-        SendKind::NtsV4 => false,
-        SendKind::NtsV5 => true,
-    }
+    matches!(kind, SendKind::V5 | SendKind::NtsV5)
 }
 
+// Kept: this and `is_v5` are no methods of `SendKind`: it belongs to crate `version`, and a method there could not cite the definitions of this crate.
 fn has_nts(kind: SendKind) -> bool
     ensures { result ≡ has_nts kind }
 {
-    match kind {
-        SendKind::V4 => false,
-        SendKind::V4Upgrade => false,
-        SendKind::V5 => false,
-        SendKind::NtsV4 => true,
-        SendKind::NtsV5 => true,
-    }
+    matches!(kind, SendKind::NtsV4 | SendKind::NtsV5)
 }
 
-// The reference timestamp: the mark in an upgrade request, zero in any other.
-fn reftime(kind: SendKind, upgrademark: u64) -> u64
-    ensures { result ≡ reftime_of kind upgrademark }
-{
-    match kind {
-        SendKind::V4 => 0,
-        SendKind::V4Upgrade => upgrademark,
-        SendKind::V5 => 0,
-        SendKind::NtsV4 => 0,
-        SendKind::NtsV5 => 0,
+impl Request {
+    // The reference timestamp: the mark in an upgrade request, zero in any other.
+    fn reftime(self) -> u64
+        ensures { result ≡ reftime_of self.kind self.upgrademark }
+    {
+        match self.kind {
+            SendKind::V4Upgrade => self.upgrademark,
+            _ => 0,
+        }
+    }
+
+    // Its transmit timestamp is not the time but the random identifier: nobody can guess it, and a true reply repeats it.
+    #[tactic(auto, unfolding(crate::specs::Request::header_for))]
+    fn header(self) -> Header
+        ensures { result ≡ header_for self.kind self.poll self.id self.upgrademark }
+    {
+        Header {
+            version: HeaderVersion::V4,
+            leap: Leap::NoWarning,
+            mode: Mode::Client,
+            stratum: 0,
+            poll: self.poll,
+            precision: 0,
+            rootdelay: 0,
+            rootdisp: 0,
+            refid: ReferenceId(0),
+            reftime: NtpTimestamp(self.reftime()),
+            origin: NtpTimestamp(0),
+            receive: NtpTimestamp(0),
+            transmit: NtpTimestamp(self.id),
+        }
     }
 }
 
@@ -97,151 +119,108 @@ fn reftime(kind: SendKind, upgrademark: u64) -> u64
 fn ask_valid(len: usize, asked: u8) -> bool
     ensures { result ≡ ask_valid len asked }
 {
-    if len <= MAX_COOKIE {
-        if 1 <= asked {
-            asked <= MAX_ASKED
-        } else {
-            false
-        }
-    } else {
-        false
-    }
+    len <= MAX_COOKIE && 1 <= asked && asked <= MAX_ASKED
 }
 
 // How long the field of a body is: a multiple of four, and at least 16.
+#[tactic(auto, unfolding(crate::specs::Extension::field_length))]
 fn field_length(len: usize) -> usize
     requires { len ≤ 724 }
     ensures { result ≡ field_length len }
 {
-    let long = (HEAD + len + 3) / 4 * 4;
-    if long < 16 { 16 } else { long }
+    ((HEAD + len + 3) / 4 * 4).max(16)
 }
 
-// The header of a request. Its transmit timestamp is not the time but the random identifier: nobody can guess it, and a true reply repeats it.
-fn request_header(kind: SendKind, poll: PollInterval, id: u64, upgrademark: u64) -> Header
-    ensures { result ≡ header_for kind poll id upgrademark }
+// Fills a slice with a field: its type and its length, its body, and zeros.
+fn put_field(field: &mut [u8], kind: u16, body: &[u8])
+    requires { (length body.now + 4 ≤ length field.old) × (length field.old < 65536) }
+    ensures { field.new ≡ extension_bytes (extension kind (length field.old) body.now) }
 {
-    Header {
-        version: HeaderVersion::V4,
-        leap: Leap::NoWarning,
-        mode: Mode::Client,
-        stratum: 0,
-        poll,
-        precision: 0,
-        rootdelay: 0,
-        rootdisp: 0,
-        refid: ReferenceId(0),
-        reftime: NtpTimestamp(reftime(kind, upgrademark)),
-        origin: NtpTimestamp(0),
-        receive: NtpTimestamp(0),
-        transmit: NtpTimestamp(id),
+    let head = words::be16_pair(kind, field.len() as u16);
+    let end = HEAD + body.len();
+    field[..HEAD].copy_from_slice(&head);
+    field[HEAD..end].copy_from_slice(body);
+    field[end..].fill(0);
+}
+
+// Fills a slice with n placeholders of a length, one after another.
+fn put_placeholders(fields: &mut [u8], len: usize, n: usize)
+    requires { (length fields.old ≡ n * len) × (4 ≤ len) × (len < 65536) }
+    ensures { fields.new ≡ all_bytes (replicate n (placeholder len)) }
+{
+    // Kept: the offset by a product: `chunks_exact_mut` divides, and the small board has no divider (RULES, No. 4).
+    for i in 0..n {
+        let at = i * len;
+        put_field(&mut fields[at..at + len], PLACEHOLDER_KIND, b"");
     }
 }
 
-// Writes bytes, then zeros, n bytes in all, from an offset on.
-fn put_filled(out: &mut [u8], at: usize, bytes: &[u8], n: usize)
-    requires { (at + n ≤ length out.old) × (length bytes.now ≤ n) }
-    ensures { out.new ≡ laid_at out.old at (filled n bytes.now) }
+// Fills a slice with the fields after the header; `len` is the length of the cookie's field.
+fn put_fields(fields: &mut [u8], uid: [u8; 32], cookie: &[u8], len: usize, asked: usize)
+    requires { (length fields.old ≡ 36 + asked * len) × (len ≡ field_length (length cookie.now)) × (length cookie.now ≤ 724) × (1 ≤ asked) }
+    ensures { fields.new ≡ all_bytes (fields_for uid cookie.now asked) }
 {
-    let to = words::lay(out, at, bytes);
-    let rest = n - bytes.len();
-    let mut i = 0;
-    while i < rest {
-        out[to + i] = 0;
-        i += 1;
-    }
-}
-
-// Writes a field of this length, head included, with its body filled up with zeros. Returns the offset after it.
-fn put_field(out: &mut [u8], at: usize, kind: u16, len: usize, body: &[u8]) -> usize
-    requires { (at + len ≤ length out.old) × (length body.now + 4 ≤ len) × (len < 65536) }
-    ensures { (result ≡ at + len) × (out.new ≡ laid_at out.old at (extension_bytes (extension kind len body.now))) }
-{
-    let to = words::lay(out, at, &words::be16_pair(kind, len as u16));
-    put_filled(out, to, body, len - HEAD);
-    at + len
-}
-
-// Writes n placeholders of a length, one after another. Returns the offset after them.
-fn put_placeholders(out: &mut [u8], first: usize, len: usize, n: usize) -> usize
-    requires { (first + n * len ≤ length out.old) × (4 ≤ len) × (len < 65536) }
-    ensures { (result ≡ first + n * len) × (out.new ≡ laid_at out.old first (all_bytes (replicate n (placeholder len)))) }
-{
-    let mut at = first;
-    let mut i = 0;
-    while i < n {
-        at = put_field(out, at, PLACEHOLDER_KIND, len, b"");
-        i += 1;
-    }
-    at
-}
-
-fn header_bytes(kind: SendKind, poll: PollInterval, id: u64, upgrademark: u64) -> [u8; 48]
-    ensures { result ≡ bytes_of (header_for kind poll id upgrademark) }
-{
-    wire_header::write_header(request_header(kind, poll, id, upgrademark))
-}
-
-// Writes the fields after the header; `len` is the length of the cookie's field. Returns the offset after them.
-fn put_fields(out: &mut [u8], uid: [u8; 32], cookie: &[u8], len: usize, asked: usize) -> usize
-    requires { (84 + asked * len ≤ length out.old) × (len ≡ field_length (length cookie.now)) × (length cookie.now ≤ 724) × (1 ≤ asked) }
-    ensures { (result ≡ 84 + asked * len) × (out.new ≡ laid_at out.old 48 (all_bytes (fields_for uid cookie.now asked))) }
-{
-    let first = put_field(out, HEADER_BYTES, UID_KIND, UID_FIELD, &uid);
-    let second = put_field(out, first, COOKIE_KIND, len, cookie);
-    put_placeholders(out, second, len, asked - 1)
+    let end = UID_FIELD + len;
+    put_field(&mut fields[..UID_FIELD], UID_KIND, &uid);
+    put_field(&mut fields[UID_FIELD..end], COOKIE_KIND, cookie);
+    put_placeholders(&mut fields[end..], len, asked - 1);
 }
 
 // Writes a packet that is only a header.
-fn write_plain(front: [u8; 48], out: &mut [u8]) -> Requested
+fn write_plain(front: [u8; 48], out: &mut [u8]) -> Result<usize, RequestRefusal>
     ensures { (result ≡ answer_for front out.old) × (out.new ≡ buffer_for front out.old) }
 {
     if out.len() < HEADER_BYTES {
-        return Requested::ShortBuffer;
+        return Err(RequestRefusal::ShortBuffer);
     }
-    words::lay(out, 0, &front);
-    Requested::Written(HEADER_BYTES)
+    out[..HEADER_BYTES].copy_from_slice(&front);
+    Ok(HEADER_BYTES)
 }
 
 // Writes a packet of a header and the fields of NTS.
-fn write_nts(front: [u8; 48], uid: [u8; 32], cookie: &[u8], asked: u8, out: &mut [u8]) -> Requested
+fn write_nts(
+    front: [u8; 48],
+    uid: [u8; 32],
+    cookie: &[u8],
+    asked: u8,
+    out: &mut [u8],
+) -> Result<usize, RequestRefusal>
     requires { ask_valid (length cookie.now) asked ≡ true }
     ensures { (result ≡ answer_for (with_fields front uid cookie.now asked) out.old) ×
         (out.new ≡ buffer_for (with_fields front uid cookie.now asked) out.old) }
 {
     let len = field_length(cookie.len());
-    let new = asked as usize;
-    if out.len() < IN_FRONT + new * len {
-        return Requested::ShortBuffer;
+    let new = usize::from(asked);
+    let long = IN_FRONT + new * len;
+    if out.len() < long {
+        return Err(RequestRefusal::ShortBuffer);
     }
-    words::lay(out, 0, &front);
-    Requested::Written(put_fields(out, uid, cookie, len, new))
+    out[..HEADER_BYTES].copy_from_slice(&front);
+    put_fields(&mut out[HEADER_BYTES..long], uid, cookie, len, new);
+    Ok(long)
 }
 
-// Writes the request to the start of the buffer. In order: 50, with NTS 52, 51, the packet.
+// Writes the request to the start of the buffer, and returns its length. In order: 50, with NTS 52, 51, the packet.
 // promise: no1.1, no1.2, no1.3, no1.4, no1.5
 pub fn write_request(
-    kind: SendKind,
-    poll: PollInterval,
-    id: u64,
-    upgrademark: u64,
+    request: Request,
     uid: [u8; 32],
     cookie: &[u8],
     asked: u8,
     out: &mut [u8],
-) -> Requested
-    ensures { (result ≡ request_of kind poll id upgrademark uid cookie.now asked (length out.old)) ×
-        (out.new ≡ buffer_of kind poll id upgrademark uid cookie.now asked out.old) }
+) -> Result<usize, RequestRefusal>
+    ensures { (result ≡ request_of request.kind request.poll request.id request.upgrademark uid cookie.now asked (length out.old)) ×
+        (out.new ≡ buffer_of request.kind request.poll request.id request.upgrademark uid cookie.now asked out.old) }
 {
-    if is_v5(kind) {
-        return Requested::VersionFive;
+    if is_v5(request.kind) {
+        return Err(RequestRefusal::VersionFive);
     }
-    let front = header_bytes(kind, poll, id, upgrademark);
-    if has_nts(kind) {
-        if !ask_valid(cookie.len(), asked) {
-            return Requested::CookieOrCount;
-        }
-        return write_nts(front, uid, cookie, asked, out);
+    let front = wire_header::write_header(request.header());
+    if !has_nts(request.kind) {
+        return write_plain(front, out);
     }
-    write_plain(front, out)
+    if !ask_valid(cookie.len(), asked) {
+        return Err(RequestRefusal::CookieOrCount);
+    }
+    write_nts(front, uid, cookie, asked, out)
 }

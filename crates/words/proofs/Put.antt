@@ -2,11 +2,11 @@
 -- Assumes nothing.
 use Prim.Native.Nat.{ℕ, ◌+◌, ◌-◌, ◌≤◌, ◌<◌}
 use mathlib.Core.Path.{◌≡◌, refl, sym, ap, subst, ◌∙◌}
-use mathlib.Core.Bool.{Bool, true, false}
+use mathlib.Core.Bool.{false}
 use mathlib.Core.List.{List, [], ◌++◌, append_assoc}
 use native.Mathlib.Nat.{zero-add}
 use native.Mathlib.Omega.{arith}
-use borrow.Author.Tests.{le-leb, lt-leb, leb-true, leb-false}
+use borrow.Author.Tests.{le-leb, lt-leb}
 use borrow.Rule.Slice.PartMut.{put_mid}
 use lib.Dec.{leb}
 use lib.ListN.{length, take, drop, length-append, length-drop, take-append-drop}
@@ -88,14 +88,6 @@ module _ (out : List ℕ) (at : ℕ) (w : List ℕ) where
   laid_put {r = r} {left = left} e h =
       let k : laid r left ≡ laid (at + length w) (laid_at out at w) = e ∙ rw (le-leb (at + length w) (length out) h) in
       record { ends = ap (λ (l : Laid). l.ends) k; leaves = ap (λ (l : Laid). l.left) k }
-
--- the test of a room: so many bytes, and then the offset
-pub fits_by : (at n room : ℕ) → n ≤ room → leb at (room - n) ≡ leb (at + n) room
-fits_by at n room h = by (leb (at + n) room) refl
-  where
-    by : (b : Bool) → leb (at + n) room ≡ b → leb at (room - n) ≡ b
-    by true p = le-leb at (room - n) (omega (arith, leb-true (at + n) room p))
-    by false p = lt-leb at (room - n) (omega (arith, leb-false (at + n) room p))
 
 -- ---- a list L, of which the first `to` bytes are in the buffer, goes on with R
 

@@ -5,6 +5,4 @@ use Rattle.calendar.proofs.Adding.{step}
 use Rattle.calendar.proofs.add.Goals as goal
 
 pub loop-m-preserved : goal.loop-m-preserved
-loop-m-preserved c =
-    let l = c.loop-m in
-    step _ _ c.requires.1 _ _ _ l.invariant (omega arith)
+loop-m-preserved c = step _ _ c.requires.0 _ _ _ c.loop-m.invariant (omega arith)

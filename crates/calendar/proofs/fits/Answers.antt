@@ -6,11 +6,11 @@ use Rattle.calendar.proofs.fits.Goals as goal
 
 pub returns-then-cap-loads : goal.returns-then-cap-loads
 returns-then-cap-loads c =
-    sym (is_taken _ _ _ _ c.requires.1 _ c.loop-m.invariant c.if-cap-loads.true c.loop-m-test.true)
+    sym (is_taken _ _ _ _ c.requires.0 _ c.loop-m.invariant c.if-cap-loads.true c.loop-m-test.true)
 
 pub loop-m-preserved : goal.loop-m-preserved
 loop-m-preserved c =
-    step _ _ _ _ c.requires.1 _ c.loop-m.invariant c.if-cap-loads.false
+    step _ _ _ _ c.requires.0 _ c.loop-m.invariant c.if-cap-loads.false
 
 pub returns : goal.returns
-returns c = sym (is_free _ _ _ _ c.requires.1 _ c.loop-m.invariant c.loop-m-test.false)
+returns c = sym (is_free _ _ _ _ c.requires.0 _ c.loop-m.invariant c.loop-m-test.false)

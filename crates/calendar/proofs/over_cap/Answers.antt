@@ -1,16 +1,16 @@
--- `over_cap` meets its contract. The invariant: no minute passed is above the cap.
+-- `over_cap` meets its contract: the search finds the lowest minute above the cap.
 -- Assumes nothing.
-use native.Mathlib.Omega.{arith}
-use mathlib.Core.Path.{sym}
-use borrow.Author.Tests.{lt-ltb}
-use Rattle.calendar.specs.declared.Found.TheVariants.{At, Nothing}
-use Rattle.calendar.proofs.Search.{is}
+use Rattle.std.proofs.Common.{rules, tests, ap, ◌∙◌}
+use lib.Dec.{ltb}
+use Rattle.std.proofs.lemmas.Iterator.{YieldsList-from_slice}
+use Rattle.std.proofs.lemmas.Iterator.Search.{position_from_yields_List}
+use Rattle.calendar.specs.Loads.{above}
+use Rattle.calendar.specs.Lowest.{lowest}
+use Rattle.calendar.proofs.Searching.{lowest_from_position}
 use Rattle.calendar.proofs.over_cap.Goals as goal
 
-pub returns-then-cap-loads : goal.returns-then-cap-loads
-returns-then-cap-loads c =
-    let l = c.loop-m in
-    sym (is _ _ (At l.m) (record { below = omega (arith, c.loop-m-test.true); passes = lt-ltb _ _ c.if-cap-loads.true; first = l.invariant }))
-
 pub returns : goal.returns
-returns c = sym (is _ _ Nothing (λ k h. c.loop-m.invariant k (omega arith)))
+returns c =
+    position_from_yields_List (λ load. ltb c.args.cap load) _ _ _ c.position.ensures.ran (YieldsList-from_slice _ c.iter.ensures.rest) (λ x b q k. search (rules, tests))
+    ∙ lowest_from_position (λ load. ltb c.args.cap load) c.args.loads.now 0
+    ∙ ap (lowest (above c.args.cap c.args.loads.now)) c.told-loads

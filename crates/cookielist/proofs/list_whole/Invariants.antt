@@ -1,12 +1,12 @@
--- `list_whole` meets its contract. The loop's invariant: what is read from `at` on decides. Assumes nothing.
-use Prim.Native.Nat.{◌≤◌, ◌-◌}
+-- `list_whole` meets its contract. The loop's invariant: what is left to be read decides. Assumes nothing.
 use mathlib.Core.Path.{◌≡◌}
 use lib.ListN.{length}
-use Rattle.cookielist.specs.List.{is_whole, cookies_from, cookies_in}
+use Rattle.cookielist.specs.List.{is_whole, cookies_in}
+use Rattle.cookielist.specs.Cookies.{cookies_left, ends_whole}
 use Rattle.cookielist.proofs.list_whole.Given as goal
 
-abbrev pub invariant-loop-end : goal.invariant-loop-end
-invariant-loop-end l = (l.at ≤ length l.list) × (is_whole (cookies_from l.list l.at) ≡ is_whole (cookies_in l.list))
+abbrev pub invariant-loop : goal.invariant-loop
+invariant-loop l = ends_whole l.cookies ≡ is_whole (cookies_in l.list)
 
-abbrev pub decreases-loop-end : goal.decreases-loop-end
-decreases-loop-end l = length l.list - l.at
+abbrev pub decreases-loop : goal.decreases-loop
+decreases-loop l = length (cookies_left l.cookies)

@@ -15,6 +15,6 @@ pub returns : goal.returns
 returns c =
     let f = c.args.f in
     let differs = c.if-f.false in
-    let e = c.entry-e.ensures in
+    let e = c.entry.ensures in
     let p = laid_put _ _ _ c.lay.ensures (omega (arith, c.requires, one_long f differs, ap length e, entry_long f)) in
-    one_put f differs c.entry-e.result e p
+    one_put f differs c.entry.result e p

@@ -15,5 +15,5 @@ returns c =
     let last = c.u8_as_i8 in
     let remote = c.u8_as_i8-2 in
     let is_last = to_z-of_z {w = w8} (record { sfits = last.type_inv }) ∙ last.ensures ∙ ap (signed (2 ^ 7)) c.byte_at.ensures in
-    let is-remote = to_z-of_z {w = w8} (record { sfits = remote.type_inv }) ∙ remote.ensures ∙ ap (signed (2 ^ 7)) c.byte_at-2.ensures in
-    λ i. record { last = interval (is_last i); remote = interval (is-remote i) }
+    let is_remote = to_z-of_z {w = w8} (record { sfits = remote.type_inv }) ∙ remote.ensures ∙ ap (signed (2 ^ 7)) c.byte_at-2.ensures in
+    λ i. record { last = interval (is_last i); remote = interval (is_remote i) }

@@ -17,17 +17,17 @@ unfolding settings_of
 returns c =
     let min = c.u8_as_i8 in
     let max = c.u8_as_i8-2 in
-    let is-min = to_z-of_z {w = w8} (record { sfits = min.type_inv }) ∙ min.ensures ∙ ap (signed (2 ^ 7)) c.byte_at.ensures in
-    let is-max = to_z-of_z {w = w8} (record { sfits = max.type_inv }) ∙ max.ensures ∙ ap (signed (2 ^ 7)) c.byte_at-2.ensures in
-    let is-kind = c.kind_of-kind.ensures ∙ (λ i. kind_of (c.byte_at-3.ensures i) (c.byte_at-4.ensures i)) in
+    let is_min = to_z-of_z {w = w8} (record { sfits = min.type_inv }) ∙ min.ensures ∙ ap (signed (2 ^ 7)) c.byte_at.ensures in
+    let is_max = to_z-of_z {w = w8} (record { sfits = max.type_inv }) ∙ max.ensures ∙ ap (signed (2 ^ 7)) c.byte_at-2.ensures in
+    let is_kind = c.kind_of.ensures ∙ (λ i. kind_of (c.byte_at-4.ensures i) (c.byte_at-5.ensures i)) in
     λ i. record {
-      min = interval (is-min i);
-      max = interval (is-max i);
-      startup = c.byte_at-startup.ensures i;
-      window = c.be64_at-window.ensures i;
-      upgrademark = c.be64_at-upgrademark.ensures i;
-      start = version (is-kind i);
-      nts = yes_of (c.byte_at-nts.ensures i);
+      min = interval (is_min i);
+      max = interval (is_max i);
+      startup = c.byte_at-3.ensures i;
+      window = c.be64_at.ensures i;
+      upgrademark = c.be64_at-2.ensures i;
+      start = version (is_kind i);
+      nts = yes_of (c.byte_at-6.ensures i);
       source = named (c.be32_at.ensures i);
-      capacity = c.capacity_at-capacity.ensures i;
+      capacity = c.capacity_at.ensures i;
     }

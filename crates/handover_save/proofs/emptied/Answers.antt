@@ -8,4 +8,4 @@ use Rattle.handover_save.proofs.emptied.Goals as goal
 
 pub returns : goal.returns
 unfolding empty_at new_of
-returns c = ap (λ (s : CookieStash). record { slots = s.slots; read = c.args.read; held = s.held }) c.new-s.ensures
+returns c = ap (λ (s : CookieStash). record { slots = s.slots; read = c.args.read; held = s.held }) c.new.ensures

@@ -1,21 +1,15 @@
-use mathlib.Core.Path.{sym, ◌∙◌}
-use Rattle.words.proofs.Tests.{passes, fails}
+-- `state_known` meets its contract: each code is tested where it stands in the head.
+-- Assumes nothing.
+use Rattle.std.proofs.lemmas.Bool.Decides.{nat_tests}
+use native.Mathlib.Omega.{arith}
 use Rattle.words.specs.Bytes.{part}
-use Rattle.record_bytes.specs.State.{state_known}
+use Rattle.record_bytes.proofs.Head.{known_parts}
 use Rattle.record_bytes.proofs.state_known.Goals as goal
 
-pub returns-then-source_known : goal.returns-then-source_known
-unfolding state_known part
-returns-then-source_known c =
-    c.pending_known.ensures ∙ sym (passes _ (sym c.version_known.ensures ∙ c.if-version_known.true)
-    ∙ passes _ (sym c.source_known.ensures ∙ c.if-source_known.true))
+pub returns-then-head-le1 : goal.returns-then-head-le1
+unfolding part
+returns-then-head-le1 c = rw (known_parts c.args.head.now) (grind (arith, nat_tests))
 
-pub returns-else-source_known : goal.returns-else-source_known
-unfolding state_known part
-returns-else-source_known c =
-    sym (passes _ (sym c.version_known.ensures ∙ c.if-version_known.true)
-    ∙ fails _ (sym c.source_known.ensures ∙ c.if-source_known.false))
-
-pub returns-else-version_known : goal.returns-else-version_known
-unfolding state_known part
-returns-else-version_known c = sym (fails _ (sym c.version_known.ensures ∙ c.if-version_known.false))
+pub returns-else-head-le1 : goal.returns-else-head-le1
+unfolding part
+returns-else-head-le1 c = rw (known_parts c.args.head.now) (grind (arith, nat_tests))

@@ -18,7 +18,7 @@ pub returns : goal.returns
 returns c =
     let args = c.args in
     let store-state = c.store_state in
-    let e = c.copy_from_slice.ensures.after ∙ c.settings_bytes-first.ensures in (
+    let e = c.copy_from_slice.ensures.after ∙ c.settings_bytes.ensures in (
       head_by args.b.now (omega (arith, c.if-b-lt-HEAD.false)) args.settings args.read _ e args.state _ store-state.ensures.0,
       settings_fit args.settings _ c.well_formed.1.0,
       store-state.ensures.1,

@@ -12,5 +12,5 @@ returns-then-b-lt-HEAD c =
 pub returns : goal.returns
 returns c =
     let args = c.args in
-    let e = c.copy_from_slice.ensures.after ∙ c.state_bytes-w.ensures in
+    let e = c.copy_from_slice.ensures.after ∙ c.state_bytes.ensures in
     (state_by args.b.now (omega (arith, c.if-b-lt-HEAD.false)) args.s _ e, state_fit args.s _ c.well_formed.1.0)

@@ -1,14 +1,10 @@
--- `metered` meets its contract: what `place` gave, by the law of both calls.
+-- `metered` meets its contract: what `carry_out` gave, of what the profile says.
 -- Assumes nothing.
-use Rattle.record_new.proofs.Made.{metered_told}
+use mathlib.Core.Path.{ap, ◌∙◌}
+use Rattle.record_new.proofs.Carried.{metered_carried, metered_told}
 use Rattle.record_new.proofs.metered.Goals as goal
-
-pub returns-then-placed : goal.returns-then-placed
-returns-then-placed c =
-    let a = c.args in
-    rw c.if-placed.true at (metered_told a.settings a.list.now a.b.now c.profile-said.ensures c.number.ensures c.place-placed.ensures)
 
 pub returns : goal.returns
 returns c =
     let a = c.args in
-    rw c.if-placed.false at (metered_told a.settings a.list.now a.b.now c.profile-said.ensures c.number.ensures c.place-placed.ensures)
+    c.carry_out.ensures ∙ ap (metered_carried a.settings a.list.now a.b.now) c.profile.ensures ∙ metered_told a.settings a.list.now a.b.now

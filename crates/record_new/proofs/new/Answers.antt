@@ -1,14 +1,10 @@
--- `new` meets its contract: what `place` gave, by the law of both calls.
+-- `new` meets its contract: what `carry_out` gave, of what was tested.
 -- Assumes nothing.
-use Rattle.record_new.proofs.Made.{new_told}
+use mathlib.Core.Path.{ap, ◌∙◌}
+use Rattle.record_new.proofs.Carried.{new_carried, new_told}
 use Rattle.record_new.proofs.new.Goals as goal
-
-pub returns-then-placed : goal.returns-then-placed
-returns-then-placed c =
-    let a = c.args in
-    rw c.if-placed.true at (new_told a.settings a.list.now a.b.now c.tested-said.ensures c.number.ensures c.place-placed.ensures)
 
 pub returns : goal.returns
 returns c =
     let a = c.args in
-    rw c.if-placed.false at (new_told a.settings a.list.now a.b.now c.tested-said.ensures c.number.ensures c.place-placed.ensures)
+    c.carry_out.ensures ∙ ap (new_carried a.settings a.list.now a.b.now) c.tested.ensures ∙ new_told a.settings a.list.now a.b.now

@@ -7,9 +7,8 @@ use Rattle.record_stash.proofs.fill_row.Goals as goal
 
 pub returns : goal.returns
 returns c =
-    let pre = c.requires in
     let row = c.args.row.now in
-    let kept = c.args.kept.now in
-    row_kept row kept c.args.len pre.0 pre.1 (length kept) refl _
+    let kept = c.args.kept.bytes.now in
+    row_kept row kept c.args.kept.len c.requires c.args.kept.fits (length kept) refl _
     (ap (λ (q : List ℕ). q ++ drop (length kept) row) c.copy_from_slice.ensures.after) _ c.clear.ensures _ c.be16_bytes-word.ensures _
     c.copy_from_slice-2.ensures.after

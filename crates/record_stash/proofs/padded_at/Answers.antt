@@ -14,4 +14,4 @@ pub returns : goal.returns
 returns c =
     let args = c.args in
     let pre = c.requires in
-    c.zeros_from-2.ensures ∙ rw c.stored_bytes.ensures (padded_is args.b.now args.at _ (args.at + 724 - args.at) pre.1 (omega arith))
+    c.zeros_from-2.ensures ∙ rw (c.stored_bytes.ensures, c.from.ensures) (padded_is args.b.now args.at _ (args.at + 724 - args.at) pre.1 (omega arith))

@@ -6,4 +6,4 @@ use Rattle.record_stash.proofs.seen_empty.Goals as goal
 pub returns : goal.returns
 returns c =
     let args = c.args in
-    seen_none args.capacity args.read 8 _ c.in_range.ensures
+    seen_none args.capacity args.read 8 _ (rw c.from.ensures at c.in_range.ensures)

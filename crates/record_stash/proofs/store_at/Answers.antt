@@ -10,6 +10,6 @@ returns c =
     let args = c.args in
     let pre = c.requires in
     let at = 92 + args.place * 726 in
-    becomes_by args.cap args.b.now pre.0 args.place pre.1 (kept_slot args.len args.kept.now)
-    (kept_fits args.len args.kept.now (omega arith) pre.4)
+    becomes_by args.cap args.b.now pre.0 args.place pre.1 (kept_slot args.kept.len args.kept.bytes.now)
+    (kept_fits args.kept.len args.kept.bytes.now (omega arith) args.kept.fits)
     args.read args.held at (at + 726 - at) refl (omega arith) _ c.fill_row.ensures

@@ -1,12 +1,8 @@
--- `store_list` meets its contract. The loop's invariant: with what is read from `at` on stored, the stash and the sums are what they are to be.
+-- `store_list` meets its contract. The loop's invariant: with the cookies that are left stored, the stash and the sums are what they are to be.
 -- Assumes nothing.
-use Prim.Native.Nat.{◌-◌}
-use lib.ListN.{length}
+use Rattle.cookielist.specs.Cookies.{cookies_left}
 use Rattle.record_stash.proofs.Along.{Along}
 use Rattle.record_stash.proofs.store_list.Given as goal
 
-abbrev pub invariant-loop-start : goal.invariant-loop-start
-invariant-loop-start l = Along l.capacity l.initial.b l.b l.list l.at l.dropped
-
-abbrev pub decreases-loop-start : goal.decreases-loop-start
-decreases-loop-start l = length l.list - l.at
+abbrev pub invariant-loop-cookie : goal.invariant-loop-cookie
+invariant-loop-cookie l = Along l.capacity l.initial.b l.list l.b (cookies_left l.cookie-iterator) l.dropped

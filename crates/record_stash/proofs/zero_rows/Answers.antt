@@ -1,18 +1,16 @@
--- `zero_rows` meets its contract. The loop's invariant: what was scanned and what lies ahead decide together.
--- Assumes nothing.
-use Prim.Native.Nat.{◌+◌}
-use mathlib.Core.Path.{sym, ap, ◌∙◌}
-use mathlib.Core.Bool.{Bool, ◌&&◌}
-use native.Mathlib.Omega.{arith}
-use lib.ListN.{drop}
-use Rattle.words.specs.Bytes.{zeros}
-use Rattle.record_stash.proofs.Blank.{zeros_more}
+-- `zero_rows` meets its contract. Assumes nothing.
+use mathlib.Core.Path.{sym, ◌∙◌}
+use Rattle.record_stash.proofs.Blank.{zeros_on}
 use Rattle.record_stash.proofs.zero_rows.Goals as goal
 
-pub loop-at-preserved : goal.loop-at-preserved
-loop-at-preserved c =
-    let loop = c.loop-at in
-    let b = c.args.b.now in
-    let ahead : Bool → Bool = λ t. t && zeros (drop (loop.at + 1452) b) in
-    let more = zeros_more b loop.at (loop.at + 1452) loop.all c.zeros_from.result (omega arith) c.zeros_from.ensures in
-    (omega arith, loop.invariant.1 ∙ more ∙ ap ahead (sym c.both-all.ensures))
+pub returns-then-not-zeros_from : goal.returns-then-not-zeros_from
+returns-then-not-zeros_from c =
+    let s = c.in-Some.ensures.cases in
+    let e = sym c.zeros_from.ensures ∙ c.if-not-zeros_from.true in
+    sym (sym c.loop-pair.invariant ∙ zeros_on 1452 _ _ _ s.0 s.1 ∙ rw e)
+
+pub loop-pair-preserved : goal.loop-pair-preserved
+loop-pair-preserved c =
+    let s = c.in-Some.ensures.cases in
+    let e = sym c.zeros_from.ensures ∙ c.if-not-zeros_from.false in
+    sym (zeros_on 1452 _ _ _ s.0 s.1 ∙ rw e) ∙ c.loop-pair.invariant

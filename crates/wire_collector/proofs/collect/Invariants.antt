@@ -1,12 +1,8 @@
--- `wire_collector::collect` meets its contract. The invariant: the first bytes of the list are in the buffer, and its rest is that of the rest of the walk.
+-- `wire_collector::collect` meets its contract. The invariant: the first bytes of the list are in the buffer, and its rest is still to come.
 -- Assumes nothing.
-use Prim.Native.Nat.{◌-◌}
-use lib.ListN.{length}
-use Rattle.wire_collector.proofs.Records.{Along}
+use Rattle.wire_fields.specs.Fields.{fields_left}
+use Rattle.wire_collector.proofs.Records.{list_left, Along}
 use Rattle.wire_collector.proofs.collect.Given as goal
 
-abbrev pub invariant-loop-kind : goal.invariant-loop-kind
-invariant-loop-kind l = Along l.decrypted l.initial.out l.out l.at l.to
-
-abbrev pub decreases-loop-kind : goal.decreases-loop-kind
-decreases-loop-kind l = length l.decrypted - l.at
+abbrev pub invariant-loop-field : goal.invariant-loop-field
+invariant-loop-field l = Along l.decrypted l.initial.out l.out (list_left (fields_left l.field-iterator)) l.to

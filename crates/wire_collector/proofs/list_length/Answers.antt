@@ -1,61 +1,35 @@
--- `wire_collector::list_length` meets its contract. The invariant: what is counted and what lies ahead make the whole, and no more is counted than passed.
+-- `wire_collector::list_length` meets its contract. The invariant: what is counted and what lies ahead make the whole.
 -- Assumes nothing.
-use native.Mathlib.Omega.{arith}
-use mathlib.Core.Path.{◌≡◌, sym, ◌∙◌, ap}
-use lib.ListN.{length, length-append}
-use Rattle.wire_fields.specs.Field.{decrypted_step}
-use Rattle.wire_fields.specs.declared.Step.TheVariants.{Field}
-use Rattle.wire_fields.proofs.Walks.{Placed}
-use Rattle.wire_collector.proofs.Records.{list_from_start, here, cookie_turn, other_turn, length_record, stop_turn}
+use Rattle.std.proofs.Common.{◌≡◌, ◌+◌, ap, ◌∙◌, length, length-append, arith}
+use Rattle.words.specs.Put.{record_of}
+use Rattle.words.proofs.Put.{record_long}
+use Rattle.wire_fields.specs.Fields.{shown, fields_left}
+use Rattle.wire_collector.proofs.Records.{list_left, left_start, left_cookie, list_short}
 use Rattle.wire_collector.proofs.list_length.Goals as goal
-use Rattle.wire_collector.proofs.list_length.Goals.{In-Field}
+use Rattle.wire_collector.proofs.list_length.Goals.{Then-field-eq-COOKIE_KIND}
 
--- what stands at the turn's offset is the field that the pattern bound
-step : (k : In-Field) →
-    decrypted_step k.args.decrypted.now k.loop-kind.at ≡ Field k.in-Field.kind k.in-Field.start k.in-Field.len k.in-Field.next
-step k = sym k.decrypted_field_at.ensures ∙ k.in-Field.is
+-- the turn's cookie is counted with its record's head
+counted : (k : Then-field-eq-COOKIE_KIND) →
+    length (list_left (fields_left k.loop-field.field-iterator)) ≡ 4 + length k.in-Some.field.body.now + length (list_left (fields_left k.next.new.self))
+counted k =
+    let rest = fields_left k.next.new.self in
+    let e = ap list_left k.in-Some.ensures.steps.0 ∙ left_cookie (shown k.in-Some.field) rest k.if-field-eq-COOKIE_KIND.true in
+    omega (arith, ap length e, length-append (record_of 0xC00E k.in-Some.field.body.now) (list_left rest), record_long 0xC00E k.in-Some.field.body.now)
 
-at_field : (k : In-Field) →
-    Placed k.args.decrypted.now k.loop-kind.at 4 k.in-Field.start k.in-Field.len k.in-Field.next
-at_field k = here _ _ _ _ _ _ (step k)
+pub loop-field-init : goal.loop-field-init
+loop-field-init c =
+    let it = c.decrypted-field-items in
+    omega (arith, ap length (left_start c.args.decrypted.now _ (ap fields_left c.into_iter-field-iterator.ensures.into_iter_gives ∙ it.ensures.fields)))
 
-pub loop-kind-init : goal.loop-kind-init
-loop-kind-init c = (omega arith, omega (arith, ap length (list_from_start c.args.decrypted.now)))
+pub overflow_add-long-then-field-eq-COOKIE_KIND : goal.overflow_add-long-then-field-eq-COOKIE_KIND
+overflow_add-long-then-field-eq-COOKIE_KIND c =
+    omega (
+      arith,
+      c.loop-field.invariant,
+      counted (goal.at.overflow_add-long-then-field-eq-COOKIE_KIND c).Then-field-eq-COOKIE_KIND,
+      list_short c.args.decrypted.now,
+    )
 
-pub returns-in_default : goal.returns-in_default
-returns-in_default c =
-    let l = c.loop-kind in
-    let p = c.args.decrypted.now in
-    let z = stop_turn p l.at c.decrypted_field_at.result (sym c.decrypted_field_at.ensures) c.in_default.not-Field in
-    omega (arith, ap length z, l.invariant.1)
-
-pub overflow_add-n : goal.overflow_add-n
-overflow_add-n c =
-    let w = at_field (goal.at.overflow_add-n c).In-Field in omega (arith, c.loop-kind.invariant.0)
-
-pub overflow_add-n-then-kind-eq-COOKIE_KIND : goal.overflow_add-n-then-kind-eq-COOKIE_KIND
-overflow_add-n-then-kind-eq-COOKIE_KIND c =
-    let w = at_field (goal.at.overflow_add-n-then-kind-eq-COOKIE_KIND c).In-Field in omega (arith, c.loop-kind.invariant.0)
-
-pub loop-kind-smaller-then-kind-eq-COOKIE_KIND : goal.loop-kind-smaller-then-kind-eq-COOKIE_KIND
-loop-kind-smaller-then-kind-eq-COOKIE_KIND c = let w = at_field (goal.at.loop-kind-smaller-then-kind-eq-COOKIE_KIND c).In-Field in omega arith
-
-pub loop-kind-preserved-then-kind-eq-COOKIE_KIND : goal.loop-kind-preserved-then-kind-eq-COOKIE_KIND
-loop-kind-preserved-then-kind-eq-COOKIE_KIND c =
-    let l = c.loop-kind in
-    let k = (goal.at.loop-kind-preserved-then-kind-eq-COOKIE_KIND c).In-Field in
-    let w = at_field k in
-    let t = cookie_turn _ _ _ _ _ _ (step k) c.if-kind-eq-COOKIE_KIND.true in
-    let r = length_record _ _ _ _ _ _ (step k) in
-    (omega (arith, l.invariant.0), omega (arith, l.invariant.1, r, simp length-append at (ap length t)))
-
-pub loop-kind-smaller : goal.loop-kind-smaller
-loop-kind-smaller c = let w = at_field (goal.at.loop-kind-smaller c).In-Field in omega arith
-
-pub loop-kind-preserved : goal.loop-kind-preserved
-loop-kind-preserved c =
-    let l = c.loop-kind in
-    let k = (goal.at.loop-kind-preserved c).In-Field in
-    let w = at_field k in
-    let t = other_turn _ _ _ _ _ _ (step k) c.if-kind-eq-COOKIE_KIND.false in
-    (omega (arith, l.invariant.0), omega (arith, l.invariant.1, ap length t))
+pub loop-field-preserved-then-field-eq-COOKIE_KIND : goal.loop-field-preserved-then-field-eq-COOKIE_KIND
+loop-field-preserved-then-field-eq-COOKIE_KIND c =
+    omega (arith, c.loop-field.invariant, counted (goal.at.loop-field-preserved-then-field-eq-COOKIE_KIND c).Then-field-eq-COOKIE_KIND)

@@ -1,10 +1,8 @@
 -- `wire_header::word_at` meets its contract: a word is its two halves.
 -- Assumes nothing.
-use native.Mathlib.Omega.{arith}
+use Rattle.std.proofs.Common.{arith}
 use Rattle.wire_header.proofs.Head.{halves}
 use Rattle.wire_header.proofs.word_at.Goals as goal
 
 pub returns : goal.returns
-returns c =
-    let args = c.args in
-    omega (arith, halves args.p.now args.at c.requires, c.be32_at-high.ensures, c.be32_at-low.ensures)
+returns c = omega (arith, halves c.args.p.now c.args.at c.requires)

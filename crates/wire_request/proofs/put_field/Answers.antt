@@ -1,31 +1,25 @@
--- `put_field` meets its contract: the filled body is put behind type and length.
+-- `put_field` meets its contract: type and length, body and zeros fill the slice.
 -- Assumes nothing.
-use Prim.Native.Nat.{◌+◌, ◌≤◌}
-use mathlib.Core.Path.{◌≡◌, refl, ap}
-use native.Mathlib.Omega.{arith}
-use lib.ListN.{length}
-use Rattle.words.specs.Put.{Put}
-use Rattle.words.proofs.Put.{laid_put}
-use Rattle.wire_request.proofs.Placing.{field_put}
+use Rattle.std.proofs.Common.{◌≡◌, refl, ap, ◌∙◌, List, ℕ, ◌+◌, ◌-◌, ◌++◌, length, length-take, length-drop, arith, rules}
+use Rattle.std.specs.Prelude.{replicate}
+use lib.ListN.{length-replicate}
+use Rattle.words.specs.Bytes.{to_be}
+use Rattle.wire_request.proofs.Placing.{pair_long, covered, field_is}
 use Rattle.wire_request.proofs.put_field.Goals as goal
-use Rattle.wire_request.proofs.put_field.Goals.{After-be16_pair, After-lay-to}
-
--- type and length are put
-head : (c : After-lay-to) →
-    let a = c.args in
-    let pair = c.be16_pair.result in
-    (length pair ≡ 4) × (a.at + length pair ≤ length a.out.now) × (Put a.out.now a.at pair c.lay-to.result c.lay-to.new.out)
-head c =
-    let long : length c.be16_pair.result ≡ 4 = ap length c.be16_pair.ensures in
-    (long, omega arith, laid_put _ _ _ c.lay-to.ensures (omega arith))
-
-pub put_filled-requires : goal.put_filled-requires
-put_filled-requires c =
-    let h = head (goal.at.put_filled-requires c).After-lay-to in
-    (omega (arith, h.0, h.2.ends, c.lay-to.auto.out), omega arith)
 
 pub returns : goal.returns
 returns c =
-    let a = c.args in
-    let h = head (goal.at.returns c).After-lay-to in
-    (refl, field_put a.kind a.len a.body.now c.be16_pair.ensures h.2 c.put_filled.ensures h.1)
+    let f = c.args.field.now in
+    let body = c.args.body.now in
+    let len = length f in
+    let m = len - 4 - length body in
+    let zs : List ℕ = replicate m 0 in
+    let size : length zs ≡ m = length-replicate m 0 in
+    let h = to_be 2 c.args.kind ++ to_be 2 len in
+    let head = c.copy_from_slice.ensures.after ∙ c.be16_pair-head.ensures in
+    let q = 4 + length body in
+    let long = pair_long f h body _ _ 4 q _ refl refl (omega arith) head c.copy_from_slice-2.ensures.after refl in
+    let zeros : c.fill.new.self ≡ zs =
+    c.fill.ensures.after (λ y q. search rules) ∙ ap (λ (k : ℕ). replicate k 0) (omega (arith, length-take {A = ℕ}, length-drop {A = ℕ}, long)) in
+    covered f h body _ _ 4 q _ refl refl (omega arith) head c.copy_from_slice-2.ensures.after refl zs _ _ (omega (arith, size)) zeros refl
+    ∙ field_is h body zs c.args.kind len refl refl

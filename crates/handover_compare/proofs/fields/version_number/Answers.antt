@@ -6,4 +6,4 @@ use Rattle.handover_compare.proofs.fields.version_number.Goals as goal
 
 pub returns : goal.returns
 unfolding version_number version_bytes
-returns c = rw (c.wide.ensures.0, c.wide-2.ensures.0, c.version_bytes-b.ensures)
+returns c = rw (c.from.ensures, c.from-2.ensures, c.version_bytes.ensures)

@@ -12,7 +12,7 @@ kept_said : (k : After-stored_bytes-n) →
     let a = k.args in
     stored (word_at a.b.now a.at) ≡ k.stored_bytes-n.result
 unfolding word_at
-kept_said k = ap stored (sym k.be16_at-len.ensures) ∙ sym k.stored_bytes-n.ensures
+kept_said k = ap stored (sym k.be16_at-len.ensures ∙ sym k.from.ensures) ∙ sym k.stored_bytes-n.ensures
 
 pub returns-then-b-at : goal.returns-then-b-at
 unfolding held_at
@@ -29,10 +29,22 @@ returns-then-rest-lt2 c = simp (le-ltb _ _ c.if-b-at.false, ne_eqb _ _ c.if-rest
 pub returns-then-rest-n : goal.returns-then-rest-n
 unfolding held_at word_at
 returns-then-rest-n c =
-    simp (le-ltb _ _ c.if-b-at.false, ne_eqb _ _ c.if-rest-eq0.false, le-ltb _ _ c.if-rest-lt2.false, kept_said (goal.at.returns-then-rest-n c).After-stored_bytes-n, lt-ltb _ _ c.if-rest-n.true)
+    simp (
+      le-ltb _ _ c.if-b-at.false,
+      ne_eqb _ _ c.if-rest-eq0.false,
+      le-ltb _ _ c.if-rest-lt2.false,
+      kept_said (goal.at.returns-then-rest-n c).After-stored_bytes-n,
+      lt-ltb _ _ c.if-rest-n.true,
+    )
 
 pub returns : goal.returns
 unfolding held_at word_at
 returns c =
-    simp (le-ltb _ _ c.if-b-at.false, ne_eqb _ _ c.if-rest-eq0.false, le-ltb _ _ c.if-rest-lt2.false, kept_said (goal.at.returns c).After-stored_bytes-n, le-ltb _ _ c.if-rest-n.false)
+    simp (
+      le-ltb _ _ c.if-b-at.false,
+      ne_eqb _ _ c.if-rest-eq0.false,
+      le-ltb _ _ c.if-rest-lt2.false,
+      kept_said (goal.at.returns c).After-stored_bytes-n,
+      le-ltb _ _ c.if-rest-n.false,
+    )
     (cc)

@@ -1,68 +1,47 @@
--- `read` meets its contract: of a file whose six records are there each body lies where the file's length and that of the settings say.
+-- `read` meets its contract: the fault of a file, or what its bodies come to.
 -- Assumes nothing.
-use Prim.Native.Nat.{ℕ, ◌+◌, ◌-◌, ◌≤◌}
-use mathlib.Core.Path.{◌≡◌, sym, subst, ◌∙◌}
-use mathlib.Core.Bool.{true}
+use mathlib.Core.Path.{◌≡◌, sym, ◌∙◌}
+use mathlib.Core.Bool.{◌&&◌}
+use mathlib.Core.List.{[], ◌∷◌}
 use native.Mathlib.Omega.{arith}
-use lib.ListN.{length}
-use Rattle.words.specs.Bytes.{part}
-use Rattle.handover_file.specs.Cookies.{stash_fits}
-use Rattle.handover_file.proofs.Six.{six}
-use Rattle.handover_load.proofs.Decided.{slices, said}
-use Rattle.handover_load.proofs.Within.{reads_good, reads_mark, reads_length}
+use Rattle.std.proofs.lemmas.Result.{err_from_is_err_and}
+use Rattle.association.specs.Record.{whole_of}
+use Rattle.handover_file.specs.File.{known, record_in, settled}
+use Rattle.handover_load.proofs.Decides.{settings_is, state_is, retired_is, whole_is}
+use Rattle.handover_load.proofs.Within.{stash_part, stash_bytes, reads_fault, reads_none, reads_some}
 use Rattle.handover_load.proofs.read.read.Goals as goal
-use Rattle.handover_load.proofs.read.read.Goals.{After-be16_at-k}
+use Rattle.handover_load.proofs.read.read.Goals.{After-is_whole}
 
--- past the settings' body there is room for the other records
-room : (c : After-be16_at-k) →
-    36 + c.be16_at-k.result ≤ length c.args.file.now
-room c =
-    let f = c.args.file.now in
-    let s = six f (sym c.cut.ensures ∙ c.in-Good.is) in
-    omega (arith, s.long, said f _ c.be16_at-k.ensures)
+-- what the test of the bodies comes to
+tested : (k : After-is_whole) → let b = k.in_ok-b.b in
+    let bs = b.settings.now ∷ b.stash.now ∷ b.effort.now ∷ b.version.now ∷ b.polls.now ∷ b.source.now ∷ [] in
+    k.is_whole.result ≡ (known bs && whole_of (settled (record_in bs)))
+tested k =
+    let b = k.in_ok-b.b in
+    k.is_whole.ensures
+    ∙ whole_is b.settings.now b.stash.now b.effort.now b.version.now b.polls.now b.source.now
+    (stash_bytes k.args.file.now _ _ _ (λ i. omega (arith, k.type_inv.file i)) k.in_ok-b.ensures) b.fits _ _ _ _
+    k.settings_of-given.ensures k.state_in-read.ensures k.settled_settings-settings.ensures k.settled_state-state.ensures
 
-pub overflow_sub-end : goal.overflow_sub-end
-overflow_sub-end c = omega (arith, room c)
+pub returns-in_err-b : goal.returns-in_err-b
+returns-in_err-b c =
+    let p = err_from_is_err_and c.from_residual.result c.from_residual.ensures.1 in
+    rw (p.1, p.2) (reads_fault c.args.file.now _ c.in_err-b.ensures)
 
-pub slice_bounds-decide-count-in-Good : goal.slice_bounds-decide-count-in-Good
-slice_bounds-decide-count-in-Good c = omega (arith, room (goal.at.slice_bounds-decide-count-in-Good c).After-be16_at-k)
+pub returns-then-not-is_whole : goal.returns-then-not-is_whole
+returns-then-not-is_whole c =
+    reads_none c.args.file.now _ c.in_ok-b.ensures (sym (tested (goal.at.returns-then-not-is_whole c).After-is_whole) ∙ c.if-not-is_whole.true)
 
-pub slice_bounds-decide-end : goal.slice_bounds-decide-end
-slice_bounds-decide-end c = omega (arith, room (goal.at.slice_bounds-decide-end c).After-be16_at-k)
-
-pub slice_bounds-decide-start-in-Good : goal.slice_bounds-decide-start-in-Good
-slice_bounds-decide-start-in-Good c = omega (arith, room (goal.at.slice_bounds-decide-start-in-Good c).After-be16_at-k)
-
-pub slice_bounds-decide-end-in-Good-2 : goal.slice_bounds-decide-end-in-Good-2
-slice_bounds-decide-end-in-Good-2 c = omega (arith, room (goal.at.slice_bounds-decide-end-in-Good-2 c).After-be16_at-k)
-
-pub slice_bounds-decide-end-in-Good-3 : goal.slice_bounds-decide-end-in-Good-3
-slice_bounds-decide-end-in-Good-3 c = omega (arith, room (goal.at.slice_bounds-decide-end-in-Good-3 c).After-be16_at-k)
-
-pub slice_bounds-decide-end-in-Good-4 : goal.slice_bounds-decide-end-in-Good-4
-slice_bounds-decide-end-in-Good-4 c = omega (arith, room (goal.at.slice_bounds-decide-end-in-Good-4 c).After-be16_at-k)
-
-pub slice_bounds-decide-end-in-Good-5 : goal.slice_bounds-decide-end-in-Good-5
-slice_bounds-decide-end-in-Good-5 c = omega (arith, room (goal.at.slice_bounds-decide-end-in-Good-5 c).After-be16_at-k)
-
-pub decide-d-requires : goal.decide-d-requires
-unfolding part
-decide-d-requires c =
-    let f = c.args.file.now in let s = six f (sym c.cut.ensures ∙ c.in-Good.is) in
-    let k = said f _ c.be16_at-k.ensures in subst (λ (j : ℕ). stash_fits (part f (8 + j) (length f - 28 - (8 + j))) ≡ true) (sym k) s.stash
-
-pub returns-in-Good : goal.returns-in-Good
-unfolding part
-returns-in-Good c =
-    let f = c.args.file.now in let s = six f (sym c.cut.ensures ∙ c.in-Good.is) in
-    let k = said f _ c.be16_at-k.ensures in
-    c.found.ensures ∙ reads_good f s c.be16_at-k.result k _ (slices f c.be16_at-k.result (length f - 28)) _
-    c.decide-d.ensures
-
-pub returns-in-Misplaced : goal.returns-in-Misplaced
-returns-in-Misplaced c =
-    c.refused.ensures ∙ reads_mark c.args.file.now (sym c.cut.ensures ∙ c.in-Misplaced.is)
-
-pub returns-in-Missized : goal.returns-in-Missized
-returns-in-Missized c =
-    c.refused-in-Missized.ensures ∙ reads_length c.args.file.now (sym c.cut.ensures ∙ c.in-Missized.is)
+pub returns : goal.returns
+returns c =
+    let b = c.in_ok-b.b in
+    let y = stash_bytes c.args.file.now _ _ _ (λ i. omega (arith, c.type_inv.file i)) c.in_ok-b.ensures in
+    let e₁ = c.settings_of-given.ensures in
+    let e₂ = c.state_in-read.ensures in
+    let e₄ = c.settled_settings-settings.ensures in
+    let e₅ = c.settled_state-state.ensures in
+    reads_some c.args.file.now _ c.in_ok-b.ensures (sym (tested (goal.at.returns c).After-is_whole) ∙ c.if-not-is_whole.false)
+    (retired_is b.settings.now b.stash.now b.effort.now b.version.now b.polls.now b.source.now y b.fits _ _ _ _ e₁ e₂ e₄ e₅ c.is_retired.ensures)
+    (settings_is b.settings.now b.stash.now b.effort.now b.version.now b.polls.now b.source.now y b.fits _ _ _ _ e₁ e₂ e₄ e₅)
+    (state_is b.settings.now b.stash.now b.effort.now b.version.now b.polls.now b.source.now y b.fits _ _ _ _ e₁ e₂ e₄ e₅)
+    (stash_part c.args.file.now _ _ _ c.in_ok-b.ensures)

@@ -1,45 +1,34 @@
-use mathlib.Core.Path.{sym, ◌∙◌}
-use native.Mathlib.Omega.{arith}
-use Rattle.words.specs.Bytes.{part}
-use Rattle.handover_file.proofs.Turn.{one_within}
-use Rattle.record_files.proofs.Laid.{begins, known_most, goes_on, ends, no_break}
+-- `lay_all` meets its contract. The loop's invariant: the cookies that are left, laid behind those in the rows, make the stash.
+-- Assumes nothing.
+use mathlib.Core.Path.{sym, ap, subst, ◌∙◌}
+use mathlib.Core.List.{List}
+use Rattle.cookiestash.specs.Queue.{Cookie}
+use Rattle.handover_file.specs.Cookies.{stash_of}
+use Rattle.handover_file.specs.Given.{cookies_left}
+use Rattle.handover_file.proofs.Given.{left_sized}
+use Rattle.record_files.proofs.Laid.{Along, begins, goes_on, ends}
 use Rattle.record_files.proofs.loads.lay_all.Goals as goal
 
-pub loop-len-init : goal.loop-len-init
-loop-len-init c =
-    let a = c.args in let p = c.requires in
-    begins a.capacity a.body.now a.b.now p.0 p.1 p.2 (known_most a.capacity a.body.now p.2).1 p.3
-
-pub slice_bounds-lay-start : goal.slice_bounds-lay-start
-slice_bounds-lay-start c =
-    let w = one_within _ _ _ _ _ (sym c.held_at.ensures ∙ c.in-One.is) in omega arith
-
-pub slice_bounds-lay-end : goal.slice_bounds-lay-end
-slice_bounds-lay-end c =
-    let w = one_within _ _ _ _ _ (sym c.held_at.ensures ∙ c.in-One.is) in omega arith
-
-pub slice_bounds-lay-count : goal.slice_bounds-lay-count
-slice_bounds-lay-count c =
-    let w = one_within _ _ _ _ _ (sym c.held_at.ensures ∙ c.in-One.is) in omega arith
-
-pub loop-len-smaller : goal.loop-len-smaller
-loop-len-smaller c =
-    let w = one_within _ _ _ _ _ (sym c.held_at.ensures ∙ c.in-One.is) in omega arith
-
-pub loop-len-preserved : goal.loop-len-preserved
-unfolding part
-loop-len-preserved c =
+pub loop-cookie-init : goal.loop-cookie-init
+loop-cookie-init c =
     let a = c.args in
-    let o = c.loop-len in
-    goes_on a.capacity a.body.now a.b.now o.b o.at o.invariant _ _ _ (sym c.held_at.ensures ∙ c.in-One.is) _
-    c.lay.ensures c.lay.auto.b
+    let p = c.requires in
+    subst (λ (cs : List Cookie). Along a.found.settings.capacity cs (stash_of a.found.settings.capacity a.found.stash.now) a.b.now a.b.now)
+    (sym (ap cookies_left c.into_iter-cookie-iterator.ensures.into_iter_gives ∙ c.new-cookie-items.ensures))
+    (begins a.found.settings.capacity a.found.stash.now a.b.now p.0 a.found.fits a.found.known p.1)
 
-pub returns-in-End : goal.returns-in-End
-returns-in-End c =
-    let a = c.args in let o = c.loop-len in
-    ends a.capacity a.body.now a.b.now o.b o.at o.invariant (sym c.held_at.ensures ∙ c.in-End.is)
+pub loop-cookie-preserved : goal.loop-cookie-preserved
+loop-cookie-preserved c =
+    let a = c.args in
+    let o = c.loop-cookie in
+    let e = c.in-Some.ensures.steps in
+    goes_on a.found.settings.capacity _ _ (stash_of a.found.settings.capacity a.found.stash.now) a.b.now o.b
+    (subst (λ (cs : List Cookie). Along a.found.settings.capacity cs (stash_of a.found.settings.capacity a.found.stash.now) a.b.now o.b) e o.invariant)
+    (left_sized _ _ _ e) _ c.lay.ensures c.lay.auto.b
 
-pub returns-in-Broken : goal.returns-in-Broken
-returns-in-Broken c =
-    let a = c.args in let o = c.loop-len in
-    no_break a.capacity a.body.now a.b.now o.b o.at o.invariant (sym c.held_at.ensures ∙ c.in-Broken.is)
+pub returns : goal.returns
+returns c =
+    let a = c.args in
+    let o = c.loop-cookie in
+    ends a.found.settings.capacity (stash_of a.found.settings.capacity a.found.stash.now) a.b.now o.b
+    (subst (λ (cs : List Cookie). Along a.found.settings.capacity cs (stash_of a.found.settings.capacity a.found.stash.now) a.b.now o.b) c.in-None.ensures.steps.0 o.invariant)

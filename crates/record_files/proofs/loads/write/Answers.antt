@@ -16,14 +16,12 @@ lay_all-requires c =
     let p = c.requires in
     let g = c.store_head.ensures.2 in
     let n = length a.b.now in
-    let cap = a.settings.capacity in
+    let cap = a.found.settings.capacity in
     let e = c.store_head.ensures.0
-    ∙ (λ i. headed (c.clear.ensures i) a.settings (c.place_of-read.ensures i) a.state) in (
-      subst (λ (x : List ℕ). Sized x cap) (sym e) (head_sized a.settings (get_or a.st.now 0 0) n p.0.long p.0.most a.state g),
-      p.1,
-      p.2,
+    ∙ (λ i. headed (c.clear.ensures i) a.found.settings (c.place_of-read.ensures i) a.found.state) in (
+      subst (λ (x : List ℕ). Sized x cap) (sym e) (head_sized a.found.settings (get_or a.found.stash.now 0 0) n p.long p.most a.found.state g),
       ap
-          (λ (x : List ℕ). stash_in x cap) e ∙ head_stash a.settings (get_or a.st.now 0 0) n p.0.long p.0.most a.state g,
+          (λ (x : List ℕ). stash_in x cap) e ∙ head_stash a.found.settings (get_or a.found.stash.now 0 0) n p.long p.most a.found.state g,
     )
 
 pub returns : goal.returns
@@ -32,9 +30,9 @@ returns c =
     let p = c.requires in
     let g = c.store_head.ensures.2 in
     let n = length a.b.now in
-    let cap = a.settings.capacity in
-    let e = c.store_head.ensures.0 ∙ (λ i. headed (c.clear.ensures i) a.settings (c.place_of-read.ensures i)
-    a.state) in
-    written a.settings (get_or a.st.now 0 0) n p.0.long p.0.most a.state g c.lay_all.new.b (stash_of cap a.st.now)
+    let cap = a.found.settings.capacity in
+    let e = c.store_head.ensures.0 ∙ (λ i. headed (c.clear.ensures i) a.found.settings (c.place_of-read.ensures i)
+    a.found.state) in
+    written a.found.settings (get_or a.found.stash.now 0 0) n p.long p.most a.found.state g c.lay_all.new.b (stash_of cap a.found.stash.now)
     (search rules)
-    (subst (λ (x : List ℕ). Becomes cap x c.lay_all.new.b (stash_of cap a.st.now)) e c.lay_all.ensures)
+    (subst (λ (x : List ℕ). Becomes cap x c.lay_all.new.b (stash_of cap a.found.stash.now)) e c.lay_all.ensures)

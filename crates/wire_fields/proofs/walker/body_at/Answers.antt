@@ -1,14 +1,12 @@
 -- `walker::body_at` meets its contract.
 -- Assumes nothing.
-use mathlib.Core.Path.{refl}
-use Prim.Native.Nat.{◌+◌, ◌≤◌, ◌<◌}
+use Rattle.std.proofs.Common.{refl, ◌+◌, ◌≤◌, ◌<◌, length, arith}
 use borrow.Author.Tests.{le-leb, lt-leb}
 use native.Mathlib.Nat.{add-sub_cancel_left}
-use native.Mathlib.Omega.{arith}
-use lib.ListN.{length}
 use Rattle.words.specs.Bytes.{part}
 use Rattle.wire_fields.specs.Walker.{body_of, body_from}
 use Rattle.wire_fields.proofs.walker.body_at.Goals as goal
+use Rattle.wire_fields.proofs.walker.body_at.Goals.{else-start-p-via-then-start-p+else-len-p, else-start-p-via-else-start-p}
 
 pub returns-then-len-p : goal.returns-then-len-p
 unfolding body_of body_from part
@@ -18,18 +16,14 @@ returns-then-len-p c =
     let e = le-leb _ _ h in
     record { bytes = simp (e, add-sub_cancel_left); block = refl; offset = simp e (omega arith) }
 
-pub returns-else-len-p : goal.returns-else-len-p
-unfolding body_of body_from
-returns-else-len-p c =
-    let a = c.args in
-    let h : length a.p.now < a.start + a.len = omega arith in
-    let e = lt-leb _ _ h in
-    record { bytes = simp e; block = refl; offset = simp e (omega arith) }
-
 pub returns-else-start-p : goal.returns-else-start-p
 unfolding body_of body_from
 returns-else-start-p c =
     let a = c.args in
-    let h : length a.p.now < a.start + a.len = omega arith in
+    let h : length a.p.now < a.start + a.len =
+    elim c.else-start-p.branch [
+      | else-start-p-via-then-start-p+else-len-p w ↦ omega arith
+      | else-start-p-via-else-start-p w ↦ omega arith
+    ] in
     let e = lt-leb _ _ h in
     record { bytes = simp e; block = refl; offset = simp e (omega arith) }

@@ -1,0 +1,2 @@
+-- The definitions that the contracts of `answers` cite.
+pub mod Answers

@@ -1,6 +1,0 @@
--- `print::text` is safe and ends. The measure is what is left of the text.
-use Rattle.std.proofs.Common.{◌-◌, length}
-use Rattle.drill_text.proofs.print.text.Given as goal
-
-abbrev pub decreases-loop-i : goal.decreases-loop-i
-decreases-loop-i l = length l.s - l.i

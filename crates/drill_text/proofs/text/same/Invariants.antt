@@ -1,6 +1,0 @@
--- `text::same` is safe and ends. The measure is what is left of the text.
-use Rattle.std.proofs.Common.{◌-◌, length}
-use Rattle.drill_text.proofs.text.same.Given as goal
-
-abbrev pub decreases-loop-i : goal.decreases-loop-i
-decreases-loop-i l = length l.a - l.i

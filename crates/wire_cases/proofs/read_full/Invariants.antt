@@ -1,9 +1,0 @@
--- `read_full` is safe and ends. The measure is what is left of the buffer.
-use Rattle.std.proofs.Common.{◌-◌, ◌≤◌, length}
-use Rattle.wire_cases.proofs.read_full.Given as goal
-
-abbrev pub invariant-loop-done : goal.invariant-loop-done
-invariant-loop-done g l = l.done ≤ length l.out
-
-abbrev pub decreases-loop-done : goal.decreases-loop-done
-decreases-loop-done g l = length l.out - l.done
