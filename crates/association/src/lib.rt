@@ -228,7 +228,7 @@ impl State {
 }
 
 // Whether a record is whole, given its settings, the summary of its stash, and its state.
-// Kept: settings, summary and state apart, as the definition `whole_seen` has them. No caller has the three as one value: the summary is made for the call.
+// Kept: settings, summary and state apart, as the definition `whole_seen` has them: a struct of the three would be made at each reading and opened here.
 // promise: whole.2, no8.6, no14.3 (and by it every call)
 #[tactic(auto, unfolding(crate::specs::Record::whole_seen, crate::specs::Record::idle_valid))]
 pub fn whole_seen(settings: Settings, seen: Seen, state: State) -> bool

@@ -85,7 +85,7 @@ pub fn profile(settings: Settings, list: &[u8]) -> Result<(), ProfileRefusal>
     Ok(())
 }
 
-// Kept: beside `NewOut`: no function of the library is over both, so that one over any refusal would only add its type to each definition and law of `new`.
+// Kept: beside `NewOut`: no body would be shared, since `metered` calls `new`. Where one body makes both, in record_new, there is one `Made<E>`.
 // What `metered` returns: the profile's answer, what fell out while the first list was stored, and the association, which is blank if it was rejected.
 #[derive(Clone, Copy)]
 pub struct MeteredOut {

@@ -122,7 +122,7 @@ fn add(loads: &mut [u8; MINUTES], start: usize, repeat: usize)
     ensures { (m : ℕ) → m < 1440 → get_or loads.new m 0 ≡ one_more start repeat loads.old m }
 {
     let mut m = start;
-    // Kept: `step_by` was tried, here and in `fits`: six instructions a step in place of the four that docs/CALENDAR.md gives ("What it costs").
+    // Kept: `step_by` was tried, here and in `fits`: the worst plan took 17 in a hundred more and missed the second at 7 MHz of docs/CALENDAR.md.
     while m < MINUTES {
         loads[m] += 1;
         m += repeat;

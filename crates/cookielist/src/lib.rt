@@ -106,8 +106,7 @@ pub fn list_whole(list: &[u8]) -> bool
     ensures { result ≡ is_whole (cookies_in list.now) }
 {
     let mut cookies = Cookies::new(list);
-    // Kept: a loop with no body is plain. What is tested after it is where the cookies ended; a `for` over `&mut cookies` was tried, and the proof could
-    // not name that place.
+    // Kept: a `for` over `&mut cookies` was tried: the proof could not name where the cookies end, which `is_done` then tests.
     while cookies.next().is_some() {}
     cookies.is_done()
 }

@@ -25,7 +25,7 @@ pub const CAPACITY: u8 = 8;
 pub const MAX_LENGTH: usize = 65535;
 
 // One cookie: its length, and its bytes from the start, followed by zeros. If a cookie is longer than a slot, only its length is kept.
-// Kept: a number of bytes beside a fixed array, which is how C sees it in memory.
+// Kept: a length beside a fixed array, with no heap. The definition `slot_of` has both: of a cookie over 724 bytes only the length is kept.
 #[repr(C)]
 #[derive(Clone, Copy)]
 pub struct Slot {
@@ -34,7 +34,7 @@ pub struct Slot {
 }
 
 // The slots, the place of the oldest cookie, and how many are held.
-// Kept: a place and a count beside a fixed array, which is how C sees it in memory; the library's queue would allocate.
+// Kept: a place and a count beside a fixed array: the definitions `new_of` and `put_of` have them, and the library's queue would allocate.
 #[repr(C)]
 #[derive(Clone, Copy)]
 pub struct CookieStash {
@@ -272,7 +272,7 @@ impl CookieStash {
         }
     }
 
-    // Kept: `cap ≤ 8` is a part of what `in_range` tests, together with the place and the count, which are fields here.
+    // Kept: `in_range` tests these bounds. A type for them would be made and opened in `store` alone, just behind that test.
     // Puts a slot after the newest. If all are held the oldest falls out, since a newer cookie is valid for longer.
     #[tactic(auto, using(crate::proofs::Places::wrap_lt), unfolding(crate::specs::Stash::put_of, crate::specs::Stash::full))]
     fn put(mut self, cap: usize, slot: Slot) -> CookieStash

@@ -100,7 +100,7 @@ fn leap(text: &[u8]) -> Option<NtpLeapIndicator> {
 }
 
 // A mode by its number in the language.
-// Kept: the numbers are the drill's, as at `leap`: 3 and 4 are those of a packet's mode, of which C has other numbers.
+// Kept: no TryFrom: 3 and 4 are the drill's numbers (docs/DRILL.md), those of a packet's mode. C has 0 and 1, and the kind's crate has no numbers.
 fn mode(text: &[u8]) -> Option<DecodedMode> {
     match value::number(text)? {
         3u8 => Some(DecodedMode::Request),

@@ -117,7 +117,7 @@ impl<'a> Value<'a> {
         if text == NONE {
             return Ok(items);
         }
-        // Kept: the parts of `split`, taken by hand. A `for` over them was tried: in generic code it gets no proof.
+        // Kept: the parts of `split`, taken by hand. A `for` over `split` was tried: here, generic over `T` and `P`, its invariant gets no proof.
         let mut rest = Some(text);
         while let Some(left) = rest {
             if items.len() == most {

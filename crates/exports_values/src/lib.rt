@@ -204,7 +204,7 @@ pub struct CTimerAnswer {
     pub length: u64,
 }
 
-// Kept, 1 and 4: C's code (include/reckonstile.h), which only this crate knows; definition `send_code`.
+// Kept, 1 and 4: C's code (include/reckonstile.h), which no crate below knows; definition `send_code`.
 fn send_code(kind: SendKind) -> u8
     ensures { result ≡ send_code kind }
 {
@@ -371,7 +371,7 @@ fn leap_in(code: u8) -> Option<NtpLeapIndicator>
     NtpLeapIndicator::try_from(code).ok()
 }
 
-// Kept, 1 and 4: C's code (include/reckonstile.h), which only this crate knows; definition `mode_in`.
+// Kept, 1 and 4: C's code (include/reckonstile.h), which no crate below knows; definition `mode_in`.
 fn mode_in(code: u32) -> Option<DecodedMode>
     ensures { result ≡ cond (is_bit code) (Some (mode_in code)) None }
 {
@@ -382,7 +382,7 @@ fn mode_in(code: u32) -> Option<DecodedMode>
     }
 }
 
-// Kept, 1 and 4: C's code (include/reckonstile.h), which only this crate knows; definition `uid_in`.
+// Kept, 1 and 4: C's code (include/reckonstile.h), which no crate below knows; definition `uid_in`.
 fn uid_in(code: u8) -> Option<Uid>
     ensures { result ≡ cond (uid_known code) (Some (uid_in code)) None }
 {
@@ -453,7 +453,7 @@ pub fn new_answer(number: u8, dropped: Dropped) -> CNewAnswer
 }
 
 // 0 is no filter, 1 is absent. Any other code counts as present, so that an unknown code accepts nothing.
-// Kept, 1 and 4: C's code (include/reckonstile.h), which only this crate knows; definition `bloom_in`.
+// Kept, 1 and 4: C's code (include/reckonstile.h), which no crate below knows; definition `bloom_in`.
 pub fn bloom_in(code: u32) -> Bloom
     ensures { result ≡ bloom_in code }
 {
@@ -497,7 +497,7 @@ impl<E: Refusal> From<Result<usize, E>> for CWritten {
 }
 
 // The kind of request for a code. V5 is not written, so every other code gives V5.
-// Kept, 1 and 4: C's code (include/reckonstile.h), which only this crate knows; definition `send_in`.
+// Kept, 1 and 4: C's code (include/reckonstile.h), which no crate below knows; definition `send_in`.
 pub fn send_in(code: u8) -> SendKind
     ensures { result ≡ send_in code }
 {

@@ -140,7 +140,7 @@ pub struct CCompared {
     pub entries: u64,
 }
 
-// Kept, 1 and 4: C's code (include/reckonstile.h), which only this crate knows; definition `side_code`.
+// Kept, 1 and 4: C's code (include/reckonstile.h), which no crate below knows; definition `side_code`.
 fn side_code(side: Side) -> u32
     ensures { result ≡ side_code side }
 {

@@ -83,7 +83,7 @@ pub enum Held {
 }
 
 // A cookie of the stash's body: its length, and its stored bytes.
-// Kept: no twin of the walks, as `Cookies`, which are bytes and a place in them.
+// Kept: a length beside the bytes: a cookie of over 724 bytes has a length and no bytes. No twin of the walks, which are bytes and a place in them.
 #[derive(Clone, Copy)]
 pub struct Stored<'a> {
     pub len: u16,
@@ -193,7 +193,7 @@ fn stash_fits(b: &[u8]) -> bool
         return false;
     }
     let mut at = 1;
-    // Kept: `while let`, not `Cookies`: that ends at the end and at something broken alike, and this is the test that tells the two apart.
+    // Kept: `while let` over `held_at`. By `Cookies`, as in `list_whole` of cookielist, it would take a loop with no body and one more method.
     while let Held::One { end, .. } = held_at(b, at) {
         at = end;
     }

@@ -55,7 +55,7 @@ pub fn tries_code(k: ProtocolVersion) -> u8
 }
 
 // The kind of a code; a code that is not known reads as V5.
-// Kept: a byte of the file, as `kind_code`.
+// Kept: a byte of the file, as `kind_code`. No Option: the definition `kind_of` reads an unknown code as V5, and `kind_known` tells the two apart.
 pub fn kind_of(code: u8, tries: u8) -> ProtocolVersion
     ensures { result ≡ kind_of code tries }
 {

@@ -102,7 +102,7 @@ struct Tested<'a, S: Savable> {
 }
 
 // Writes a cookie's length and its stored bytes.
-// Kept: a buffer and a place, which the contract names: `Put` says what every byte is, before the place and behind it.
+// Kept: a buffer and a place, as `words::lay` has them: writers in a row pass the place on; of a rest cut off each caller would add the places up.
 fn put_cookie(out: &mut [u8], at: usize, cookie: Stored<'_>) -> usize
     requires { at + length (cookie_bytes (cookie_of cookie)) ≤ length out.old }
     ensures { Put out.old at (cookie_bytes (cookie_of cookie.entry)) result out.new }
@@ -112,7 +112,7 @@ fn put_cookie(out: &mut [u8], at: usize, cookie: Stored<'_>) -> usize
 }
 
 // Writes the cookies, oldest first.
-// Kept: a buffer and a place, which the contract names: `Put` says what every byte is, before the place and behind it.
+// Kept: a buffer and a place, as at `put_cookie`.
 fn put_cookies<S: Savable>(out: &mut [u8], at: usize, a: &Tested<S>) -> usize
     requires { at + length (cookies_bytes (cookies (S.association a.now.of.now).settings.capacity (S.association a.now.of.now).stash)) ≤ length out.old }
     ensures { Put out.old at (cookies_bytes (cookies (S.association a.now.of.now).settings.capacity (S.association a.now.of.now).stash)) result out.new }

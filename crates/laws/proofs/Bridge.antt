@@ -11,21 +11,25 @@ use denote.Triple.Clauses.{AtExit}
 use borrow.Fn.World.{ArgsD, ResD}
 use Prim.Native.Nat.{ℕ}
 use Rattle.association.specs.declared.Settings.{Settings}
+use Rattle.association.specs.declared.Pending.{Pending}
 use Rattle.association.specs.declared.Association.{Association}
 use Rattle.association.specs.New.{new_of}
 use Rattle.timer.specs.Timer.{Timed}
 use Rattle.timer.specs.contracts.timer as T
 use Rattle.timer.proofs.Determined.{TimerPost}
 use Rattle.std.specs.declared.clone.Clone as clone
-use Rattle.reply_clauses.specs.After.{arrival}
+use Rattle.wire_incoming.specs.declared.DecodedReply.{DecodedReply}
+use Rattle.reply_clauses.specs.After.{Arrival, arrival}
 use Rattle.reply.specs.Reply.{replied_of}
 use Rattle.reply_rules.specs.declared.Form as form
+use Rattle.reply_rules.specs.declared.Packet.{Packet}
+use Rattle.reply_rules.specs.Form.{read_packet, read_decoded}
 use Rattle.reply.proofs.reply.Reads as R
 use Rattle.laws_log.specs.Log.{Accepted}
 use Rattle.laws_log.specs.Machine.{Call, timer, reply, Done, of_timer, of_reply, logged, run, after, log_of}
 use Rattle.laws_log.specs.Demand.{Demand3}
 use Rattle.laws_log.specs.Why.{Why}
-use Rattle.laws.specs.Association.{TimerIn, ReplyIn, arrival_of, read_as, rule, machine}
+use Rattle.laws.specs.Association.{TimerIn, ReplyIn, bytes, decoded, arrival_of, read_as, rule, machine}
 use Rattle.laws.proofs.NewDemand.{association_demand3, association_why}
 
 -- the inputs of a call, as the log holds them
@@ -48,6 +52,16 @@ pub data Ran : Association → List (Call rule) → List (Done machine) → Asso
       (r : ReplyIn) → reads.read x.1.0 x.0.now.settings.nts x.0.now.state.request.uid ≡ read_as x.0.now.settings x.0.now.state.request r →
       arrival x.1.1.0.now x.1.1.1.0.t1 x.1.1.1.0.t4 x.1.1.1.0.time ≡ arrival_of r →
       Ran e.0.now cs ds b → Ran x.0.now (reply r ∷ cs) (of_reply r y ∷ ds) b
+
+-- so is a call on a packet's bytes, and one on a decoded reply: what is read there is what such a reply of the log says
+-- promise: demand.3
+pub packet_is_read : (p : Packet) (s : Settings) (q : Pending) (t : Arrival) →
+    read_packet p s.nts q.uid ≡ read_as s q (bytes p.packet.now p.end p.decrypted.now t)
+packet_is_read p s q t = refl
+
+-- promise: demand.3
+pub decoded_is_read : (d : DecodedReply) (s : Settings) (q : Pending) (t : Arrival) → read_decoded d s.nts q.uid ≡ read_as s q (decoded d t)
+decoded_is_read d s q t = refl
 
 -- one call more in front
 turn : {X : Type 0} (made : X → Done machine) {x x' : X} {a a' b : Association} (cs : List (Call rule)) {ds : List (Done machine)} →

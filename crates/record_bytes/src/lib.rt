@@ -20,7 +20,7 @@ pub struct Opened {
 }
 
 // Reads the state from the head of a record.
-// Kept: beside `state_in` of handover_load, which has a body for each part and no request; both read the parts by functions of handover_groups.
+// Kept: beside `state_in` of handover_load, which has a body for each part, no request, and counts the unanswered polls; here all are stored.
 fn state_in(head: &[u8; 92]) -> State
     ensures { result ≡ state_in head.now }
 {

@@ -7,7 +7,7 @@ ghost use Rattle.record_calls.specs.Accept.{accept_call};
 use association_accept::{AcceptRefusal, Bloom};
 
 // Reads the record's settings, its state and the summary of its stash; changes nothing.
-// Kept, 2 and 5: beside `accept` of association_accept, for a record in bytes, with its parameters. The rule stands once, in `accept_seen`.
+// Kept, 2 and 5: C's call, on a record in bytes; the rule stands once, in `accept_seen`. What the caller passes is apart, as C passes it.
 // promise: exports.3
 pub fn accept(b: &[u8], stratum: u8, local: &[u32], bloom: Bloom) -> Result<(), AcceptRefusal>
     ensures { result ≡ accept_call b.now stratum local.now bloom }

@@ -15,7 +15,7 @@ use handover_load::FileRead;
 use record_new::InBytes;
 
 // Writes the cookies of a file that was read to an empty stash with the file's reading place.
-// Kept: `Sized` stands in the contract, as `record_stash` has it.
+// Kept: `Sized` stands in the contract: a struct around the lent bytes would have to name the bytes before and after, as at `make` of record_new.
 fn lay_all(b: &mut [u8], found: FileRead)
     requires { (Sized b.old found.settings.capacity)
         × (stash_in b.old found.settings.capacity ≡ empty_at (get_or found.stash.now 0 0)) }
@@ -28,7 +28,7 @@ fn lay_all(b: &mut [u8], found: FileRead)
 }
 
 // Writes the record that was read to bytes whose number fits its capacity: its head, then the cookies.
-// Kept: `Sized` stands in the contract, as `record_stash` has it.
+// Kept: `Sized` stands in the contract, as at `lay_all`.
 fn write(b: &mut [u8], found: FileRead)
     requires { Sized b.old found.settings.capacity }
     ensures { b.new ≡ packed (record {

@@ -25,7 +25,7 @@ struct Lent<'a> {
 }
 
 // The summary of the stash, whose slots have the sizes that bytes of this number allow.
-// Kept: `Sized` stands in the contract, as `record_stash` has it.
+// Kept: `Sized` stands in the contract. A `&Lent` was tried, which has the fact: of a field's bytes it is not known there that they are bytes.
 fn see(b: &[u8], capacity: u8) -> Seen
     requires { Sized b.now capacity }
     ensures tells { result ≡ seen_of capacity (stash_in b.now capacity) }
@@ -77,7 +77,7 @@ impl Savable for Lent<'_> {
 }
 
 // Empties the stash; its reading place does not change.
-// Kept: `Sized` stands in the contract, as `record_stash` has it.
+// Kept: `Sized` stands in the contract: a struct around the lent bytes would have to name the bytes before and after, as at `make` of record_new.
 fn empty(b: &mut [u8], capacity: u8)
     requires { Sized b.old capacity }
     ensures { Becomes capacity b.old b.new (empty_at (get_or b.old 27 0)) }

@@ -47,7 +47,7 @@ pub struct Made<E> {
 }
 
 // Writes the new association in place, and returns what fell out of its first list.
-// Kept: bytes, settings and list stay parameters here and below, as `Association::new` has them: a caller has each from somewhere else.
+// Kept: bytes, settings and list stay parameters here and below, as C passes them to `reckonstile_new`: a caller has each from somewhere else.
 // Kept: `Sized` stands in the contract, as `record_stash` has it: a struct around the lent bytes would have to name the bytes before and after.
 fn make(b: &mut [u8], settings: Settings, list: &[u8]) -> Dropped
     requires { Sized b.old settings.capacity }

@@ -40,7 +40,7 @@ pub fn sized(b: &[u8], capacity: u8) -> bool
 }
 
 // The length of the slot at an offset, read from a part whose own length the compiler knows.
-// Kept: a row by its offset, as the definition `slot_in` has it.
+// Kept: a row by its offset, as `slot_in` has it: as an array it would come out of an Option, with an arm that no run meets, as in `give`.
 fn length_at(b: &[u8], at: usize) -> u16
     requires { at + 726 ≤ length b.now }
     ensures { result ≡ be (part b.now (at + 724) 2) }
@@ -51,7 +51,7 @@ fn length_at(b: &[u8], at: usize) -> u16
 }
 
 // Whether the slot at an offset, with this length, is zero past its stored bytes. An empty one is tested as a whole, with bounds that the compiler knows.
-// Kept: a row by its offset, as the definition `slot_in` has it.
+// Kept: a row by its offset, as `slot_in` has it: as an array it would come out of an Option, with an arm that no run meets, as in `give`.
 fn padded_at(b: &[u8], at: usize, len: u16) -> bool
     requires { (at + 726 ≤ length b.now) × (len ≡ be (part b.now (at + 724) 2)) }
     ensures { result ≡ padded (slot_in b.now at) }
@@ -96,7 +96,7 @@ fn zero_rows(b: &[u8]) -> bool
     ensures { result ≡ zeros b.now }
 {
     let mut rest = b;
-    // Kept: the rows in pairs by `while let`: the library's chunks divide by the length of one, and the small board has no divider (RULES, No. 4).
+    // Kept: the rows in pairs by `while let`: `chunks_exact` divides (RULES, No. 4); a piece of `chunks` has no bounds that the compiler knows.
     while let Some((pair, behind)) = rest.split_first_chunk::<PAIR>() {
         if !words::zeros_from(pair, 0) {
             return false;
@@ -186,7 +186,7 @@ fn store_at(b: &mut [u8], cap: usize, place: usize, read: usize, held: usize, ke
 }
 
 // Copies the stored bytes of the slot at an offset to the start of the buffer, as many as fit.
-// Kept: a row by its offset, as the definition `slot_in` has it. Its bytes come out of an Option, since `hand_out` takes an array; no run meets none.
+// Kept: a row by its offset: its bytes come out of an Option, since `hand_out` takes an array; the whole row would too, and no run meets none.
 fn give(b: &[u8], at: usize, buffer: &mut [u8])
     requires { at + 726 ≤ length b.now }
     ensures { buffer.new ≡ handed_of (slot_in b.now at) buffer.old }

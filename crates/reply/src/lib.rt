@@ -72,7 +72,7 @@ pub fn reply_core<F: Form>(a: Association, form: F, list: &[u8], stamps: Stamps)
 }
 
 // A reply of any form. Updates the association that the caller lends.
-// Kept: `record_calls` has the call once more, for a record in bytes. It copies the state alone, and this one, with the laws over logs, the whole record.
+// Kept: beside `record_calls`'s, in bytes, which copies the state alone; this is what the laws over logs speak of. Parameters as `judge` has them.
 // promise: 11.1, 11.10, no5.5, no12.2
 pub fn reply<F: Form>(a: &mut Association, form: F, list: &[u8], stamps: Stamps) -> Replied
     ensures replied { result ≡ (replied_of a.old (F.read form a.old.settings.nts a.old.state.request.uid)

@@ -220,7 +220,7 @@ fn leaves(answer: ReplyAnswer, state: State) -> Verdict
 }
 
 // The verdict on a reply of any form: 32, 1, and then what the reply says.
-// Kept: settings, state and summary apart, and form, list and stamps: the definition `verdict_of` takes them so, and no caller has them as one value.
+// Kept: settings, state and summary apart, as the definition `verdict_of` has them; form, list and stamps too, since no caller has them as one value.
 // promise: 11.1, 11.7
 #[tactic(auto, using(crate::proofs::Follows::judged_told), unfolding(crate::specs::Judge::verdict_of))]
 pub fn judge<F: Form>(

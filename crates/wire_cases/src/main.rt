@@ -67,7 +67,7 @@ fn filled(mut bytes: Vec<u8>, zeros: usize) -> Result<Vec<u8>, Fault> {
 }
 
 impl Case {
-    // Kept: beside those of the drill's commands: each reads the keys of its own lines, which have other names and other defaults.
+    // Kept: beside those of the drill's commands: each reads the keys of its own lines; here all have a default, and one reader serves every command.
     fn read(alloc: Global, line: &[u8]) -> Result<Case, Fault> {
         let pairs = Pairs::read(alloc, line, &KEYS)?;
         let given = pairs.value("bytes").or(b"-").bytes(alloc, MAX_BYTES)?;

@@ -156,7 +156,7 @@ impl HeaderVersion {
 }
 
 // The number in the eight bytes from an offset on.
-// Kept: it is read as two halves, because the compiler makes each of them a single load; read as eight bytes it is slower.
+// Kept: beside `be64_at`: by halves, of which the compiler makes a single load each, a header is read faster (DECISIONS 38).
 fn word_at(p: &[u8], at: usize) -> u64
     requires { at + 8 ≤ length p.now }
     ensures { result ≡ be (part p.now at 8) }

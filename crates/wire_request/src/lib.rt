@@ -74,7 +74,7 @@ fn is_v5(kind: SendKind) -> bool
     matches!(kind, SendKind::V5 | SendKind::NtsV5)
 }
 
-// Kept: this and `is_v5` are no methods of `SendKind`: it belongs to crate `version`, and a method there could not cite the definitions of this crate.
+// Kept: two tests of one shape, each with its definition, `is_v5` and `has_nts`: one over a list of kinds would be longer than the two.
 fn has_nts(kind: SendKind) -> bool
     ensures { result ≡ has_nts kind }
 {
@@ -148,7 +148,7 @@ fn put_placeholders(fields: &mut [u8], len: usize, n: usize)
     requires { (length fields.old ≡ n * len) × (4 ≤ len) × (len < 65536) }
     ensures { fields.new ≡ all_bytes (replicate n (placeholder len)) }
 {
-    // Kept: the offset by a product: `chunks_exact_mut` divides, and the small board has no divider (RULES, No. 4).
+    // Kept: the offset by a product. A `for` over `chunks_exact_mut` was tried: its facts do not name the slice that the pieces are of.
     for i in 0..n {
         let at = i * len;
         put_field(&mut fields[at..at + len], PLACEHOLDER_KIND, b"");
